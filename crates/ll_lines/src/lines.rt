@@ -2,14 +2,19 @@
 
 ghost use Rattle.std.specs.Prelude.{◌≡◌, ◌<◌, ◌≤◌, ◌+◌, ◌^◌, ◌∷◌, ◌++◌, [], ℕ, length, max, flat_map, IfOk};
 ghost use Rattle.std.specs.Iterator.{YieldsFirstBy, item_count};
+ghost use Rattle.ll_lines.specs.declared.lines.TheConstants.{LANES};
 ghost use Rattle.ll_lines.specs.Lines.{lines, is_blank, filled_from, filled_lines, line_feeds};
 
 use crate::fault::{Cause, ReadFault};
 use memchr::memchr;
 use std::alloc::{AllocError, Global};
 use std::marker::Model;
+use std::simd::prelude::*;
 
 pub(crate) const LINE_FEED: u8 = b'\n';
+
+/// How many bytes are compared with a line feed at once.
+const LANES: usize = 32;
 
 /// A line that isn't blank, without its line feed. The first line of a file has the number 1.
 #[derive(Drop)]
@@ -167,6 +172,28 @@ fn cut_behind_line(bytes: &[u8], place: usize) -> (&[u8], &[u8])
 pub(crate) fn count_line_feeds(bytes: &[u8]) -> u64
     ensures count { result ≡ line_feeds bytes.now }
     ensures few { result ≤ length bytes.now }
+{
+    let mut count = 0;
+    let mut rest = bytes;
+    while let Some((lanes, behind)) = rest.split_first_chunk::<LANES>() {
+        count += u64::from(count_in_lanes(u8x32::from_array(*lanes)));
+        rest = behind;
+    }
+    count + count_one_by_one(rest)
+}
+
+/// How many lanes are line feeds.
+fn count_in_lanes(lanes: u8x32) -> u32
+    requires { length lanes ≡ LANES }
+    ensures { result ≡ line_feeds lanes }
+{
+    let is_line_feed = lanes.simd_eq(u8x32::splat(LINE_FEED));
+    is_line_feed.to_bitmask().count_ones()
+}
+
+/// How many line feeds there are, which are looked for byte by byte.
+fn count_one_by_one(bytes: &[u8]) -> u64
+    ensures { result ≡ line_feeds bytes.now }
 {
     bytes.iter().filter(|byte| **byte == LINE_FEED).count() as u64
 }

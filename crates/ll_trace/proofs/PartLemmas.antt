@@ -1,18 +1,20 @@
 -- Entries of a part that are admitted one after another are read as its lines are.
-use Rattle.std.proofs.Common.{◌≡◌, ℕ, List, [], ◌∷◌, ◌++◌, Option, Some, None, Ok, Err, refl, sym, ap, ◌∙◌, append_assoc, subst, flat_map}
+use Rattle.std.proofs.Common.{◌≡◌, ℕ, List, [], ◌∷◌, ◌++◌, Option, Some, None, Result, Ok, Err, refl, sym, ap, ◌∙◌, append_assoc, subst, flat_map}
+use Rattle.std.specs.Prelude.{IfOk, IfErr}
 use Rattle.std.specs.List.{AllZip}
 use Rattle.std.proofs.lemmas.List.Concat.{flat_map-cons}
 use Rattle.ll_lines.specs.declared.fault.Cause.{Cause}
 use Rattle.ll_lines.specs.declared.fault.ReadFault.{ReadFault}
 use Rattle.ll_lines.specs.Lines.{Line}
-use Rattle.ll_lines.specs.LineByLine.{read_lines, with_entry, with_line, MeetsFault}
+use Rattle.ll_lines.specs.LineByLine.{read_lines, with_entry, with_line, GivesReading, MeetsFault}
 use Rattle.ll_lines.specs.Readers.{Fails}
 use Rattle.ll_lines.proofs.MemoryLemmas.{unless-map}
-use Rattle.ll_lines.proofs.ReadingLemmas.{read_lines_next, read_lines_fault}
+use Rattle.ll_lines.proofs.ReadingLemmas.{read_lines_next, read_lines_fault, read_lines_end}
 use Rattle.ll_trace.specs.declared.parts.PartRead.{PartRead}
 use Rattle.ll_trace.specs.declared.reader.Entry as declared
+use Rattle.ll_trace.specs.declared.reader.Reader.{Reader}
 use Rattle.ll_trace.specs.Entries.{Entry, entry_at, trace_file}
-use Rattle.ll_trace.specs.Kept.{entry_view}
+use Rattle.ll_trace.specs.Kept.{entry_view, entries}
 use Rattle.ll_trace.specs.Parts.{Says, Covers, EndsAt, IsRead, IsReadOf}
 
 -- one line more
@@ -156,3 +158,33 @@ pub Comes-end : (first now : List Entry) (lines : List (List Line)) (others : Li
     → read_lines trace_file first (flat_map (λ part. part) lines ++ others) ≡ read_lines trace_file now others
 Comes-end first now lines others comes =
     comes.same others ∙ ap (λ left. read_lines trace_file now (flat_map (λ part. part) left ++ others)) (no_part comes.left comes.read)
+
+-- what is read of a file's blocks: some are admitted, the parts behind them are read, and the others are left
+pub record AreReading (all : List Line) (admitted : List Entry) (parts : List PartRead) (left : List (List Line)) : Type 0 where
+  pub lines : List (List Line)
+  pub are : AllZip IsReadOf lines parts
+  pub same : read_lines trace_file [] all ≡ read_lines trace_file admitted (flat_map (λ part. part) lines ++ flat_map (λ block. block) left)
+
+-- the fault of a part is that of the file
+pub AreReading-fault : (all : List Line) (admitted : List Entry) (parts : List PartRead) (left : List (List Line)) (fault : ReadFault)
+    → AreReading all admitted parts left
+    → ((lines : List (List Line)) (others : List Line) → AllZip IsReadOf lines parts
+    → MeetsFault fault.line fault.cause (read_lines trace_file admitted (flat_map (λ part. part) lines ++ others)))
+    → MeetsFault fault.line fault.cause (read_lines trace_file [] all)
+AreReading-fault all admitted parts left fault so_far meets =
+    subst (MeetsFault fault.line fault.cause) (sym so_far.same) (meets so_far.lines (flat_map (λ block. block) left) so_far.are)
+
+-- the last parts are admitted
+pub AreReading-end : (all : List Line) (admitted : List Entry) (parts : List PartRead) (left : List (List Line)) (result : Result Reader ReadFault) → left ≡ []
+    → AreReading all admitted parts left
+    → IfOk result (λ more. (lines : List (List Line)) (others : List Line) → AllZip IsReadOf lines parts
+    → read_lines trace_file admitted (flat_map (λ part. part) lines ++ others) ≡ read_lines trace_file (entries more) others)
+    → IfErr result (λ fault. (lines : List (List Line)) (others : List Line) → AllZip IsReadOf lines parts
+    → MeetsFault fault.line fault.cause (read_lines trace_file admitted (flat_map (λ part. part) lines ++ others)))
+    → GivesReading entries result (read_lines trace_file [] all)
+AreReading-end all admitted parts left (Ok more) none so_far admits meets =
+    so_far.same
+    ∙ admits so_far.lines (flat_map (λ block. block) left) so_far.are
+    ∙ ap (λ blocks. read_lines trace_file (entries more) (flat_map (λ block. block) blocks)) none
+    ∙ read_lines_end trace_file (entries more)
+AreReading-end all admitted parts left (Err fault) none so_far admits meets = AreReading-fault all admitted parts left fault so_far meets

@@ -12,6 +12,9 @@ use rayon::prelude::*;
 use std::alloc::{AllocError, Global};
 use std::thread::Threads;
 
+/// The least number of records for which a thread is started that looks up their paths.
+const LEAST_PART: usize = 1024;
+
 /// A tree and a trace, with the place of each record's first path in the tree, so that the paths of records which
 /// are judged several times are looked up once.
 #[derive(Drop)]
@@ -113,6 +116,6 @@ fn places_by<R: Threads + Sync>(
                 ensures { result ≡ first_place tree.entry.now record.now.op }
             { record.op.first_place(tree) },
         )
-        .with_min_len(records.len() / workers + 1)
+        .with_min_len((records.len() / workers).max(LEAST_PART))
         .collect(rt, alloc)
 }

@@ -20,7 +20,7 @@ use ll_lines::{Cause, ReadFault};
 use rayon::prelude::*;
 use std::alloc::{AllocError, Global};
 use std::mem;
-use std::thread::Threads;
+use std::thread::{Threads, join};
 
 /// The number of blocks that a worker reads before their entries are admitted.
 const BLOCKS_EACH: usize = 8;
@@ -93,25 +93,26 @@ fn admit_part(reader: &mut Reader, part: PartRead) -> Result<(), ReadFault>
     }
 }
 
-/// Admits the entries of parts, one part after another, up to the first fault.
-fn admit_all(reader: &mut Reader, parts: Vec<PartRead>) -> Result<(), ReadFault>
-    requires { IsKept reader.old }
-    ensures admitted { OnOk result ((lines : List (List Line)) (others : List Line)
+/// Admits the entries of parts as records, one part after another, up to the first fault.
+fn admit_all(reader: Reader, parts: Vec<PartRead>) -> Result<Reader, ReadFault>
+    requires { IsKept reader }
+    ensures admitted { IfOk result (λ more. (lines : List (List Line)) (others : List Line)
         → AllZip IsReadOf lines parts.items
-        → read_lines trace_file (entries reader.old) (flat_map (λ part. part) lines ++ others)
-        ≡ read_lines trace_file (entries reader.new) others) }
+        → read_lines trace_file (entries reader) (flat_map (λ part. part) lines ++ others)
+        ≡ read_lines trace_file (entries more) others) }
     ensures fault { IfErr result (λ fault. (lines : List (List Line)) (others : List Line)
         → AllZip IsReadOf lines parts.items
         → MeetsFault fault.line fault.cause
-        (read_lines trace_file (entries reader.old) (flat_map (λ part. part) lines ++ others))) }
-    ensures kept { OnOk result (IsKept reader.new) }
+        (read_lines trace_file (entries reader) (flat_map (λ part. part) lines ++ others))) }
+    ensures kept { IfOk result IsKept }
 {
+    let mut reader = reader;
     for part in parts {
-        if let Err(fault) = admit_part(reader, part) {
+        if let Err(fault) = admit_part(&mut reader, part) {
             return Err(fault);
         }
     }
-    Ok(())
+    Ok(reader)
 }
 
 /// The parts of a file, each read by itself.
@@ -137,17 +138,14 @@ fn read_parts<R: Threads + Sync>(
         .collect(rt, alloc)
 }
 
-/// Blocks of lines, each read by itself, by at most this many threads.
+/// Blocks of lines, each read by itself, with at most a thread for every [`BLOCKS_EACH`] of them.
 fn read_each<R: Threads + Sync>(
     rt: &R,
     alloc: Global,
     blocks: Vec<LineBlock>,
-    workers: usize,
 ) -> Result<Vec<PartRead>, AllocError>
-    requires { 1 ≤ workers }
     ensures { IfOk result (λ parts. AllZip IsReadOf blocks.items parts.items) }
 {
-    let least = blocks.len() / workers + 1;
     blocks
         .into_par_iter()
         .map(
@@ -155,7 +153,7 @@ fn read_each<R: Threads + Sync>(
                 ensures { IsReadOf block result }
             { read_part(alloc, block.lines()) },
         )
-        .with_min_len(least)
+        .with_min_len(BLOCKS_EACH)
         .collect(rt, alloc)
 }
 
@@ -180,8 +178,40 @@ fn next_round(blocks: &mut Vec<LineBlock>, workers: usize) -> Result<Vec<LineBlo
     Ok(mem::replace(blocks, others))
 }
 
-/// Reads blocks of lines by at most this many threads, which give the memory of each block back. The records of some
-/// blocks are admitted before the next ones are read, so that few entries are kept.
+/// Admits the entries of parts as records while one thread for every [`BLOCKS_EACH`] blocks reads these.
+fn admit_beside<R: Threads + Sync>(
+    rt: &R,
+    alloc: Global,
+    reader: Reader,
+    parts: Vec<PartRead>,
+    blocks: Vec<LineBlock>,
+) -> Result<(Reader, Vec<PartRead>), ReadFault>
+    requires { IsKept reader }
+    ensures admitted { IfOk result (λ both. (lines : List (List Line)) (others : List Line)
+        → AllZip IsReadOf lines parts.items
+        → read_lines trace_file (entries reader) (flat_map (λ part. part) lines ++ others)
+        ≡ read_lines trace_file (entries both.0) others) }
+    ensures read { IfOk result (λ both. AllZip IsReadOf blocks.items both.1.items) }
+    ensures fault { IfErr result (λ fault. (lines : List (List Line)) (others : List Line)
+        → AllZip IsReadOf lines parts.items
+        → MeetsFault fault.line fault.cause
+        (read_lines trace_file (entries reader) (flat_map (λ part. part) lines ++ others))) }
+    ensures kept { IfOk result (λ both. IsKept both.0) }
+{
+    let (admitted, read) = join(
+        rt,
+        move || admit_all(reader, parts),
+        move || read_each(rt, alloc, blocks),
+    );
+    let reader = admitted?;
+    let Ok(read) = read else {
+        return Err(no_memory());
+    };
+    Ok((reader, read))
+}
+
+/// Reads blocks of lines, which are given back, by at most this many threads. Another one admits the records of the
+/// blocks before at the same time, so that few entries are kept.
 pub(crate) fn read_blocks_by<R: Threads + Sync>(
     rt: &R,
     alloc: Global,
@@ -194,17 +224,17 @@ pub(crate) fn read_blocks_by<R: Threads + Sync>(
     ensures kept { IfOk result IsKept }
 {
     let mut reader = Reader::new(alloc);
+    let mut parts = Vec::new(alloc);
     let mut left = blocks;
     while !left.is_empty() {
         let Ok(round) = next_round(&mut left, workers) else {
             return Err(no_memory());
         };
-        let Ok(parts) = read_each(rt, alloc, round, workers) else {
-            return Err(no_memory());
-        };
-        admit_all(&mut reader, parts)?;
+        let (admitted, read) = admit_beside(rt, alloc, reader, parts, round)?;
+        reader = admitted;
+        parts = read;
     }
-    Ok(reader)
+    admit_all(reader, parts)
 }
 
 /// Reads a file in at most this many parts: its records, or the first fault of its first faulty line.
@@ -220,7 +250,5 @@ pub(crate) fn read_all_by<R: Threads + Sync>(
     let Ok(parts) = read_parts(rt, alloc, bytes, most) else {
         return Err(no_memory());
     };
-    let mut reader = Reader::new(alloc);
-    admit_all(&mut reader, parts)?;
-    Ok(reader)
+    admit_all(Reader::new(alloc), parts)
 }

@@ -1,14 +1,12 @@
--- What is read of the blocks so far, and the lines of those that are left.
-use Rattle.std.proofs.Common.{◌≡◌, [], flat_map, length}
-use Rattle.ll_lines.specs.LineByLine.{read_lines}
-use Rattle.ll_trace.specs.Entries.{trace_file}
+-- What is admitted, the parts that are read, and the lines that are left give the reading of all.
+use Rattle.std.proofs.Common.{flat_map, length}
 use Rattle.ll_trace.specs.Kept.{entries, IsKept}
+use Rattle.ll_trace.proofs.PartLemmas.{AreReading}
 use Rattle.ll_trace.proofs.parts.read_blocks_by.Given as goal
 
 abbrev pub invariant-loop-alloc : goal.invariant-loop-alloc
 invariant-loop-alloc g l = record {
-  read : read_lines trace_file [] (flat_map (λ block. block) l.fn.blocks.items)
-      ≡ read_lines trace_file (entries l.reader) (flat_map (λ block. block) l.left.items);
+  reading : AreReading (flat_map (λ block. block) l.fn.blocks.items) (entries l.reader) l.parts.items l.left.items;
   kept : IsKept l.reader;
 }
 
