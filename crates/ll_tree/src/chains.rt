@@ -1,7 +1,7 @@
 //! The chains of nodes whose texts share a slot.
 
 ghost use Rattle.std.specs.Prelude.{◌≡◌, ◌≤◌, ◌<◌, ℕ, ◌≢◌, slice_index_or, length};
-ghost use Rattle.ll_tree.specs.Chains.{mixed, hash_words, hash_bytes, text_hash, text_mark, slot_in, head_in};
+ghost use Rattle.ll_tree.specs.Chains.{mixed, text_hash, text_mark, slot_in, head_in};
 ghost use Rattle.ll_tree.specs.declared.chains.TheConstants.{CROWDED};
 
 use std::alloc::{AllocError, Global};
@@ -83,31 +83,11 @@ fn hash_of(text: &str) -> u64
     ensures { result ≡ text_hash text.now }
 {
     let (words, rest) = text.as_bytes().as_chunks::<8>();
-    with_bytes(with_words(text.len() as u64, words), rest)
-}
-
-/// A hash with these further words.
-#[tactic(auto, unfolding(crate::specs::Chains::hash_words))]
-fn with_words(start: u64, words: &[[u8; 8]]) -> u64
-    ensures { result ≡ hash_words start words.now }
-{
-    let mut hash = start;
-    for word in words {
-        hash = with_word(hash, u64::from_le_bytes(*word));
-    }
-    hash
-}
-
-/// A hash with these further bytes.
-#[tactic(auto, unfolding(crate::specs::Chains::hash_bytes))]
-fn with_bytes(start: u64, bytes: &[u8]) -> u64
-    ensures { result ≡ hash_bytes start bytes.now }
-{
-    let mut hash = start;
-    for byte in bytes {
-        hash = with_word(hash, u64::from(*byte));
-    }
-    hash
+    let hash = words.iter().fold(text.len() as u64, |hash, word| {
+        with_word(hash, u64::from_le_bytes(*word))
+    });
+    rest.iter()
+        .fold(hash, |hash, byte| with_word(hash, u64::from(*byte)))
 }
 
 /// A hash with one further word.
