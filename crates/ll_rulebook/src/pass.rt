@@ -84,7 +84,7 @@ impl<'t> Pass<'t> {
             → Settles process op self.old self.new outcome) }
     {
         let place = self.store.add(created)?;
-        self.tables.hold(process, rs, place)?;
+        self.tables.hold(process, rs, Some(place))?;
         Ok(RulesetOutcome::Answered(Answer::Allowed))
     }
 
@@ -150,7 +150,7 @@ impl<'t> Pass<'t> {
         let Some(_) = self.tables.place(process, rs) else {
             return Ok(RulesetOutcome::Answered(Answer::Moot));
         };
-        self.tables.close(process, rs)?;
+        self.tables.hold(process, rs, None)?;
         Ok(RulesetOutcome::Answered(Answer::Allowed))
     }
 

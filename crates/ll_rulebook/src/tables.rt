@@ -31,28 +31,22 @@ impl Tables {
         self.held[process].get(number).copied()
     }
 
-    /// Lets a process hold a ruleset under a number.
+    /// Lets a process hold the ruleset at a place under a number, or none.
     pub(crate) fn hold(
         &mut self,
         process: usize,
         number: u64,
-        place: usize,
+        place: Option<usize>,
     ) -> Result<(), AllocError>
         requires { process < length self.old.held.items }
         ensures { OnOk result
-            (HoldsUnder self.old.held.items self.new.held.items process number (Some place)) }
+            (HoldsUnder self.old.held.items self.new.held.items process number place) }
     {
-        self.held[process].insert(number, place)?;
-        Ok(())
-    }
-
-    /// Closes what a process holds under a number.
-    pub(crate) fn close(&mut self, process: usize, number: u64) -> Result<(), AllocError>
-        requires { process < length self.old.held.items }
-        ensures { OnOk result
-            (HoldsUnder self.old.held.items self.new.held.items process number None) }
-    {
-        self.held[process].remove(number)?;
+        let held = &mut self.held[process];
+        match place {
+            Some(place) => held.insert(number, place)?,
+            None => held.remove(number)?,
+        };
         Ok(())
     }
 
