@@ -10,11 +10,10 @@ use Rattle.ll_audit.specs.declared.outcome.Ending.{Ending}
 use Rattle.ll_audit.specs.declared.outcome.Outcome.{Outcome}
 use Rattle.ll_audit.specs.declared.outcome.Outcome.TheVariants as outcome
 use Rattle.ll_command.specs.Command.{Request, Text, request_of}
-use Rattle.ll_audit.specs.FaultLines.{failure_line, failure_status}
+use Rattle.ll_audit.specs.FaultLines.{failure_status}
 use Rattle.ll_audit.specs.Files.{Files}
-use Rattle.ll_audit.specs.Fronts.{EndsWithoutRun, HasFailure, HasReason, HasWrongWords, IsOutcomeOf, IsWhy, Reports, StaysQuiet, TellsWhy, WritesNothing}
-use Rattle.ll_audit.specs.Fronts.{WritesReport}
-use Rattle.ll_audit.specs.Outcomes.{AppendsBeginning, Complains, EndsWith}
+use Rattle.ll_audit.specs.Fronts.{EndsWithoutRun, HasFailure, HasWrongWords, IsOutcomeOf, Reports, StaysQuiet, TellsWhy, WritesNothing, WritesReport}
+use Rattle.ll_audit.specs.Outcomes.{EndsWith}
 use Rattle.ll_command.proofs.CommandLine.{asks_for_no_run}
 
 -- a failure's status is 3 or 4
@@ -153,12 +152,3 @@ module _ {Output Errors : Type 0} (contents : Output → Option (List ℕ)) (lin
   tells_why (outcome.Usage error) wrong ends high = absurd (two_high ending.status ends.0 high)
   tells_why (outcome.Misuse misuse) wrong ends high = absurd (two_high ending.status ends.0 high)
   tells_why (outcome.Failure one) has ends high = (one, inl has, ends.0)
-
--- what is told has a reason
-module _ (words : List Text) (files : Option Files) (before after : ℕ) (ending : Ending) (old new : Option (List ℕ)) where
-  reason_of : (one : Failure) × IsWhy words files before after one × Complains one ending old new
-      → (one : Failure) × IsWhy words files before after one × (ending.status ≡ failure_status one) × AppendsBeginning old new (failure_line one)
-  reason_of (one, why, complains) = (one, why, complains.0, complains.2)
-
-  pub has_reason : TellsWhy words files before after ending old new → HasReason words files before after ending.status old new
-  has_reason tells high = reason_of (tells high)

@@ -3,13 +3,10 @@ use Rattle.std.proofs.Common.{◌≡◌, ◌∙◌, ℕ, cond, Bool, true, false
 use Rattle.std.specs.Borrow.{Bor}
 use Rattle.std.specs.Ordering.{nat_cmp}
 use Rattle.std.specs.Cmp.Lexicographic.{slice_cmp}
-use Rattle.std.specs.FinMap.{get-from_entries}
 use Rattle.std.specs.FinMap as finite
 use Rattle.std.specs.Str.{bytes_eq}
-use Rattle.std.proofs.lemmas.Cmp.{nat_list_cmp_total}
 use Rattle.std.proofs.lemmas.Map.Text.{is_eq-slice_cmp}
 use Rattle.std.proofs.lemmas.Slice.Eq.{bytes_eq-Decides}
-use Rattle.ll_audit.specs.Files.{bytes_of, files_of}
 
 bytes_eq-flip : (a b : List ℕ) → bytes_eq a b ≡ bytes_eq b a
 bytes_eq-flip a b = by_tests (bytes_eq a b) (bytes_eq b a) refl refl
@@ -24,7 +21,7 @@ bytes_eq-flip a b = by_tests (bytes_eq a b) (bytes_eq b a) refl refl
         let same : b ≡ a = (bytes_eq-Decides b a).0 back in
         sym is ∙ (bytes_eq-Decides a b).1 (sym same)
 
-found : (files : List (Bor (List ℕ) × Bor (List ℕ))) (name : List ℕ)
+pub found : (files : List (Bor (List ℕ) × Bor (List ℕ))) (name : List ℕ)
     → option_map (λ file. file.1.now) (find (λ file. bytes_eq file.0.now name) files)
     ≡ finite.find (slice_cmp nat_cmp) name (map (λ file. (file.0.now, file.1.now)) files)
 found [] name = refl
@@ -39,9 +36,3 @@ found (file ∷ files) name =
         ≡ cond b (Some file.1.now) (finite.find (slice_cmp nat_cmp) name (map (λ f. (f.0.now, f.1.now)) files))
     by_test true rest = refl
     by_test false rest = rest
-
--- the file that a search by name finds is the map's
-pub found_by_name : (files : List (Bor (List ℕ) × Bor (List ℕ))) (name : List ℕ)
-    → option_map (λ file. file.1.now) (find (λ file. bytes_eq file.0.now name) files) ≡ bytes_of (files_of files) name
-found_by_name files name =
-    found files name ∙ sym (get-from_entries nat_list_cmp_total (map (λ file. (file.0.now, file.1.now)) files) name)

@@ -1,7 +1,5 @@
 pub mod FilesByName
-pub mod LineTexts
 pub mod Endings
-pub mod Wants
 pub mod OneReport
 pub mod Totals
 pub mod VersionByVersion

@@ -1,9 +1,11 @@
 -- The lines that the program writes to standard error, and its status with each.
 -- Source: docs/FORMATS.md, "Faults of a run".
-use Rattle.std.specs.Prelude.{ℕ, List, ◌++◌, codes, decimal}
+use Rattle.std.specs.Prelude.{ℕ, List, Option, Result, OnOk, ◌++◌, codes, decimal}
+use Rattle.std.specs.Io.KnownBytes.{Appends}
 use Rattle.ll_lines.specs.declared.fault.Cause.{Cause}
 use Rattle.ll_lines.specs.declared.fault.Cause.TheVariants as cause
 use Rattle.ll_lines.specs.declared.fault.ReadFault.{ReadFault}
+use Rattle.ll_report.specs.Writing.{AppendsBeginning}
 use Rattle.ll_audit.specs.declared.fault.Fault.{Fault}
 use Rattle.ll_audit.specs.declared.fault.Fault.TheVariants as fault
 use Rattle.ll_audit.specs.declared.lines.Failure.{Failure}
@@ -38,12 +40,19 @@ failure_text (failure.Audit one) = fault_text one
 failure_text (failure.Unread name) = codes "cannot read " ++ name.now
 failure_text failure.Unwritten = codes "cannot write"
 
--- the line, with the program's name before it
+-- the line that says this, with the program's name before it
+unfoldable pub line_of : List ℕ → List ℕ
+line_of text = codes "landaudit: " ++ text ++ codes "\n"
+
 abbrev pub failure_line : Failure → List ℕ
-failure_line failure = codes "landaudit: " ++ failure_text failure ++ codes "\n"
+failure_line failure = line_of (failure_text failure)
 
 abbrev pub fault_line : Fault → List ℕ
-fault_line one = codes "landaudit: " ++ fault_text one ++ codes "\n"
+fault_line one = line_of (fault_text one)
+
+-- known bytes grow by the line, if it could be written, and else by a beginning of it
+unfoldable pub WritesLine : {A E : Type 0} → Result A E → Option (List ℕ) → Option (List ℕ) → List ℕ → Type 0
+WritesLine result old new line = OnOk result (Appends old new line) × AppendsBeginning old new line
 
 -- the status: 3 where a file is at fault, else 4
 abbrev pub failure_status : Failure → ℕ

@@ -1,4 +1,5 @@
 pub mod Files
+pub mod Inputs
 pub mod FaultLines
 pub mod Outcomes
 pub mod Audits

@@ -8,6 +8,7 @@ ghost use Rattle.ll_report.specs.{Shown.IsShownReportOn, Told.told_by};
 ghost use Rattle.ll_pool.specs.Crews.{IsCrew};
 ghost use Rattle.ll_audit.specs.Audits.{IsFaultOf, IsReport};
 ghost use Rattle.ll_audit.specs.ShownReports.{IsReportBy, IsReportInJson, IsReportOver, IsReportWith, IsTextReport, taken};
+ghost use Rattle.ll_audit.specs.Inputs.{trace_bytes, tree_bytes};
 ghost use Rattle.ll_audit.specs.Causes.{IsTraceFault, IsTreeFault, IsWant};
 
 use crate::cut::{Cut, cuts_of};
@@ -17,7 +18,6 @@ use crate::ranging::{Audit, Audited};
 use crate::report_text::{Form, ReportText};
 use crate::workers::Workers;
 use ll_lines::ReadFault;
-use ll_lines::blocks::LineBlocks;
 use ll_pool::Gate;
 use ll_process::Case;
 use ll_report::{ALL_LINES, Format, Options, Report, text_report};
@@ -103,32 +103,26 @@ pub fn audit_with<R: Threads + Wait + Sync, G: Gate + Sync>(
         count: workers,
         gate,
     };
-    let files = files_of(&workers, tree, trace)?;
-    let report = report_by(&workers, files, options, cut)?;
+    let report = audit_inputs(&workers, Inputs::Lent { tree, trace }, options, cut)?;
     Ok(report.into_report(alloc)?)
 }
 
 /// Audits a trace against a tree as `audit_with` does, and gives the bytes of their files back once they are read.
 pub(crate) fn audit_inputs<R: Threads + Wait + Sync, G: Gate + Sync>(
     workers: &Workers<'_, R, G>,
-    inputs: Inputs,
+    inputs: Inputs<'_>,
     options: &Options,
     cut: Cut,
 ) -> Result<ReportText, Fault>
-    ensures report { IfOk result (IsReportWith options.now inputs.tree.items inputs.trace) }
+    ensures report { IfOk result
+        (IsReportWith options.now (tree_bytes inputs.entry) (trace_bytes inputs.entry)) }
     ensures crew { IfOk result (λ _. IsCrew workers.now.count) }
     ensures fault { IfErr result
-        (IsFaultOf workers.now.count inputs.tree.items inputs.trace) }
+        (IsFaultOf workers.now.count (tree_bytes inputs.entry) (trace_bytes inputs.entry)) }
 {
-    let files = files_in(workers, inputs)?;
-    report_by(workers, files, options, cut)
-}
-
-/// A tree and a trace, as two files say them.
-#[derive(Drop)]
-struct Files {
-    tree: Tree,
-    trace: Trace,
+    let tree = first_tree(workers, inputs.tree())?;
+    let trace = trace_of(workers, inputs)?;
+    report_by(workers, tree, trace, options, cut)
 }
 
 /// The tree that a file reads as, if there may be this many workers.
@@ -144,38 +138,6 @@ fn first_tree<R: Threads + Wait + Sync, G: Gate + Sync>(
         return Err(Fault::Workers);
     }
     tree_of(workers.alloc, tree)
-}
-
-/// What two files read as, by this many workers.
-fn files_of<R: Threads + Wait + Sync, G: Gate + Sync>(
-    workers: &Workers<'_, R, G>,
-    tree: &[u8],
-    trace: &[u8],
-) -> Result<Files, Fault>
-    ensures tree { IfOk result (λ files. IsTreeOf tree.now files.tree) }
-    ensures trace { IfOk result (λ files. IsTrace trace.now files.trace) }
-    ensures crew { IfOk result (λ _. IsCrew workers.now.count) }
-    ensures fault { IfErr result (IsFaultOf workers.now.count tree.now trace.now) }
-{
-    let tree = first_tree(workers, tree)?;
-    let trace = trace_of(workers, trace)?;
-    Ok(Files { tree, trace })
-}
-
-/// What the bytes of two files read as; they are given back.
-fn files_in<R: Threads + Wait + Sync, G: Gate + Sync>(
-    workers: &Workers<'_, R, G>,
-    inputs: Inputs,
-) -> Result<Files, Fault>
-    ensures tree { IfOk result (λ files. IsTreeOf inputs.tree.items files.tree) }
-    ensures trace { IfOk result (λ files. IsTrace inputs.trace files.trace) }
-    ensures crew { IfOk result (λ _. IsCrew workers.now.count) }
-    ensures fault { IfErr result (IsFaultOf workers.now.count inputs.tree.items inputs.trace) }
-{
-    let Inputs { tree, trace } = inputs;
-    let tree = first_tree(workers, &tree)?;
-    let trace = trace_in(workers, trace)?;
-    Ok(Files { tree, trace })
 }
 
 /// A trace as its rulesets are to be taken under a version.
@@ -213,29 +175,15 @@ fn trace_fault(fault: ReadFault) -> Fault
     }
 }
 
-/// The trace that a file reads as.
+/// The trace that a file reads as. The bytes of both files are given back.
 fn trace_of<R: Threads + Wait + Sync, G: Gate + Sync>(
     workers: &Workers<'_, R, G>,
-    bytes: &[u8],
+    inputs: Inputs<'_>,
 ) -> Result<Trace, Fault>
-    ensures trace { IfOk result (IsTrace bytes.now) }
-    ensures fault { IfErr result (IsTraceFault bytes.now) }
+    ensures trace { IfOk result (IsTrace (trace_bytes inputs.entry)) }
+    ensures fault { IfErr result (IsTraceFault (trace_bytes inputs.entry)) }
 {
-    match Trace::read_by(workers.rt, workers.alloc, bytes, workers.count as usize) {
-        Ok(trace) => Ok(trace),
-        Err(fault) => Err(trace_fault(fault)),
-    }
-}
-
-/// The trace that a file reads as whose bytes are in blocks; they are given back.
-fn trace_in<R: Threads + Wait + Sync, G: Gate + Sync>(
-    workers: &Workers<'_, R, G>,
-    blocks: LineBlocks,
-) -> Result<Trace, Fault>
-    ensures trace { IfOk result (IsTrace blocks) }
-    ensures fault { IfErr result (IsTraceFault blocks) }
-{
-    match Trace::read_blocks_by(workers.rt, workers.alloc, blocks, workers.count as usize) {
+    match inputs.into_trace(workers) {
         Ok(trace) => Ok(trace),
         Err(fault) => Err(trace_fault(fault)),
     }
@@ -244,15 +192,15 @@ fn trace_in<R: Threads + Wait + Sync, G: Gate + Sync>(
 /// The report that the options ask for.
 fn report_by<R: Threads + Wait + Sync, G: Gate + Sync>(
     workers: &Workers<'_, R, G>,
-    files: Files,
+    tree: Tree,
+    trace: Trace,
     options: &Options,
     cut: Cut,
 ) -> Result<ReportText, Fault>
     requires { IsCrew workers.now.count }
-    ensures report { IfOk result (IsReportBy options.now files.tree files.trace) }
+    ensures report { IfOk result (IsReportBy options.now tree trace) }
     ensures fault { IfErr result IsWant }
 {
-    let Files { tree, trace } = files;
     let cuts = cuts_of(workers.alloc, &trace, cut)?;
     let audit = Audit {
         workers,

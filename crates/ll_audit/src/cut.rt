@@ -30,11 +30,9 @@ pub(crate) fn cuts_of(alloc: Global, trace: &Trace, cut: Cut) -> Result<Vec<bool
 fn long_ones(alloc: Global, trace: &Trace, grain: u64) -> Result<Vec<bool>, AllocError>
     ensures { IfOk result (λ cuts. cuts.items ≡ cuts_by trace.now (Cut.Grain grain)) }
 {
-    let mut cuts = Vec::new(alloc);
-    for process in 0..trace.processes() {
-        cuts.push(has_many(trace, ProcessId(process), grain))?;
-    }
-    Ok(cuts)
+    (0..trace.processes())
+        .map(|process| has_many(trace, ProcessId(process), grain))
+        .collect(alloc)
 }
 
 /// Whether a process has this many records.

@@ -1,20 +1,63 @@
 //! The bytes of the two files of a run.
 
-ghost use Rattle.std.specs.Prelude.{◌≡◌, ◌⊎◌, ◌+◌, ◌-◌, ◌^◌, ◌<◌, ◌≤◌, IfOk, IfErr, IfSome, Some};
+ghost use Rattle.std.specs.Prelude.{◌≡◌, ◌≢◌, ◌⊎◌, ◌+◌, ◌-◌, ◌^◌, ◌<◌, ◌≤◌, IfOk, IfErr, IfSome, Some};
+ghost use Rattle.ll_lines.specs.declared.fault.Cause.TheVariants.{Memory as NoMemoryLeft};
+ghost use Rattle.ll_lines.specs.Reading.{IsBad};
+ghost use Rattle.ll_trace.specs.{Entries.trace_file, Records.IsTrace};
 ghost use Rattle.ll_audit.specs.{declared.fault.Fault.TheVariants.Memory, Files.bytes_of};
+ghost use Rattle.ll_audit.specs.Inputs.{trace_bytes, tree_bytes};
 
 use crate::fault::Fault;
 use crate::lines::Failure;
 use crate::source::{Source, SourceFault};
+use crate::workers::Workers;
 use ll_command::Run;
+use ll_lines::ReadFault;
 use ll_lines::blocks::LineBlocks;
+use ll_trace::Trace;
 use std::alloc::Global;
+use std::thread::Threads;
 
-/// The bytes of the files that a run names.
+/// The bytes of the two files of an audit.
 #[derive(Drop)]
-pub(crate) struct Inputs {
-    pub(crate) tree: Vec<u8>,
-    pub(crate) trace: LineBlocks,
+pub(crate) enum Inputs<'a> {
+    /// Those that a caller has.
+    Lent { tree: &'a [u8], trace: &'a [u8] },
+    /// Those of the files that a run names, which are given back once they are read.
+    Read { tree: Vec<u8>, trace: LineBlocks },
+}
+
+impl Inputs<'_> {
+    /// The bytes of the tree.
+    pub(crate) fn tree(&self) -> &[u8]
+        ensures { result.now ≡ tree_bytes self.now }
+    {
+        match self {
+            Inputs::Lent { tree, .. } => tree,
+            Inputs::Read { tree, .. } => tree,
+        }
+    }
+
+    /// The trace that the bytes read as. The bytes of both files are given back.
+    pub(crate) fn into_trace<R: Threads + Sync, G>(
+        self,
+        workers: &Workers<'_, R, G>,
+    ) -> Result<Trace, ReadFault>
+        ensures good { IfOk result (IsTrace (trace_bytes self.entry)) }
+        ensures bad { IfErr result (λ fault. fault.cause ≢ NoMemoryLeft
+            → IsBad trace_file (trace_bytes self.entry) fault) }
+    {
+        let count = workers.count as usize;
+        match self {
+            Inputs::Lent { trace, .. } => Trace::read_by(workers.rt, workers.alloc, trace, count),
+            Inputs::Read { trace, .. } => Trace::read_blocks_by(
+                workers.rt,
+                workers.alloc,
+                trace,
+                count,
+            ),
+        }
+    }
 }
 
 /// Why a run has no bytes of the file of a name.
@@ -76,12 +119,12 @@ pub(crate) fn inputs_of<'a, S: Source>(
     alloc: Global,
     source: &mut S,
     run: &Run<'a>,
-) -> Result<Inputs, Failure<'a>>
+) -> Result<Inputs<'a>, Failure<'a>>
     requires { S.failed source.old + 2 < 2 ^ 64 }
     ensures tree { IfOk result (λ inputs. IfSome (S.files source.old)
-        (λ files. bytes_of files run.now.tree.now ≡ Some inputs.tree.items)) }
+        (λ files. bytes_of files run.now.tree.now ≡ Some (tree_bytes inputs))) }
     ensures trace { IfOk result (λ inputs. IfSome (S.files source.old)
-        (λ files. bytes_of files run.now.trace.now ≡ Some inputs.trace)) }
+        (λ files. bytes_of files run.now.trace.now ≡ Some (trace_bytes inputs))) }
     ensures failure { IfErr result (λ failure. (failure ≡ Failure.Audit Memory)
         ⊎ (((failure ≡ Failure.Unread run.now.tree) ⊎ (failure ≡ Failure.Unread run.now.trace))
         × (S.failed source.old < S.failed source.new))) }
@@ -89,5 +132,5 @@ pub(crate) fn inputs_of<'a, S: Source>(
 {
     let tree = bytes_of(alloc, source, run.tree)?;
     let trace = blocks_of(alloc, source, run.trace)?;
-    Ok(Inputs { tree, trace })
+    Ok(Inputs::Read { tree, trace })
 }

@@ -1,10 +1,8 @@
 //! The lines on standard error.
 
-ghost use Rattle.std.specs.Prelude.{◌≡◌, ◌++◌, OnOk, codes};
-ghost use Rattle.std.specs.Io.KnownBytes.{Appends};
+ghost use Rattle.std.specs.Prelude.{◌≡◌, ◌++◌, codes};
 ghost use Rattle.ll_audit.specs.declared.lines.Failure.TheVariants.{Audit};
-ghost use Rattle.ll_audit.specs.FaultLines.{cause_name, failure_line, failure_status, fault_line, place_text};
-ghost use Rattle.ll_audit.specs.Outcomes.{AppendsBeginning};
+ghost use Rattle.ll_audit.specs.FaultLines.{WritesLine, cause_name, failure_line, failure_status, fault_line, line_of, place_text};
 
 use crate::fault::Fault;
 use itoa::Buffer;
@@ -46,51 +44,53 @@ impl Failure<'_> {
 
     /// Writes the line for standard error. Where that fails a beginning of it was written.
     pub fn write_to<W: Write>(&self, err: &mut W) -> io::Result<()>
-        ensures whole { OnOk result (Appends (W.contents err.old) (W.contents err.new)
-            (failure_line self.now)) }
-        ensures beginning { AppendsBeginning (W.contents err.old) (W.contents err.new)
+        ensures { WritesLine result (W.contents err.old) (W.contents err.new)
             (failure_line self.now) }
     {
         match self {
             Failure::Audit(fault) => write_fault(err, fault),
-            Failure::Unread(name) => write_line(err, "cannot read ", name),
-            Failure::Unwritten => write_line(err, "cannot write", ""),
+            Failure::Unread(name) => write_unread(err, name),
+            Failure::Unwritten => write_line(err, "cannot write"),
         }
     }
 }
 
 /// Writes the line of an audit that gives no report.
 fn write_fault<W: Write>(err: &mut W, fault: &Fault) -> io::Result<()>
-    ensures whole { OnOk result (Appends (W.contents err.old) (W.contents err.new)
-        (fault_line fault.now)) }
-    ensures beginning { AppendsBeginning (W.contents err.old) (W.contents err.new)
+    ensures { WritesLine result (W.contents err.old) (W.contents err.new)
         (fault_line fault.now) }
 {
     match fault {
         Fault::Tree(bad) => write_place(err, "tree", bad),
         Fault::Trace(bad) => write_place(err, "trace", bad),
-        Fault::Workers => write_line(err, "no such number of workers", ""),
-        Fault::Memory => write_line(err, "no memory", ""),
-        Fault::NoThread => write_line(err, "no thread", ""),
+        Fault::Workers => write_line(err, "no such number of workers"),
+        Fault::Memory => write_line(err, "no memory"),
+        Fault::NoThread => write_line(err, "no thread"),
     }
 }
 
-/// Writes a line of two texts behind the program's name.
-fn write_line<W: Write>(err: &mut W, first: &str, second: &str) -> io::Result<()>
-    ensures whole { OnOk result (Appends (W.contents err.old) (W.contents err.new)
-        (codes "landaudit: " ++ (first.now ++ second.now) ++ codes "\n")) }
-    ensures beginning { AppendsBeginning (W.contents err.old) (W.contents err.new)
-        (codes "landaudit: " ++ (first.now ++ second.now) ++ codes "\n") }
+/// Writes a line of one text behind the program's name.
+#[tactic(auto, unfolding(crate::specs::FaultLines::line_of, crate::specs::FaultLines::WritesLine))]
+fn write_line<W: Write>(err: &mut W, text: &str) -> io::Result<()>
+    ensures { WritesLine result (W.contents err.old) (W.contents err.new)
+        (line_of text.now) }
 {
-    write_texts(err, &["landaudit: ", first, second, "\n"])
+    write_texts(err, &["landaudit: ", text, "\n"])
+}
+
+/// Writes the line on a file of this name that can't be read.
+#[tactic(auto, unfolding(crate::specs::FaultLines::line_of, crate::specs::FaultLines::WritesLine))]
+fn write_unread<W: Write>(err: &mut W, name: &str) -> io::Result<()>
+    ensures { WritesLine result (W.contents err.old) (W.contents err.new)
+        (failure_line (Failure.Unread name.entry)) }
+{
+    write_texts(err, &["landaudit: ", "cannot read ", name, "\n"])
 }
 
 /// Writes the line that says which line of a file is wrong, and why.
 fn write_place<W: Write>(err: &mut W, file: &str, fault: &ReadFault) -> io::Result<()>
-    ensures whole { OnOk result (Appends (W.contents err.old) (W.contents err.new)
-        (codes "landaudit: " ++ place_text file.now fault.now ++ codes "\n")) }
-    ensures beginning { AppendsBeginning (W.contents err.old) (W.contents err.new)
-        (codes "landaudit: " ++ place_text file.now fault.now ++ codes "\n") }
+    ensures { WritesLine result (W.contents err.old) (W.contents err.new)
+        (line_of (place_text file.now fault.now)) }
 {
     let mut buffer = Buffer::new();
     let line = buffer.format(fault.line);
@@ -104,12 +104,8 @@ fn write_words<'t, W: Write>(
     line: &'t str,
     cause: &'t str,
 ) -> io::Result<()>
-    ensures whole { OnOk result (Appends (W.contents err.old) (W.contents err.new)
-        (codes "landaudit: " ++ (file.now ++ codes " line " ++ line.now ++ codes ": " ++ cause.now)
-        ++ codes "\n")) }
-    ensures beginning { AppendsBeginning (W.contents err.old) (W.contents err.new)
-        (codes "landaudit: " ++ (file.now ++ codes " line " ++ line.now ++ codes ": " ++ cause.now)
-        ++ codes "\n") }
+    ensures { WritesLine result (W.contents err.old) (W.contents err.new)
+        (line_of (file.now ++ codes " line " ++ line.now ++ codes ": " ++ cause.now)) }
 {
     write_texts(
         err,

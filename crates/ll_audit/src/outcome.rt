@@ -73,6 +73,7 @@ fn write_text<O: Write>(out: &mut O, text: &Message) -> io::Result<()> {
 }
 
 /// Writes the line of a failure, if that can be done, and gives the status.
+#[tactic(auto, unfolding(crate::specs::FaultLines::WritesLine))]
 fn complain<E: Write>(failure: &Failure<'_>, err: &mut E) -> Ending
     ensures { Complains failure.now result (E.contents err.old) (E.contents err.new) }
 {

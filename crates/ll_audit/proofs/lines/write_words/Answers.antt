@@ -1,12 +1,16 @@
-use Rattle.std.proofs.Common.{append_assoc, subst}
-use Rattle.ll_audit.specs.Outcomes.{AppendsBeginning}
-use Rattle.ll_audit.proofs.LineTexts.{line_of_words}
+use Rattle.std.proofs.Common.{◌≡◌, List, ℕ, ◌++◌, codes, append_assoc, refl, subst}
+use Rattle.ll_audit.specs.FaultLines.{WritesLine, line_of}
 use Rattle.ll_audit.proofs.lines.write_words.Goals as goal
 
-pub returns-clause-whole : goal.returns-clause-whole
-returns-clause-whole g c = simp append_assoc c.write_texts.ensures.whole
+-- the texts of a line, one behind the other
+texts_of_line : (file line cause : List ℕ)
+    → codes "landaudit: " ++ (file ++ (codes " line " ++ (line ++ (codes ": " ++ (cause ++ codes "\n")))))
+    ≡ line_of (file ++ codes " line " ++ line ++ codes ": " ++ cause)
+unfolding line_of
+texts_of_line file line cause = simp append_assoc refl
 
-pub returns-clause-beginning : goal.returns-clause-beginning
-returns-clause-beginning g c =
-    subst (AppendsBeginning (g.W.Write.contents c.args.err.now) (g.W.Write.contents c.write_texts.new.out))
-    (line_of_words c.args.file.now c.args.line.now c.args.cause.now) c.write_texts.ensures.beginning
+pub returns : goal.returns
+unfolding WritesLine
+returns g c =
+    subst (WritesLine c.write_texts.result (g.W.Write.contents c.args.err.now) (g.W.Write.contents c.write_texts.new.out))
+    (texts_of_line c.args.file.now c.args.line.now c.args.cause.now) (c.write_texts.ensures.whole, c.write_texts.ensures.beginning)
