@@ -68,34 +68,6 @@ fn push_span<T: Telling>(
     sayings.push::<T>(text, version);
 }
 
-/// Adds the answers of versions that may differ, span after span. The oldest version has this number.
-fn push_spans<T: Telling>(
-    text: &mut TextBuffer,
-    scratch: &mut Scratch,
-    sayings: &Sayings<'_>,
-    oldest: u64,
-)
-    requires few { oldest + length sayings.now.findings.now < 2 ^ 64 }
-    requires some { 0 < length sayings.now.findings.now }
-    requires fit { FitIn scratch.old.room (said_by T.told sayings.now) }
-    ensures text { text.new
-        ≡ adding text.old (separated false (spans_of oldest (said_by T.told sayings.now))) }
-    ensures scratch { scratch.new ≡ scratch.old }
-{
-    let mut current = 0;
-    let mut first = oldest;
-    let mut last = oldest;
-    for version in 1..sayings.findings.len() {
-        if !scratch.same::<T>(sayings, current, version) {
-            push_span::<T>(text, sayings, first, last, current);
-            first = last + 1;
-            current = version;
-        }
-        last += 1;
-    }
-    push_span::<T>(text, sayings, first, last, current);
-}
-
 /// Adds the answer of all versions, of which there is one at least. The oldest has this number.
 fn push_common<T: Telling>(text: &mut TextBuffer, sayings: &Sayings<'_>, oldest: u64)
     requires few { oldest + length sayings.now.findings.now < 2 ^ 64 }
@@ -108,8 +80,8 @@ fn push_common<T: Telling>(text: &mut TextBuffer, sayings: &Sayings<'_>, oldest:
     push_span::<T>(text, sayings, oldest, newest, 0);
 }
 
-/// Adds the answers of neighbouring versions, of which the oldest has this number. What they say is compared, unless
-/// it is known that all say the same.
+/// Adds the answers of neighbouring versions, span after span. The oldest has this number. What they say is compared,
+/// unless it is known that all say the same.
 pub(crate) fn push_answers<T: Telling>(
     text: &mut TextBuffer,
     scratch: &mut Scratch,
@@ -125,9 +97,20 @@ pub(crate) fn push_answers<T: Telling>(
     if sayings.findings.is_empty() {
         return;
     }
-    if scratch.is_apart(sayings.place) {
-        push_spans::<T>(text, scratch, sayings, oldest);
-    } else {
+    if !scratch.is_apart(sayings.place) {
         push_common::<T>(text, sayings, oldest);
+        return;
     }
+    let mut current = 0;
+    let mut first = oldest;
+    let mut last = oldest;
+    for version in 1..sayings.findings.len() {
+        if !scratch.same::<T>(sayings, current, version) {
+            push_span::<T>(text, sayings, first, last, current);
+            first = last + 1;
+            current = version;
+        }
+        last += 1;
+    }
+    push_span::<T>(text, sayings, first, last, current);
 }

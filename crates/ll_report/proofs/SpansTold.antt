@@ -1,5 +1,5 @@
 -- The texts of spans, from the parts in which they are written.
-use Rattle.std.proofs.Common.{◌≡◌, ◌∙◌, ℕ, Bool, true, List, [], ◌∷◌, length, refl, sym, ap, nat_eq, cond}
+use Rattle.std.proofs.Common.{◌≡◌, ◌∙◌, ℕ, Bool, true, false, List, [], ◌∷◌, length, refl, sym, ap, nat_eq, cond}
 use Rattle.std.proofs.Common.{get_or, arith, ◌<◌}
 use Rattle.std.proofs.lemmas.Bool.{eqb-true}
 use Rattle.std.proofs.lemmas.List.{nil_from_length}
@@ -24,3 +24,9 @@ pub all_said : (form : Form) (oldest : ℕ) (texts : List (List ℕ)) → 0 < le
 all_said form oldest [] some are = absurd (omega (arith, some))
 all_said form oldest (text ∷ others) some are =
     ap (λ (same : Bool). cond same (alone_text form text) (flat_map (span_text form) (spans_of oldest (text ∷ others)))) (sym are)
+
+pub apart_said : (form : Form) (oldest : ℕ) (texts : List (List ℕ)) → agree texts ≡ false
+    → flat_map (span_text form) (spans_of oldest texts) ≡ versions_text form oldest texts
+apart_said form oldest [] apart = refl
+apart_said form oldest (text ∷ others) apart =
+    ap (λ (same : Bool). cond same (alone_text form text) (flat_map (span_text form) (spans_of oldest (text ∷ others)))) (sym apart)

@@ -2,10 +2,9 @@
 #![tactic(auto, using(ll_explain::proofs::Buffering::adding_both))]
 
 ghost use Rattle.std.specs.Prelude.{◌≡◌, ◌+◌, ◌<◌, ◌^◌, [], get_or, length};
-ghost use Rattle.std.specs.List.{flat_map};
 ghost use Rattle.ll_explain.specs.Buffers.{adding};
 ghost use Rattle.ll_report.specs.{Scratches.FitIn, Sayings.said_by};
-ghost use Rattle.ll_report.specs.Spans.{agree, alone_text, numbers_text, span_text, spans_of, versions_text};
+ghost use Rattle.ll_report.specs.Spans.{agree, alone_text, numbers_text, span_text, versions_text};
 
 use crate::sayings::Sayings;
 use crate::scratch::Scratch;
@@ -100,36 +99,8 @@ impl<'f> Sayings<'f> {
         }
     }
 
-    /// Adds what is said, span after span. The oldest version has this number.
-    fn push_spans<T: Telling>(
-        &self,
-        text: &mut TextBuffer,
-        scratch: &mut Scratch,
-        form: Form,
-        oldest: u64,
-    )
-        requires few { oldest + length self.now.findings.now < 2 ^ 64 }
-        requires some { 0 < length self.now.findings.now }
-        requires fit { FitIn scratch.old.room (said_by T.told self.now) }
-        ensures text { text.new ≡ adding text.old
-            (flat_map (span_text form) (spans_of oldest (said_by T.told self.now))) }
-        ensures scratch { scratch.new ≡ scratch.old }
-    {
-        let mut current = 0;
-        let mut first = oldest;
-        let mut last = oldest;
-        for version in 1..self.findings.len() {
-            if !scratch.same::<T>(self, current, version) {
-                self.push_span::<T>(text, scratch, form, first, last, current);
-                first = last + 1;
-                current = version;
-            }
-            last += 1;
-        }
-        self.push_span::<T>(text, scratch, form, first, last, current);
-    }
-
-    /// Adds what is said: once, where all say the same. The oldest version has this number.
+    /// Adds what is said: once, where all say the same, and else span after span. The oldest version
+    /// has this number.
     pub(crate) fn push_versions<T: Telling>(
         &self,
         text: &mut TextBuffer,
@@ -148,8 +119,19 @@ impl<'f> Sayings<'f> {
         }
         if self.agree::<T>(scratch) {
             self.push_alone::<T>(text, form);
-        } else {
-            self.push_spans::<T>(text, scratch, form, oldest);
+            return;
         }
+        let mut current = 0;
+        let mut first = oldest;
+        let mut last = oldest;
+        for version in 1..self.findings.len() {
+            if !scratch.same::<T>(self, current, version) {
+                self.push_span::<T>(text, scratch, form, first, last, current);
+                first = last + 1;
+                current = version;
+            }
+            last += 1;
+        }
+        self.push_span::<T>(text, scratch, form, first, last, current);
     }
 }

@@ -5,7 +5,7 @@ use Rattle.ll_explain.specs.Buffers.{adding}
 use Rattle.ll_report.specs.Sayings.{said_by}
 use Rattle.ll_report.specs.Spans.{span_text, spans_of}
 use Rattle.ll_report.proofs.SpansSaid.{left}
-use Rattle.ll_report.proofs.sayings.Sayings.push_spans.Given as goal
+use Rattle.ll_report.proofs.sayings.Sayings.push_versions.Given as goal
 
 abbrev pub invariant-loop-version : goal.invariant-loop-version
 invariant-loop-version g l =

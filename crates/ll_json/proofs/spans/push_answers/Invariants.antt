@@ -5,7 +5,7 @@ use Rattle.ll_report.specs.Sayings.{said_by}
 use Rattle.ll_report.specs.Spans.{spans_of}
 use Rattle.ll_json.specs.Rows.{separated}
 use Rattle.ll_json.proofs.SpansSaid.{left}
-use Rattle.ll_json.proofs.spans.push_spans.Given as goal
+use Rattle.ll_json.proofs.spans.push_answers.Given as goal
 
 abbrev pub invariant-loop-version : goal.invariant-loop-version
 invariant-loop-version g l =
