@@ -6,7 +6,6 @@ mod setting;
 
 ghost use Rattle.std.specs.Prelude.{All};
 ghost use Rattle.ll_tree.specs.Trees.{IsNode};
-ghost use Rattle.ll_rules.specs.{InTree.AreInTree, KeptLayers.IsDomainOf};
 
 use crate::checks::setting::{Layers, deep_tree, layers_of, objects_at};
 use crate::stopwatch::{nanoseconds, quicker};
@@ -14,7 +13,7 @@ use anyhow::{Context, Result};
 use ll_fixtures::refusing;
 use ll_rights::Fs;
 use ll_rules::check_path;
-use ll_tree::{NodeId, Tree};
+use ll_tree::NodeId;
 use std::rt::Clock;
 use std::time::{Duration, Instant};
 
@@ -43,36 +42,29 @@ struct Taken {
 }
 
 /// Whether some layer refuses to read an object.
-fn is_refused(form: Form, tree: &Tree, layers: &Layers, node: NodeId) -> bool
-    requires node { IsNode tree.now node }
-    requires rules { All (AreInTree tree.now) layers.now.lanes.items }
-    requires domain { IsDomainOf layers.now.lanes.items layers.now.domain }
+fn is_refused(form: Form, layers: &Layers<'_>, node: NodeId) -> bool
+    requires { IsNode layers.now.lanes.tree.now node }
 {
     let wanted = Fs::READ_FILE;
+    let lanes = &layers.lanes;
     match form {
-        Form::Plain => refusing(tree, &layers.plain, node, wanted).contains(&true),
-        Form::Filtered => refusing(tree, &layers.filtered, node, wanted).contains(&true),
-        Form::Lanes => { !check_path(tree, &layers.lanes, &layers.domain, node, wanted).is_empty() }
+        Form::Plain => refusing(lanes.tree, &layers.plain, node, wanted).contains(&true),
+        Form::Filtered => refusing(lanes.tree, &layers.filtered, node, wanted).contains(&true),
+        Form::Lanes => {
+            !check_path(lanes.tree, &lanes.layers, &lanes.domain, node, wanted).is_empty()
+        }
     }
 }
 
 /// Checks all objects again and again.
-fn checked<R: Clock>(
-    rt: &R,
-    form: Form,
-    tree: &Tree,
-    layers: &Layers,
-    nodes: &[NodeId],
-) -> Result<Taken>
-    requires nodes { All (IsNode tree.now) nodes.now }
-    requires rules { All (AreInTree tree.now) layers.now.lanes.items }
-    requires domain { IsDomainOf layers.now.lanes.items layers.now.domain }
+fn checked<R: Clock>(rt: &R, form: Form, layers: &Layers<'_>, nodes: &[NodeId]) -> Result<Taken>
+    requires { All (IsNode layers.now.lanes.tree.now) nodes.now }
 {
     let start = Instant::now(rt)?;
     let mut refused = 0u64;
     for _ in 0..ROUNDS {
         for node in nodes {
-            if is_refused(form, tree, layers, *node) {
+            if is_refused(form, layers, *node) {
                 refused = refused.wrapping_add(1);
             }
         }
@@ -84,18 +76,15 @@ fn checked<R: Clock>(
 /// Measures a number of layers at a depth, and prints a line.
 fn line<R: Clock + Print + AllocGlobal>(
     rt: &R,
-    tree: &Tree,
-    layers: &Layers,
+    layers: &Layers<'_>,
     nodes: &[NodeId],
     what: &str,
 ) -> Result<()>
-    requires nodes { All (IsNode tree.now) nodes.now }
-    requires rules { All (AreInTree tree.now) layers.now.lanes.items }
-    requires domain { IsDomainOf layers.now.lanes.items layers.now.domain }
+    requires { All (IsNode layers.now.lanes.tree.now) nodes.now }
 {
-    let first = checked(rt, Form::Plain, tree, layers, nodes)?;
-    let second = checked(rt, Form::Filtered, tree, layers, nodes)?;
-    let third = checked(rt, Form::Lanes, tree, layers, nodes)?;
+    let first = checked(rt, Form::Plain, layers, nodes)?;
+    let second = checked(rt, Form::Filtered, layers, nodes)?;
+    let third = checked(rt, Form::Lanes, layers, nodes)?;
     if first.refused != third.refused || second.refused != third.refused {
         return None.context("the answers are the same");
     }
@@ -103,12 +92,9 @@ fn line<R: Clock + Print + AllocGlobal>(
     let mut filtered = second.time;
     let mut lanes = third.time;
     for _ in 0..RUNS {
-        plain = quicker(plain, checked(rt, Form::Plain, tree, layers, nodes)?.time);
-        filtered = quicker(
-            filtered,
-            checked(rt, Form::Filtered, tree, layers, nodes)?.time,
-        );
-        lanes = quicker(lanes, checked(rt, Form::Lanes, tree, layers, nodes)?.time);
+        plain = quicker(plain, checked(rt, Form::Plain, layers, nodes)?.time);
+        filtered = quicker(filtered, checked(rt, Form::Filtered, layers, nodes)?.time);
+        lanes = quicker(lanes, checked(rt, Form::Lanes, layers, nodes)?.time);
     }
     let checks = ROUNDS * 8;
     let (plain, filtered, lanes) = (
@@ -134,9 +120,9 @@ pub(crate) fn measure<R: Clock + Print + AllocGlobal>(rt: &R) -> Result<()> {
         for count in [1, 6, 16] {
             let layers = layers_of(alloc, &tree, count, granting)?;
             for depth in [3, 10, 40] {
-                let nodes = objects_at(alloc, &tree, depth)?;
+                let nodes = objects_at(alloc, layers.lanes.tree, depth)?;
                 let what = format!(in alloc; "{answer} {count:>6} {depth:>5}")?;
-                line(rt, &tree, &layers, &nodes, &what)?;
+                line(rt, &layers, &nodes, &what)?;
             }
         }
     }

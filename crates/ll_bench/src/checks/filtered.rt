@@ -53,6 +53,7 @@ impl FilteredLayer {
 }
 
 impl Refuses for FilteredLayer {
+    #[tactic(auto, using(ll_rules::proofs::Climbs::nodes_above))]
     fn refuses(&self, tree: &Tree, node: NodeId, wanted: Fs) -> bool {
         let mut lacking = wanted.intersection(self.files);
         let mut cursor = Some(node);

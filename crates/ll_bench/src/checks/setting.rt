@@ -2,14 +2,12 @@
 
 ghost use Rattle.std.specs.Prelude.{All, IfOk};
 ghost use Rattle.ll_tree.specs.Trees.{IsNode};
-ghost use Rattle.ll_rules.specs.{InTree.AreInTree, KeptLayers.IsDomainOf};
 
 use crate::checks::filtered::FilteredLayer;
 use anyhow::{Context, Result};
 use bitflags::Flags;
-use ll_fixtures::{PlainLayer, stacked};
-use ll_rights::{Abi, Fs, Net};
-use ll_rules::{Domain, Layer, Ruleset};
+use ll_fixtures::{PlainLayer, Sandbox};
+use ll_rights::{Fs, Net};
 use ll_tree::{NodeId, Place, Tree};
 use std::alloc::Global;
 
@@ -58,43 +56,52 @@ pub(crate) fn deep_tree(alloc: Global) -> Result<Tree> {
         .context("the tree reads")
 }
 
+/// The node of an object of the tree.
+fn node_named(tree: &Tree, path: &str) -> Result<NodeId>
+    ensures { IfOk result (IsNode tree.now) }
+{
+    match tree.resolve(path) {
+        Place::Node(node) => Ok(node),
+        _ => None.context("the object is in the tree"),
+    }
+}
+
 /// The objects at a depth.
 pub(crate) fn objects_at(alloc: Global, tree: &Tree, depth: u32) -> Result<Vec<NodeId>>
     ensures { IfOk result (λ nodes. All (IsNode tree.now) nodes.items) }
 {
-    let mut nodes = Vec::new(alloc);
     let way = way_down(alloc, depth.saturating_sub(1))?;
-    for number in 0..OBJECTS {
-        let path = format!(in alloc; "{way}f{number}")?;
-        if let Place::Node(node) = tree.resolve(&path) {
-            nodes.push(node)?;
-        }
-    }
-    Ok(nodes)
+    (0..OBJECTS)
+        .map(
+            |number| -> Result<NodeId>
+                ensures { IfOk result (IsNode tree.entry.now) }
+            {
+                let path = format!(in alloc; "{way}f{number}")?;
+                node_named(tree, &path)
+            },
+        )
+        .try_collect(alloc)
 }
 
-/// Layers of the same rules in each form, and the domain that stacks them.
+/// Layers of the same rules in each form.
 #[derive(Drop)]
-pub(crate) struct Layers {
-    pub lanes: Vec<Layer>,
+pub(crate) struct Layers<'t> {
+    pub lanes: Sandbox<'t>,
     pub plain: Vec<PlainLayer>,
     pub filtered: Vec<FilteredLayer>,
-    pub domain: Domain,
 }
 
-/// One layer in each form: it handles every right, reads in half of the directories beside the way down, and
-/// where `granting` in the first directory of the way.
-#[tactic(auto, using(ll_rules::proofs::Adding::place_of_tree, ll_rules::proofs::Adding::no_rules_in_tree))]
-fn layer_of(
+/// Stacks one layer, and answers its other forms: it handles every right, reads in half of the directories beside the
+/// way down, and where `granting` in the first directory of the way.
+fn stack_one(
     alloc: Global,
-    tree: &Tree,
+    sandbox: &mut Sandbox<'_>,
     number: u32,
     granting: bool,
-) -> Result<(Layer, PlainLayer, FilteredLayer)>
-    ensures { IfOk result (λ forms. AreInTree tree.now forms.0) }
-{
+) -> Result<(PlainLayer, FilteredLayer)> {
     let handled = Fs::from_bits_retain(0xffff);
-    let mut rules = Ruleset::create(alloc, Abi::V5, handled, Net::NONE)
+    sandbox
+        .create(alloc, handled, Net::NONE)
         .ok()
         .context("the ruleset is created")?;
     let mut plain = PlainLayer::new(alloc, handled);
@@ -105,46 +112,46 @@ fn layer_of(
         } else {
             format!(in alloc; "/r{aside}")?
         };
-        let place = tree.resolve(&path);
         let is_wanted = if aside == ASIDE {
             granting
         } else {
             (aside ^ number) % 2 == 0
         };
         if is_wanted {
-            rules
-                .add_path(tree, place, Fs::READ_FILE)
+            let node = node_named(sandbox.tree, &path)?;
+            sandbox
+                .grant(node, Fs::READ_FILE)
                 .ok()
                 .context("the rule is added")?;
-            if let Place::Node(node) = place {
-                plain.grant(node, Fs::READ_FILE)?;
-                filtered.grant(node, Fs::READ_FILE)?;
-            }
+            plain.grant(node, Fs::READ_FILE)?;
+            filtered.grant(node, Fs::READ_FILE)?;
         }
     }
-    let layer = rules.freeze(alloc).ok().context("the layer is frozen")?;
-    Ok((layer, plain, filtered))
+    sandbox
+        .restrict(alloc)
+        .ok()
+        .context("the layer is stacked")?;
+    Ok((plain, filtered))
 }
 
 /// This many layers, at most sixteen.
-pub(crate) fn layers_of(alloc: Global, tree: &Tree, count: u32, granting: bool) -> Result<Layers>
-    ensures rules { IfOk result (λ layers. All (AreInTree tree.now) layers.lanes.items) }
-    ensures domain { IfOk result (λ layers. IsDomainOf layers.lanes.items layers.domain) }
-{
-    let mut lanes = Vec::new(alloc);
+pub(crate) fn layers_of<'t>(
+    alloc: Global,
+    tree: &'t Tree,
+    count: u32,
+    granting: bool,
+) -> Result<Layers<'t>> {
+    let mut lanes = Sandbox::new(alloc, tree);
     let mut plain = Vec::new(alloc);
     let mut filtered = Vec::new(alloc);
     for number in 0..count.min(16) {
-        let (layer, plain_layer, filtered_layer) = layer_of(alloc, tree, number, granting)?;
-        lanes.push(layer)?;
+        let (plain_layer, filtered_layer) = stack_one(alloc, &mut lanes, number, granting)?;
         plain.push(plain_layer)?;
         filtered.push(filtered_layer)?;
     }
-    let domain = stacked(&lanes).ok().context("the domain has room")?;
     Ok(Layers {
         lanes,
         plain,
         filtered,
-        domain,
     })
 }

@@ -105,14 +105,6 @@ fn reads_texts(members: &Members<'_>) -> bool {
         && net_of(members) == Err(Cause::Field)
 }
 
-#[test]
-fn members_of_a_line(rt: HostRuntime) -> Result<(), Fail> {
-    let mut scratch = Scratch::new(rt.alloc());
-    let members = read_members(MEMBERS, &mut scratch)?;
-    assert!(rt; reads_numbers(&members) && reads_truths(&members) && reads_texts(&members));
-    Ok(())
-}
-
 /// A line as a printer writes it.
 const PLAIN: &[u8] =
     b"{\"op\":\"a\",\"op\":\"\xc3\xa9\x7f\",\"nnp\":true,\"x\":[],\"fs\":[\"refer\",\"execute\"],\"net\":[],\"pid\":18446744073709551615,\"rs\":0,\"fd\":10,\"admin\":false}";
@@ -131,13 +123,16 @@ fn reads_plain_texts(members: &Members<'_>) -> bool {
         && net_of(members) == Ok(Net::NONE)
 }
 
+/// The second line is read with what the first left.
 #[test]
-fn members_of_a_plain_line(rt: HostRuntime) -> Result<(), Fail> {
+fn members_of_a_line(rt: HostRuntime) -> Result<(), Fail> {
     let mut scratch = Scratch::new(rt.alloc());
-    let members = read_members(PLAIN, &mut scratch)?;
+    let members = read_members(MEMBERS, &mut scratch)?;
+    assert!(rt; reads_numbers(&members) && reads_truths(&members) && reads_texts(&members));
+    let plain = read_members(PLAIN, &mut scratch)?;
     assert!(rt;
-        truth_of(&members, Name::Nnp) == Ok(true) && flag_of(&members, Name::Admin) == Ok(false)
+        truth_of(&plain, Name::Nnp) == Ok(true) && flag_of(&plain, Name::Admin) == Ok(false)
     );
-    assert!(rt; reads_plain_numbers(&members) && reads_plain_texts(&members));
+    assert!(rt; reads_plain_numbers(&plain) && reads_plain_texts(&plain));
     Ok(())
 }

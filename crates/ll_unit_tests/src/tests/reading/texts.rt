@@ -146,6 +146,11 @@ fn longest_path_of_a_trace(rt: HostRuntime) -> Result<(), Fail> {
     Ok(())
 }
 
+/// The fault of a file whose line of this number is the first too many.
+fn too_many(line: u64) -> Option<(u64, Cause)> {
+    Some((line, Cause::TooMany))
+}
+
 /// The fault of a trace with so many records behind the first.
 fn fault_of_records<R: AllocGlobal + Threads + Sync>(
     rt: &R,
@@ -159,8 +164,7 @@ fn fault_of_records<R: AllocGlobal + Threads + Sync>(
 #[test]
 fn most_records_of_a_trace(rt: HostRuntime) -> Result<(), Fail> {
     assert!(rt; fault_of_records(&rt, 999_999)?.is_none());
-    let fault = fault_of_records(&rt, 1_000_000)?;
-    assert_eq!(rt; fault, Some((1_000_001, Cause::TooMany)));
+    assert_eq!(rt; fault_of_records(&rt, 1_000_000)?, too_many(1_000_001));
     Ok(())
 }
 
@@ -211,8 +215,7 @@ fn fault_of_objects<R: AllocGlobal + Threads + Sync>(
 #[test]
 fn most_objects_of_a_tree(rt: HostRuntime) -> Result<(), Fail> {
     assert!(rt; fault_of_objects(&rt, 65_535)?.is_none());
-    let fault = fault_of_objects(&rt, 65_536)?;
-    assert_eq!(rt; fault, Some((65_536, Cause::TooMany)));
+    assert_eq!(rt; fault_of_objects(&rt, 65_536)?, too_many(65_536));
     Ok(())
 }
 

@@ -188,33 +188,50 @@ fn lines_of_a_trace(rt: HostRuntime) {
     }
 }
 
-/// What follows `"fs":` in a line that creates a ruleset, and the fault of the line.
-const LISTS: [(&[u8], Option<Cause>); 16] = [
-    (b"[]}", None),
-    (b"[\"refer\",\"refer\",\"execute\"]}", None),
-    (b"[\"\\u0072efer\"]}", None),
-    (b"[\"nosuch\",\"\"]}", None),
-    (b"\"refer\"}", Some(Cause::Field)),
-    (b"null}", Some(Cause::Field)),
-    (b"{\"refer\":true}}", Some(Cause::Field)),
-    (b"[\"refer\",1]}", Some(Cause::Field)),
-    (b"[null]}", Some(Cause::Field)),
-    (b"[[\"refer\"]]}", Some(Cause::Field)),
-    // the last of two lists counts
-    (b"[1],\"fs\":[\"refer\"]}", None),
-    (b"[\"refer\"],\"fs\":[1]}", Some(Cause::Field)),
-    (b"[\"refer\",1e400]}", Some(Cause::Json)),
-    (b"[\"refer\",]}", Some(Cause::Json)),
-    (b"[\"refer\"}", Some(Cause::Json)),
-    (b"[\"\xff\"]}", Some(Cause::Json)),
+/// What follows `"fs":` in lines that create a ruleset, by the fault of the line.
+const LISTS: [(Option<Cause>, &[&[u8]]); 3] = [
+    (
+        None,
+        &[
+            b"[]}",
+            b"[\"refer\",\"refer\",\"execute\"]}",
+            b"[\"\\u0072efer\"]}",
+            b"[\"nosuch\",\"\"]}",
+            // the last of two lists counts
+            b"[1],\"fs\":[\"refer\"]}",
+        ],
+    ),
+    (
+        Some(Cause::Field),
+        &[
+            b"\"refer\"}",
+            b"null}",
+            b"{\"refer\":true}}",
+            b"[\"refer\",1]}",
+            b"[null]}",
+            b"[[\"refer\"]]}",
+            b"[\"refer\"],\"fs\":[1]}",
+        ],
+    ),
+    (
+        Some(Cause::Json),
+        &[
+            b"[\"refer\",1e400]}",
+            b"[\"refer\",]}",
+            b"[\"refer\"}",
+            b"[\"\xff\"]}",
+        ],
+    ),
 ];
 
 #[test]
 fn lists_of_rights(rt: HostRuntime) -> Result<(), Fail> {
     let front = "{\"op\":\"start\",\"pid\":1}\n{\"op\":\"create\",\"pid\":1,\"rs\":3,\"fs\":";
-    for (row, (end, cause)) in LISTS.iter().enumerate() {
-        let fault = fault_of_end(&rt, Format::Trace(1), front, end)?;
-        assert_eq!(rt; fault, cause.map(|cause| (2, cause)), "{row}");
+    for (cause, ends) in LISTS {
+        for (row, end) in ends.iter().enumerate() {
+            let fault = fault_of_end(&rt, Format::Trace(1), front, end)?;
+            assert_eq!(rt; fault, cause.map(|cause| (2, cause)), "{row}");
+        }
     }
     Ok(())
 }

@@ -1,22 +1,20 @@
 //! The checks by lanes against the plain ones, over a table of domains, nodes and sets.
 
-ghost use Rattle.std.specs.Prelude.{All, IfOk};
+ghost use Rattle.std.specs.Prelude.{IfOk};
 ghost use Rattle.ll_tree.specs.Trees.{IsNode};
-ghost use Rattle.ll_rules.specs.InTree.{AreInTree, IsTargetIn};
-ghost use Rattle.ll_rules.specs.KeptLayers.{IsDomainOf};
+ghost use Rattle.ll_rules.specs.InTree.{IsTargetIn};
 
 use crate::tests::rules::numbers::Numbers;
-use crate::tests::rules::ready::{about_reading, frozen, grant_reading, node_named};
+use crate::tests::rules::ready::node_named;
 use bitflags::Flags;
-use ll_fixtures::{Attempt, Call, PlainLayer, Refusing, answer, refusing, stacked};
-use ll_rights::{Abi, Fs, Kind, Net};
+use ll_fixtures::{Attempt, Call, PlainLayer, Refusing, Sandbox, answer, refusing};
+use ll_rights::{Fs, Kind, Net};
 use ll_rules::{
-    Domain, Errno, How, Layer, LayerSet, Move, RuleFault, Ruleset, Target, Verdict, check_move,
-    check_move_counted, check_path, check_path_counted, entering, leaving,
+    Errno, How, LayerSet, Move, Target, Verdict, check_move, check_move_counted, check_path,
+    check_path_counted, entering, leaving,
 };
-use ll_tree::{NodeId, Place, Tree};
+use ll_tree::{NodeId, Tree};
 use std::alloc::{AllocError, Global};
-use std::slice;
 use std::test::Fail;
 
 /// How many numbers of nodes the filter of a layer tells apart: those that differ by a multiple share a mark.
@@ -80,102 +78,64 @@ fn picked(
     node_named(tree, path)
 }
 
-/// The rules of one layer in both forms, and the rights that it handles.
-#[derive(Drop)]
-struct Forms {
-    handled: Fs,
-    rules: Ruleset,
-    plain: PlainLayer,
+/// Grants rights on an object in both forms, and on one that is no directory what applies to it.
+fn grant(
+    sandbox: &mut Sandbox<'_>,
+    plain: &mut PlainLayer,
+    node: NodeId,
+    rights: Fs,
+) -> Result<(), Fail>
+    requires { IsNode sandbox.old.tree.now node }
+{
+    let granted = match sandbox.tree.kind(node) {
+        Kind::Dir => rights,
+        _ => rights.intersection(Fs::FILE),
+    };
+    if sandbox.grant(node, granted).is_ok() {
+        plain.grant(node, granted)?;
+    }
+    Ok(())
 }
 
-impl Forms {
-    #[tactic(auto, using(ll_rules::proofs::Adding::no_rules_in_tree))]
-    fn new(alloc: Global, tree: &Tree, handled: Fs) -> Result<Forms, Fail>
-        ensures { IfOk result (λ forms. AreInTree tree.now forms.rules) }
-    {
-        let _tree = tree;
-        Ok(Forms {
-            handled,
-            rules: Ruleset::create(alloc, Abi::V5, handled, Net::BIND_TCP)?,
-            plain: PlainLayer::new(alloc, handled),
-        })
-    }
-
-    /// Grants on a node what is handled of these rights, and on an object that is no directory what applies to it.
-    #[tactic(auto, using(ll_rules::proofs::Adding::place_of_tree))]
-    fn grant(&mut self, tree: &Tree, node: NodeId, rights: Fs) -> Result<(), Fail>
-        requires rules { AreInTree tree.now self.old.rules }
-        requires node { IsNode tree.now node }
-        ensures { AreInTree tree.now self.new.rules }
-    {
-        let wanted = rights.intersection(self.handled);
-        let granted = match tree.kind(node) {
-            Kind::Dir => wanted,
-            _ => wanted.intersection(Fs::FILE),
-        };
-        if self
-            .rules
-            .add_path(tree, Place::Node(node), granted)
-            .is_ok()
-        {
-            self.plain.grant(node, granted)?;
-        }
-        Ok(())
-    }
-
-    /// Adds rules by chance: half of them on objects with others in them.
-    fn fill(&mut self, tree: &Tree, paths: &[String], numbers: &mut Numbers) -> Result<(), Fail>
-        requires { AreInTree tree.now self.old.rules }
-        ensures { AreInTree tree.now self.new.rules }
-    {
-        for number in 0..TRIED {
-            let first = if number % 2 == 0 { PARENTS } else { OBJECTS };
-            let node = picked(tree, paths, first, numbers)?;
-            self.grant(tree, node, numbers.rights())?;
-        }
-        Ok(())
-    }
-}
-
-/// One layer in both forms, with the same rules by chance.
-fn layer_of(
+/// Stacks a layer with rules by chance, half of them on objects with others in them, and answers its plain form.
+fn stack_one(
     alloc: Global,
-    tree: &Tree,
+    sandbox: &mut Sandbox<'_>,
     paths: &[String],
     numbers: &mut Numbers,
-) -> Result<(Layer, PlainLayer), Fail>
-    ensures { IfOk result (λ both. AreInTree tree.now both.0) }
-{
-    let mut forms = Forms::new(alloc, tree, numbers.rights())?;
-    forms.fill(tree, paths, numbers)?;
-    let layer = frozen(alloc, tree, &forms.rules)?;
-    Ok((layer, forms.plain))
+) -> Result<PlainLayer, Fail> {
+    let handled = numbers.rights();
+    sandbox.create(alloc, handled, Net::BIND_TCP)?;
+    let mut plain = PlainLayer::new(alloc, handled);
+    for number in 0..TRIED {
+        let first = if number % 2 == 0 { PARENTS } else { OBJECTS };
+        let node = picked(sandbox.tree, paths, first, numbers)?;
+        let rights = numbers.rights().intersection(handled);
+        grant(sandbox, &mut plain, node, rights)?;
+    }
+    sandbox.restrict(alloc)?;
+    Ok(plain)
 }
 
-/// Layers in both forms.
+/// Layers in both forms, with the same rules.
 #[derive(Drop)]
-struct Both {
-    lanes: Vec<Layer>,
+struct Both<'t> {
+    lanes: Sandbox<'t>,
     plain: Vec<PlainLayer>,
 }
 
 /// This many layers, at most sixteen.
-#[tactic(auto, using(ll_fixtures::proofs::AddingLayers::layer_pushed))]
-fn layers_of(
+fn layers_of<'t>(
     alloc: Global,
-    tree: &Tree,
+    tree: &'t Tree,
     paths: &[String],
     count: u32,
     numbers: &mut Numbers,
-) -> Result<Both, Fail>
-    ensures { IfOk result (λ both. All (AreInTree tree.now) both.lanes.items) }
-{
-    let mut lanes = Vec::new(alloc);
+) -> Result<Both<'t>, Fail> {
+    let mut lanes = Sandbox::new(alloc, tree);
     let mut plain = Vec::new(alloc);
-    for number in 0..count.min(16) {
-        let (layer, plain_layer) = layer_of(alloc, tree, paths, numbers)?;
-        lanes.push(layer)?;
-        plain.push(plain_layer)?;
+    for _ in 0..count.min(16) {
+        plain.push(stack_one(alloc, &mut lanes, paths, numbers)?)?;
     }
     Ok(Both { lanes, plain })
 }
@@ -202,17 +162,22 @@ fn count_of(set: LayerSet) -> u64 {
 
 /// Whether both forms refuse the same on a path. Each layer is asked at most once on each node up to the root, and one
 /// that refuses was asked on all of them.
-fn paths_agree(tree: &Tree, both: &Both, domain: &Domain, node: NodeId, wanted: Fs) -> bool
-    requires rules { All (AreInTree tree.now) both.now.lanes.items }
-    requires domain { IsDomainOf both.now.lanes.items domain.now }
-    requires node { IsNode tree.now node }
+fn paths_agree(both: &Both<'_>, node: NodeId, wanted: Fs) -> bool
+    requires { IsNode both.now.lanes.tree.now node }
 {
-    let set = check_path(tree, &both.lanes, domain, node, wanted);
-    let (counted, look_ups) = check_path_counted(tree, &both.lanes, domain, node, wanted);
-    let nodes = u64::from(tree.depth(node)) + 1;
-    places_of(set) == refusing(tree, &both.plain, node, wanted)
+    let lanes = &both.lanes;
+    let set = check_path(lanes.tree, &lanes.layers, &lanes.domain, node, wanted);
+    let (counted, look_ups) = check_path_counted(
+        lanes.tree,
+        &lanes.layers,
+        &lanes.domain,
+        node,
+        wanted,
+    );
+    let nodes = u64::from(lanes.tree.depth(node)) + 1;
+    places_of(set) == refusing(lanes.tree, &both.plain, node, wanted)
         && counted == set
-        && look_ups <= nodes.saturating_mul(domain.layers().len() as u64)
+        && look_ups <= nodes.saturating_mul(lanes.domain.layers().len() as u64)
         && look_ups >= nodes.saturating_mul(count_of(set))
 }
 
@@ -253,46 +218,42 @@ fn plainly(verdict: Verdict) -> (Option<(Errno, Refusing)>, u64) {
 
 /// Whether both forms answer a move alike. Each layer is asked at most once on each node from either directory up to
 /// the root, and at most twice more; one that denies was asked on all nodes up from one of the two.
-fn moves_agree(tree: &Tree, both: &Both, domain: &Domain, attempt: &Attempt) -> bool
-    requires rules { All (AreInTree tree.now) both.now.lanes.items }
-    requires domain { IsDomainOf both.now.lanes.items domain.now }
-    requires moved { IsNode tree.now attempt.now.moved }
-    requires onto { IsNode tree.now attempt.now.onto }
+fn moves_agree(both: &Both<'_>, attempt: &Attempt) -> bool
+    requires moved { IsNode both.now.lanes.tree.now attempt.now.moved }
+    requires onto { IsNode both.now.lanes.tree.now attempt.now.onto }
 {
+    let lanes = &both.lanes;
+    let tree = lanes.tree;
     let asked = move_of(tree, attempt);
-    let verdict = check_move(tree, &both.lanes, domain, &asked);
-    let (counted, look_ups) = check_move_counted(tree, &both.lanes, domain, &asked);
-    let (lanes, denying) = plainly(verdict);
+    let verdict = check_move(tree, &lanes.layers, &lanes.domain, &asked);
+    let (counted, look_ups) = check_move_counted(tree, &lanes.layers, &lanes.domain, &asked);
+    let (refused, denying) = plainly(verdict);
     let from = u64::from(tree.depth(leaving(tree, &asked).directory)) + 1;
     let to = u64::from(tree.depth(entering(tree, &asked).directory)) + 1;
-    lanes == answer(tree, &both.plain, attempt)
+    refused == answer(tree, &both.plain, attempt)
         && counted == verdict
-        && look_ups <= (from + to + 2).saturating_mul(domain.layers().len() as u64)
+        && look_ups <= (from + to + 2).saturating_mul(lanes.domain.layers().len() as u64)
         && look_ups >= from.min(to).saturating_mul(denying)
 }
 
 /// Whether both forms answer each call that moves an object, by chance, alike.
 fn calls_agree(
-    tree: &Tree,
     paths: &[String],
-    both: &Both,
-    domain: &Domain,
+    both: &Both<'_>,
     moved: NodeId,
     numbers: &mut Numbers,
 ) -> Result<bool, Fail>
-    requires rules { All (AreInTree tree.now) both.now.lanes.items }
-    requires domain { IsDomainOf both.now.lanes.items domain.now }
-    requires moved { IsNode tree.now moved }
+    requires { IsNode both.now.lanes.tree.now moved }
 {
-    let object = picked(tree, paths, OBJECTS, numbers)?;
-    let directory = picked(tree, paths, PARENTS, numbers)?;
+    let object = picked(both.lanes.tree, paths, OBJECTS, numbers)?;
+    let directory = picked(both.lanes.tree, paths, PARENTS, numbers)?;
     for (call, onto) in [
         (Call::RenameToMissing, directory),
         (Call::RenameOnto, object),
         (Call::Exchange, object),
         (Call::Link, directory),
     ] {
-        if !moves_agree(tree, both, domain, &Attempt { call, moved, onto }) {
+        if !moves_agree(both, &Attempt { call, moved, onto }) {
             return Ok(false);
         }
     }
@@ -300,40 +261,22 @@ fn calls_agree(
 }
 
 /// Whether both forms agree on a path and on moves of an object, each by chance, as often as said.
-fn domain_agrees(
-    tree: &Tree,
+fn layers_agree(
     paths: &[String],
-    both: &Both,
-    domain: &Domain,
+    both: &Both<'_>,
     turns: u32,
     numbers: &mut Numbers,
-) -> Result<bool, Fail>
-    requires rules { All (AreInTree tree.now) both.now.lanes.items }
-    requires domain { IsDomainOf both.now.lanes.items domain.now }
-{
+) -> Result<bool, Fail> {
     for turn in 0..turns {
         let first = if turn % 2 == 0 { PARENTS } else { OBJECTS };
-        let moved = picked(tree, paths, first, numbers)?;
+        let moved = picked(both.lanes.tree, paths, first, numbers)?;
         let wanted = numbers.rights();
-        let is_alike = paths_agree(tree, both, domain, moved, wanted);
-        if !is_alike || !calls_agree(tree, paths, both, domain, moved, numbers)? {
+        let is_alike = paths_agree(both, moved, wanted);
+        if !is_alike || !calls_agree(paths, both, moved, numbers)? {
             return Ok(false);
         }
     }
     Ok(true)
-}
-
-/// Whether both forms agree under this many layers by chance.
-fn layers_agree(
-    alloc: Global,
-    tree: &Tree,
-    paths: &[String],
-    count: u32,
-    numbers: &mut Numbers,
-) -> Result<bool, Fail> {
-    let both = layers_of(alloc, tree, paths, count, numbers)?;
-    let domain = stacked(&both.lanes)?;
-    domain_agrees(tree, paths, &both, &domain, 60, numbers)
 }
 
 #[test]
@@ -343,68 +286,46 @@ fn lanes_and_plain_layers(rt: HostRuntime) -> Result<(), Fail> {
     let tree = tree_of(alloc, &paths)?;
     let mut numbers = Numbers { last: 1 };
     for round in 0..34u32 {
-        assert!(rt;
-            layers_agree(alloc, &tree, &paths, round % 17, &mut numbers)?,
-            "{round}"
-        );
-    }
-    Ok(())
-}
-
-/// Grants reading on some objects.
-fn grant_on(rules: &mut Ruleset, tree: &Tree, paths: &[String]) -> Result<(), RuleFault>
-    requires { AreInTree tree.now rules.old }
-    ensures { AreInTree tree.now rules.new }
-{
-    for path in paths {
-        grant_reading(rules, tree, path)?;
+        let both = layers_of(alloc, &tree, &paths, round % 17, &mut numbers)?;
+        assert!(rt; layers_agree(&paths, &both, 60, &mut numbers)?, "{round}");
     }
     Ok(())
 }
 
 /// A layer with more rules than a filter marks apart from these: it grants reading on some objects alone.
-fn granting(alloc: Global, tree: &Tree, paths: &[String]) -> Result<Layer, Fail>
-    ensures { IfOk result (AreInTree tree.now) }
-{
-    let mut rules = about_reading(alloc, tree)?;
-    grant_on(&mut rules, tree, paths)?;
-    frozen(alloc, tree, &rules)
+fn granting<'t>(alloc: Global, tree: &'t Tree, paths: &[String]) -> Result<Sandbox<'t>, Fail> {
+    let mut sandbox = Sandbox::new(alloc, tree);
+    sandbox.create(alloc, Fs::READ_FILE, Net::NONE)?;
+    for path in paths {
+        let node = node_named(sandbox.tree, path)?;
+        sandbox.grant(node, Fs::READ_FILE)?;
+    }
+    sandbox.restrict(alloc)?;
+    Ok(sandbox)
 }
 
-/// Whether the first of two nodes that share a mark may be read, and the other not.
-fn is_granted_alone(
-    tree: &Tree,
-    layers: &[Layer],
-    domain: &Domain,
-    path: &str,
-    other: &str,
-) -> Result<bool, Fail>
-    requires rules { All (AreInTree tree.now) layers.now }
-    requires domain { IsDomainOf layers.now domain.now }
+/// Whether a layer refuses reading on a node.
+fn refuses_reading(sandbox: &Sandbox<'_>, node: NodeId) -> bool
+    requires { IsNode sandbox.now.tree.now node }
 {
-    let node = node_named(tree, path)?;
-    let sharing = node_named(tree, other)?;
-    let marks = MARKS as u32;
-    Ok(
-        node.index() % marks == sharing.index() % marks
-            && check_path(tree, layers, domain, node, Fs::READ_FILE).is_empty()
-            && !check_path(tree, layers, domain, sharing, Fs::READ_FILE).is_empty(),
-    )
+    let wanted = Fs::READ_FILE;
+    !check_path(sandbox.tree, &sandbox.layers, &sandbox.domain, node, wanted).is_empty()
 }
 
 /// Whether a layer grants reading on objects alone, and not on others that share their marks.
 fn are_granted_alone(
-    tree: &Tree,
-    layer: &Layer,
+    sandbox: &Sandbox<'_>,
     paths: &[String],
     others: &[String],
-) -> Result<bool, Fail>
-    requires { AreInTree tree.now layer.now }
-{
-    let layers = slice::from_ref(layer);
-    let domain = stacked(layers)?;
+) -> Result<bool, Fail> {
+    let marks = MARKS as u32;
     for (path, other) in paths.iter().zip(others) {
-        if !is_granted_alone(tree, layers, &domain, path, other)? {
+        let node = node_named(sandbox.tree, path)?;
+        let sharing = node_named(sandbox.tree, other)?;
+        if node.index() % marks != sharing.index() % marks
+            || refuses_reading(sandbox, node)
+            || !refuses_reading(sandbox, sharing)
+        {
             return Ok(false);
         }
     }
@@ -419,8 +340,8 @@ fn are_told_apart(alloc: Global, paths: &[String]) -> Result<bool, Fail> {
         .get(MARKS + 1..MARKS + 129)
         .ok_or("there are so many nodes")?;
     let tree = tree_of(alloc, paths)?;
-    let layer = granting(alloc, &tree, granted)?;
-    are_granted_alone(&tree, &layer, granted, others)
+    let sandbox = granting(alloc, &tree, granted)?;
+    are_granted_alone(&sandbox, granted, others)
 }
 
 #[test]

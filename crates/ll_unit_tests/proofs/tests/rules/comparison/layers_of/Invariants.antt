@@ -1,6 +1,0 @@
-use Rattle.std.specs.Prelude.{All}
-use Rattle.ll_rules.specs.InTree.{AreInTree}
-use Rattle.ll_unit_tests.proofs.tests.rules.comparison.layers_of.Given as goal
-
-abbrev pub invariant-loop-number : goal.invariant-loop-number
-invariant-loop-number l = All (AreInTree l.tree) l.lanes.items
