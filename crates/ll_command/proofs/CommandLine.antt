@@ -1,16 +1,12 @@
 -- What the words of a command line come to.
-use Rattle.std.proofs.Common.{◌≡◌, ◌∙◌, ℕ, Bool, true, false, List, [], ◌∷◌, Option, Some, None, Result, Ok, Err, MatchResult, refl, ap, sym, subst, inl, inr}
-use Rattle.std.proofs.Common.{arith}
-use Rattle.std.specs.Prelude.{IfOk}
+use Rattle.std.proofs.Common.{◌≡◌, ◌∙◌, ℕ, Bool, true, false, List, [], ◌∷◌, Option, Some, None, Result, Ok, Err, refl, ap, sym, subst, inl, inr, arith}
 use Rattle.std.specs.Str.Parse.{ParsesUnsigned}
 use Rattle.clap.specs.declared.builder.value_parser.ValueParser.TheVariants.{Unsigned}
 use Rattle.clap.specs.declared.error.Error.{Error}
 use Rattle.clap.specs.declared.error.kind.ErrorKind.{ErrorKind}
-use Rattle.clap.specs.declared.parser.matches.ArgMatches.{ArgMatches}
 use Rattle.clap.specs.Matches.{ReadsOne}
 use Rattle.clap.specs.ValueTests.{is_unsigned_in}
-use Rattle.clap.specs.Words.{App, FailsBy, HasKind, HasMatchesOf, IsAmong, Kinds, Row, Text, fault_of, found_of, is_simple, is_simple_and_free, kind_of}
-use Rattle.clap.specs.Words.{matches_of, rows_of}
+use Rattle.clap.specs.Words.{HasKind, IsAmong, Kinds, Row, Text, fault_of, is_simple, is_simple_and_free, kind_of, matches_of}
 use Rattle.clap.proofs.OnLiterals.{clap_on_literals}
 use Rattle.clap.proofs.WalkLemmas.{first_value-rows}
 use Rattle.clap.proofs.ValueTestLemmas.{accepts-Accepts, Accepts-accepts}
@@ -42,11 +38,11 @@ number_in-read E G text read reads only = by_test (is_unsigned_in 0 184467440737
         cc
     by_test false fails None h = rw fails refl
 
-is_simple-command : is_simple command ≡ true
+pub is_simple-command : is_simple command ≡ true
 unfolding clap_on_literals command
 is_simple-command = refl
 
-is_free-command : is_simple_and_free command ≡ true
+pub is_free-command : is_simple_and_free command ≡ true
 unfolding clap_on_literals command
 is_free-command = refl
 
@@ -59,26 +55,9 @@ among_faults words kind among = of_kinds (fault_of command words) (is_misuse (ma
     of_kinds [] misused h = elim h [ ]
     of_kinds (k ∷ ks) misused h = h
 
-has_kind : (words : List Text) (error : Error) → HasKind (fault_of command words) error → HasKind (faults words) error
+pub has_kind : (words : List Text) (error : Error) → HasKind (fault_of command words) error → HasKind (faults words) error
 has_kind words error (inl memory) = inl memory
 has_kind words error (inr among) = inr (among_faults words (kind_of error) among)
-
--- a parse of the command answers by the words alone
-pub parse_by_words : (app : App) (words : List Text) (parsed : Result ArgMatches Error) → app ≡ command
-    → (is_simple_and_free app ≡ true → FailsBy (fault_of app words) parsed) → IfOk parsed (HasMatchesOf app words)
-    → MatchResult parsed (λ m. (fault_of command words ≡ []) × (rows_of (found_of m) ≡ matches_of command words)) (HasKind (faults words))
-parse_by_words app words (Ok m) same kinds found = (
-  kinds_of (ap is_simple_and_free same ∙ is_free-command),
-  (matches (ap is_simple same ∙ is_simple-command)).0,
-)
-  where
-    kinds_of : is_simple_and_free app ≡ true → fault_of command words ≡ []
-    kinds_of free = subst (λ (a : App). fault_of a words ≡ []) same (kinds free)
-
-    matches : is_simple app ≡ true → (rows_of (found_of m) ≡ matches_of command words) × (Unit {0})
-    matches simple = (subst (λ (a : App). rows_of (found_of m) ≡ matches_of a words) same (found simple).0, tt)
-parse_by_words app words (Err e) same kinds found =
-    has_kind words e (subst (λ (a : App). HasKind (fault_of a words) e) same (kinds (ap is_simple_and_free same ∙ is_free-command)))
 
 -- what the words ask for is what their matches ask for, where nothing is wrong
 pub request_of-matches : (words : List Text) (rows : List Row) → faults words ≡ [] → rows ≡ matches_of command words

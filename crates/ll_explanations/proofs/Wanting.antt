@@ -1,12 +1,10 @@
--- A call wants something at its first path, and that path's place is the call's first place.
+-- A call that wants something wants it at its first path.
 use Rattle.std.proofs.Common.{◌≡◌, ◌∙◌, ℕ, List, [], Option, Some, None, sym, ap}
-use Rattle.std.specs.Prelude.{IfSome, option_map}
+use Rattle.std.specs.Prelude.{option_map}
 use Rattle.std.proofs.lemmas.Option.{none-some}
-use Rattle.ll_tree.specs.declared.place.Place.{Place}
 use Rattle.ll_tree.specs.Trees.{Entry, place}
 use Rattle.ll_trace.specs.declared.op.Op.{Op}
 use Rattle.ll_trace.specs.declared.op.Op.TheVariants as calls
-use Rattle.ll_trace.specs.FirstPlaces.{first_place}
 use Rattle.ll_trace.specs.Operations.{paths_of}
 use Rattle.ll_semantics.specs.declared.request.Wanted.{Wanted}
 use Rattle.ll_semantics.specs.Requests.{wanted}
@@ -39,13 +37,3 @@ module _ (path : List ℕ) (want : Wanted) where
   unmet_wanted tree op is =
       ap (λ (text : List ℕ). Some (unmet tree (spelt text) (place tree text) want)) (first_path op is)
       ∙ ap (option_map (λ (w : List ℕ × Wanted). unmet tree (spelt w.0) (place tree w.0) w.1)) is
-
-  first_named : (tree : List Entry) (op : Op) → Some given ≡ wanted op → first_place tree op ≡ place tree (text_named op First)
-  unfolding wanted first_place text_named paths_of
-  first_named tree (calls.AddPath rs path fs) is = absurd (none-some given (sym is))
-  first_named tree op is = cc
-
-  pub known_wanted : (tree : List Entry) (op : Op) (known : Option Place) → Some given ≡ wanted op
-      → IfSome known (λ one. one ≡ first_place tree op) → IfSome known (λ one. one ≡ place tree (text_named op First))
-  known_wanted tree op None is first = tt
-  known_wanted tree op (Some one) is first = first ∙ first_named tree op is

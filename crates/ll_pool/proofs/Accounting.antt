@@ -3,7 +3,7 @@ use Rattle.std.proofs.Common.{◌≡◌, ℕ, ◌+◌, ◌<◌, List, [], ◌∷
 use Rattle.std.specs.Prelude.{sum_by}
 use Rattle.std.specs.List.{All}
 use Rattle.std.proofs.lemmas.List.Sums.{sum_by-append, sum_by-cons, sum_by_push}
-use Rattle.std.proofs.lemmas.List.Elements.{All-push, All-append, All-same, All-head, All-tail}
+use Rattle.std.proofs.lemmas.List.Elements.{All-push, All-append, All-head, All-tail}
 use Rattle.std.proofs.lemmas.Grind.{flat_map-append}
 use Rattle.ll_process.specs.declared.job.Job.{Job}
 use Rattle.ll_process.specs.declared.piece.Piece.{Piece}
@@ -13,7 +13,7 @@ use Rattle.ll_process.specs.Jobs.{SharesOut, processes_of, AreJobsOf}
 use Rattle.ll_process.proofs.Descents.{weighed}
 use Rattle.ll_pool.specs.declared.queue.Ledger.{Ledger}
 use Rattle.ll_pool.specs.Gathered.{ArePiecesOf, processes_in}
-use Rattle.ll_pool.specs.Rule.{ledger, after_taking}
+use Rattle.ll_pool.specs.Rule.{after_taking}
 use Rattle.ll_pool.specs.Accounts.{OnlyGave, SeenTo, IsAccount}
 use Rattle.ll_pool.proofs.Sharing.{processes_in-push, no_processes, no_kids, kids-append}
 
@@ -69,7 +69,7 @@ unfolding processes_in
 processes_in-append xs ys = flat_map-append (λ (one : Piece). numbers one.processes.items) xs ys
 
 -- what another did, beside what was done
-seen_beside : (cv : CaseValue) (xs ys g h : List ℕ) (p q : List Piece) → ArePiecesOf cv q → SeenTo cv xs [] g [] p → SeenTo cv ys [] h [] q
+pub seen_beside : (cv : CaseValue) (xs ys g h : List ℕ) (p q : List Piece) → ArePiecesOf cv q → SeenTo cv xs [] g [] p → SeenTo cv ys [] h [] q
     → SeenTo cv (xs ++ ys) [] (g ++ h) [] (p ++ q)
 seen_beside cv xs ys g h p q theirs one two = record {
   pieces_of = λ none. All-append (λ (x : Piece). x.case.now ≡ cv) p q (one.pieces_of none) theirs;
@@ -111,30 +111,6 @@ account_more cv roots p v took w before after is gave seen so_far = record {
       ))
       (seen_on cv (roots ++ v.taken) (p ∷ []) [] v.given w.given [] before after so_far.seen
       (subst (λ (g : List ℕ). SeenTo cv (p ∷ []) g w.given before after) (ap (λ (u : Ledger). u.given) is) seen));
-}
-
--- what a worker did goes to what the caller did
-pub account_joined : (cv : CaseValue) (roots : List ℕ) (v u w : Ledger) (mine theirs all : List Piece)
-    → w ≡ ledger v.case (v.parts + u.parts) (v.given ++ u.given) (v.taken ++ u.taken) → all ≡ mine ++ theirs
-    → IsAccount cv [] u theirs → IsAccount cv roots v mine → IsAccount cv roots w all
-account_joined cv roots v u w mine theirs all is are worked so_far = record {
-  its_case = ap (λ (x : Ledger). x.case) is ∙ so_far.its_case;
-  pieces_of = All-same (λ (x : Piece). x.case.now ≡ cv) all (mine ++ theirs) are
-      (All-append (λ (x : Piece). x.case.now ≡ cv) mine theirs so_far.pieces_of worked.pieces_of);
-  seen =
-      subst (λ (xs : List Piece). SeenTo cv (roots ++ w.taken) [] w.given [] xs) (sym are)
-      (subst (λ (g : List ℕ). SeenTo cv (roots ++ w.taken) [] g [] (mine ++ theirs)) (sym (ap (λ (x : Ledger). x.given) is))
-      (seen_alike cv ((roots ++ v.taken) ++ u.taken) (roots ++ w.taken) [] (v.given ++ u.given) [] (mine ++ theirs)
-      (λ weight.
-      omega (
-        arith,
-        sum_by-append weight (roots ++ v.taken) u.taken,
-        sum_by-append weight roots v.taken,
-        sum_by-append weight roots w.taken,
-        ap (λ (x : Ledger). sum_by weight x.taken) is,
-        sum_by-append weight v.taken u.taken,
-      ))
-      (seen_beside cv (roots ++ v.taken) u.taken v.given u.given mine theirs worked.pieces_of so_far.seen worked.seen)));
 }
 
 -- where all that was given was taken, the processes judged are the roots with the children of all of them

@@ -1,4 +1,4 @@
--- The pass over all records: what holds before the first one, and after one more.
+-- The pass over all records, after one more.
 use Rattle.std.proofs.Common.{◌≡◌, ℕ, ◌+◌, ◌<◌, List, [], ◌∷◌, ◌++◌, length, false, Option, Some, None, get_or, refl, sym, ◌∙◌, ap, arith, inl, inr}
 use Rattle.std.proofs.Common.{length-append}
 use Rattle.std.specs.List.{slice_get}
@@ -17,34 +17,16 @@ use Rattle.ll_trace.specs.Entries.{is_start}
 use Rattle.ll_trace.specs.RecordFacts.{AreRecords}
 use Rattle.ll_semantics.specs.declared.ruleset_outcome.RulesetOutcome.{RulesetOutcome}
 use Rattle.ll_semantics.specs.declared.ruleset_outcome.RulesetOutcome.TheVariants.{Answered, Frozen, ByState}
-use Rattle.ll_semantics.specs.States.{Layer, fresh}
-use Rattle.ll_semantics.specs.CallContexts.{answer_to, world_after, world_at}
+use Rattle.ll_semantics.specs.States.{Layer}
+use Rattle.ll_semantics.specs.CallContexts.{answer_to, world_at}
 use Rattle.ll_semantics.specs.RulesetOutcomes.{OutcomeFits, IsFrozen, enforced}
 use Rattle.ll_semantics.specs.Worlds.{World, step}
 use Rattle.ll_rulebook.specs.declared.pass.Pass.{Pass}
-use Rattle.ll_rulebook.specs.Stores.{held_by, Extends}
+use Rattle.ll_rulebook.specs.Stores.{Extends}
 use Rattle.ll_rulebook.specs.Settled.{met_by}
 use Rattle.ll_rulebook.specs.Passes.{Settles, HasSettled}
 use Rattle.ll_trace.proofs.Numbers.{slice_get-push}
 use Rattle.ll_semantics.proofs.Steps.{count-world_at, world_at-more}
-
--- before the first record
-pub settled_none : (tree : List Entry) (abi : Abi) (records : List Record) (pass : Pass) → pass.tree.now ≡ tree → pass.abi ≡ abi →
-    pass.store.rulesets ≡ [] → pass.store.layers ≡ [] → pass.tables.held.items ≡ [] → HasSettled tree abi records 0 pass []
-unfolding held_by world_at world_after fresh
-settled_none tree abi records pass of_tree of_abi rulesets layers tables = record {
-  of_tree = of_tree;
-  of_abi = of_abi;
-  sound = record {
-    places = λ p q eq is. absurd (let none : held_by pass.tables.held.items p q ≡ None = rw tables refl in cc);
-    rulesets = rw rulesets (λ k default within. absurd (omega arith));
-    layers = rw layers (λ k default within. absurd (omega arith));
-  };
-  agrees = record { rulesets = rw rulesets tt; count = rw tables refl; held = λ p q. rw tables refl };
-  few = rw layers (omega arith);
-  counted = refl;
-  fits = λ k r outcome eq noted. absurd (cc);
-}
 
 frozen_stays : (tree : List Entry) (abi : Abi) (old new : List (RulesOn ℕ)) (world : World) (process : ℕ) (id : LayerId) (rules : Option Layer)
     → Extends old new →

@@ -87,16 +87,6 @@ nothing_granted here right = refl
 
 module _ (layers : List (RulesOn ℕ)) (ids : List LayerId) (row : List ℕ) (count : ℕ) (all : length ids ≤ count) (rest : (place : ℕ) → count ≤ place
     → get_or row place 0 ≡ 0) where
-  -- a row of what the layers handle, all places together
-  pub all_handled : ((place : ℕ) → place < count → (right : FsRight) → has (lane row place) right ≡ handles (layer_in (domain_of layers ids) place) right)
-      → (place : ℕ) (right : FsRight) → has (lane row place) right ≡ handles (layer_in (domain_of layers ids) place) right
-  all_handled so_far place right = elim (cases_lt place count) [
-    | inl inside ↦ so_far place inside right
-    | inr past ↦
-        nothing_in (get_or row place 0) right (rest place past)
-        ∙ sym (ap (λ (rules : RulesOn ℕ). handles rules right) (layer_in-past layers ids place (omega arith)) ∙ nothing_handled ℕ right)
-  ]
-
   -- a row of what the layers handle of some rights, all places together
   pub all_asked : (wanted : Fs) → ((place : ℕ) → place < count → (right : FsRight)
       → has (lane row place) right ≡ (handles (layer_in (domain_of layers ids) place) right && has wanted right))

@@ -7,7 +7,7 @@ use Rattle.std.proofs.lemmas.Bool.{cases_lt, lt-leb}
 use Rattle.std.proofs.lemmas.Nat.{and_le_r}
 use Rattle.std.proofs.lemmas.Nat.Bits.{bit_at_and, bit_at-lt, bit_at_ones}
 use Rattle.std.proofs.lemmas.List.{get_or-map, get_or_past, length-map}
-use Rattle.std.proofs.lemmas.Simd.{length-zip2, length-replicate, get_or-zip2, get_or-replicate, map-map, zip2_splat, bitmask_splat, bit_mask_l, mask_l-lt}
+use Rattle.std.proofs.lemmas.Simd.{length-zip2, get_or-zip2, map-map, zip2_splat, bitmask_splat, bit_mask_l, mask_l-lt}
 use lib.Lanes.{zip2, Each1, mask_l, top}
 use Rattle.ll_rights.specs.declared.fs.Fs.{Fs}
 use Rattle.ll_rights.specs.Bits.{has_place}
@@ -152,7 +152,7 @@ known_bits set w right same known = elim (cases_lt (bit_of right) (bit_of other)
 
 -- a row that is made lane by lane of two others
 module _ (f : ℕ → ℕ → ℕ) (xs ys : List ℕ) (whole : length xs ≡ MOST_LAYERS) (also : length ys ≡ MOST_LAYERS) (place : ℕ) (right : FsRight) (is : Bool) where
-  by_lane : (place < MOST_LAYERS → has (set_of (f (get_or xs place 0) (get_or ys place 0))) right ≡ is) → (MOST_LAYERS ≤ place → is ≡ false)
+  pub by_lane : (place < MOST_LAYERS → has (set_of (f (get_or xs place 0) (get_or ys place 0))) right ≡ is) → (MOST_LAYERS ≤ place → is ≡ false)
       → has (lane (zip2 f xs ys) place) right ≡ is
   by_lane inside past = elim (cases_lt place MOST_LAYERS) [
     | inl lt ↦ ap (λ (bits : ℕ). has (set_of bits) right) (get_or-zip2 f xs ys place 0 0 0 (omega arith) (omega arith)) ∙ inside lt
@@ -160,7 +160,7 @@ module _ (f : ℕ → ℕ → ℕ) (xs ys : List ℕ) (whole : length xs ≡ MOS
         ∙ sym (past le)
   ]
 
-nothing_past : (xs : List ℕ) (place : ℕ) (right : FsRight) → length xs ≡ MOST_LAYERS → MOST_LAYERS ≤ place → has (lane xs place) right ≡ false
+pub nothing_past : (xs : List ℕ) (place : ℕ) (right : FsRight) → length xs ≡ MOST_LAYERS → MOST_LAYERS ≤ place → has (lane xs place) right ≡ false
 nothing_past xs place right whole past = nothing_in (get_or xs place 0) right (get_or_past xs place 0 (omega arith))
 
 pub lanes_either : (xs ys : List ℕ) → AreLanes xs → AreLanes ys → (place : ℕ) (right : FsRight)
@@ -179,22 +179,6 @@ lanes_without xs gs whole also place right =
     rw (get_or-map (bit_not w32) gs place 0 0 (omega (arith, also.0)))
     (without_bits (get_or xs place 0) (get_or gs place 0) right (lane_fits xs place whole) (lane_fits gs place also)))
     (λ past. rw (nothing_past xs place right whole.0 past) refl)
-
-pub lanes_within : (xs : List ℕ) (w : ℕ) (set : Fs) → AreLanes xs → w < 2 ^ 32
-    → ((one : FsRight) → bit_of one < bit_of other → has (set_of w) one ≡ has set one)
-    → (place : ℕ) (right : FsRight) → has (lane (zip2 bit_and xs (replicate MOST_LAYERS w)) place) right ≡ (has (lane xs place) right && has set right)
-lanes_within xs w set whole fits same place right =
-    by_lane bit_and xs (replicate MOST_LAYERS w) whole.0 (length-replicate MOST_LAYERS w) place right (has (lane xs place) right && has set right)
-    (λ inside.
-    rw (get_or-replicate MOST_LAYERS place w 0 inside)
-    (both_bits (get_or xs place 0) w right fits ∙ alike_in_lane (get_or xs place 0) w set right (λ b. b) same))
-    (λ past. rw (nothing_past xs place right whole.0 past) refl)
-
-pub nothing_anywhere : (place : ℕ) (right : FsRight) → has (lane (replicate MOST_LAYERS 0) place) right ≡ false
-nothing_anywhere place right = elim (cases_lt place MOST_LAYERS) [
-  | inl inside ↦ nothing_in (get_or (replicate MOST_LAYERS 0) place 0) right (get_or-replicate MOST_LAYERS place 0 0 inside)
-  | inr past ↦ nothing_past (replicate MOST_LAYERS 0) place right (length-replicate {A = ℕ} MOST_LAYERS 0) past
-]
 
 -- ---- which lanes are filled
 

@@ -9,7 +9,7 @@ use Rattle.ll_trace.specs.declared.record.Record.{Record}
 use Rattle.ll_trace.specs.Entries.{Entry, entry_at, is_start_of, is_end_of, is_live, is_live_pid, is_unknown, is_twice, is_too_many, misplacement, started_pid}
 use Rattle.ll_trace.specs.Entries.{trace_file}
 use Rattle.ll_trace.specs.Records.{entry_of, records_after, IsTrace}
-use Rattle.ll_trace.specs.SingleUse.{is_used, is_used_pid, is_used_again, strict_misplacement, strict_file, IsStrictTrace}
+use Rattle.ll_trace.specs.SingleUse.{is_used, is_used_pid, is_used_again, strict_misplacement, strict_file}
 
 -- a live pid was used
 used-cases : (a b live used : Bool) → cond a true (cond b false live) ≡ true → (live ≡ true → used ≡ true) → (a || used) ≡ true
@@ -52,9 +52,6 @@ strict_is_good bytes entries good = record {
   faultless = λ before after line cut. faultless_line (entries_of trace_file before) (entry_at line) (good.faultless before after line cut);
   all = good.all;
 }
-
-pub trace_by_strict : (bytes : List ℕ) (records : List Record) → IsStrictTrace bytes records → IsTrace bytes records
-trace_by_strict bytes records strict = record { reads = strict_is_good bytes (map entry_of records) strict.reads; processes = strict.processes }
 
 -- the records of entries were read from just these
 entries_kept : (past entries : List Entry) → map entry_of (records_after past entries) ≡ entries

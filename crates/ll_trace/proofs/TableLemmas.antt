@@ -5,7 +5,7 @@ use Rattle.std.specs.Ordering.{nat_cmp}
 use Rattle.std.specs.Result.{MatchResult}
 use Rattle.std.specs.List.Sorted.{IsBinarySearchResult}
 use Rattle.std.proofs.lemmas.Bool.{cases_lt, eq-eqb, ne_eqb, eqb-true, eqb-false}
-use Rattle.std.proofs.lemmas.List.{get_or_append_left, get_or_at, length-append, get_or-set_same, get_or-set_other, get_or-map, map-set, append-nil, length-set}
+use Rattle.std.proofs.lemmas.List.{get_or_append_left, get_or_at, length-append, get_or-set_same, get_or-set_other, get_or-map, map-set, append-nil}
 use Rattle.std.proofs.lemmas.List.{length-take, take_more}
 use Rattle.std.proofs.lemmas.List.Sorted.{searched}
 use Rattle.std.proofs.lemmas.Option.{slice_get_within, slice_get_read}
@@ -32,7 +32,7 @@ still_started records it k p is =
 last_starts : (records : List Record) (it : Record) → is_starting it.op ≡ true → started_at (records ++ it ∷ []) (length records) ≡ Some (process_count records)
 last_starts records it kind = started_at-push records it (length records) ∙ rw (eq-eqb (length records) (length records) refl, kind) refl
 
-length-grown : {X : Type 0} (xs : List X) (b : Bool) (x : X) → length (xs ++ cond b (x ∷ []) []) ≡ length xs + cond b 1 0
+pub length-grown : {X : Type 0} (xs : List X) (b : Bool) (x : X) → length (xs ++ cond b (x ∷ []) []) ≡ length xs + cond b 1 0
 length-grown xs true x = length-append xs (x ∷ [])
 length-grown xs false x = length-append xs []
 
@@ -98,7 +98,7 @@ start_found starts records place found are search_is = told found (searched star
 -- ---- one record more in the tables
 
 -- an empty list more is no place more
-grown : (xs : List (List ℕ)) (b : Bool) (q : ℕ) → get_or (xs ++ cond b ([] ∷ []) []) q [] ≡ get_or xs q []
+pub grown : (xs : List (List ℕ)) (b : Bool) (q : ℕ) → get_or (xs ++ cond b ([] ∷ []) []) q [] ≡ get_or xs q []
 grown [] true zero = refl
 grown [] true (suc q) = refl
 grown [] false q = refl
@@ -108,11 +108,11 @@ grown (x ∷ xs) b (suc q) = grown xs b q
 list_at : (vecs : List (Vec ℕ Global)) (p : ℕ) (own : Vec ℕ Global) → p < length vecs → own ≡ get_or vecs p own → get_or (lists vecs) p [] ≡ own.items
 list_at vecs p own lt is = get_or-map (λ (v : Vec ℕ Global). v.items) vecs p own [] lt ∙ ap (λ (v : Vec ℕ Global). v.items) (sym is)
 
-length-lists : (vecs : List (Vec ℕ Global)) → length (lists vecs) ≡ length vecs
+pub length-lists : (vecs : List (Vec ℕ Global)) → length (lists vecs) ≡ length vecs
 length-lists [] = refl
 length-lists (v ∷ vecs) = ap (λ n. suc n) (length-lists vecs)
 
-pushed : (vecs : List (Vec ℕ Global)) (p q place : ℕ) (old new : Vec ℕ Global) (same : Bool) → eqb p q ≡ same → p < length vecs → old ≡ get_or vecs p old
+pub pushed : (vecs : List (Vec ℕ Global)) (p q place : ℕ) (old new : Vec ℕ Global) (same : Bool) → eqb p q ≡ same → p < length vecs → old ≡ get_or vecs p old
     → new.items ≡ old.items ++ place ∷ []
     → get_or (lists (set vecs p new)) q [] ≡ get_or (lists vecs) q [] ++ cond same (place ∷ []) []
 pushed vecs p q place old new true same lt is grows =
@@ -122,26 +122,6 @@ pushed vecs p q place old new true same lt is grows =
 pushed vecs p q place old new false same lt is grows =
     let there : q ≢ p = λ e. eqb-false p q same (sym e) in
     rw map-set (get_or-set_other (lists vecs) p q new.items [] there ∙ sym (append-nil (get_or (lists vecs) q [])))
-
-pub adds : (old new : Tables) (it : Record) (place : ℕ) (between : List (Vec ℕ Global)) (before after : Vec ℕ Global)
-    → new.parents.items ≡ old.parents.items ++ cond (is_starting it.op) (forked_by it.op it.process ∷ []) []
-    → lists between ≡ lists old.own.items ++ cond (is_starting it.op) ([] ∷ []) []
-    → new.starts.items ≡ old.starts.items ++ cond (is_starting it.op) (place ∷ []) []
-    → new.own.items ≡ set between it.process.0 after → before ≡ get_or between it.process.0 before → after.items ≡ before.items ++ place ∷ []
-    → it.process.0 < length old.own.items + cond (is_starting it.op) 1 0 → Adds old new it place
-adds old new it place between before after parents_are begun starts_are own_is before_is grows known =
-    let count : length between ≡ length old.own.items + cond (is_starting it.op) 1 0 =
-    sym (length-lists between) ∙ (ap length begun
-    ∙ (length-grown (lists old.own.items) (is_starting it.op) [] ∙ ap (λ n. n + cond (is_starting it.op) 1 0) (length-lists old.own.items))) in
-    let within : it.process.0 < length between = rw count known in
-    record {
-      by_process = parents_are;
-      size = ap length own_is ∙ (length-set between it.process.0 after ∙ count);
-      places = λ q. ap (λ (vs : List (Vec ℕ Global)). get_or (lists vs) q []) own_is
-          ∙ (pushed between it.process.0 q place before after (eqb it.process.0 q) refl within before_is grows
-          ∙ ap (λ ns. ns ++ cond (eqb it.process.0 q) (place ∷ []) []) (ap (λ ls. get_or ls q []) begun ∙ grown (lists old.own.items) (is_starting it.op) q));
-      by_start = starts_are;
-    }
 
 -- ---- one record more in the definitions
 

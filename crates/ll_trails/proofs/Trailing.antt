@@ -1,5 +1,5 @@
 -- The trails of processes after one record more.
-use Rattle.std.proofs.Common.{◌≡◌, ℕ, ◌<◌, List, [], ◌∷◌, ◌++◌, length, Bool, Some, refl, sym, subst, ◌∙◌, arith, inl, inr, length-append, length-set}
+use Rattle.std.proofs.Common.{◌≡◌, ℕ, ◌<◌, List, length, Bool, Some, refl, sym, subst, ◌∙◌, inl, inr, length-set}
 use Rattle.std.proofs.Math.ListN.{set}
 use Rattle.std.specs.List.{slice_get}
 use Rattle.std.proofs.lemmas.Bool.{cases_eq, eq-eqb, ne_eqb}
@@ -8,27 +8,9 @@ use Rattle.ll_trace.specs.declared.op.Op.TheVariants as calls
 use Rattle.ll_semantics.specs.declared.answer.Answer.{Answer}
 use Rattle.ll_semantics.specs.Worlds.{if_allowed}
 use Rattle.ll_rulebook.proofs.Frozen.{slice_get-set}
-use Rattle.ll_trace.proofs.Numbers.{slice_get-push}
-use Rattle.ll_reasons.specs.Origins.{Origins, Sources, with_origins, with_next, traced, sources_by}
+use Rattle.ll_reasons.specs.Origins.{Origins, Sources, with_origins, traced, sources_by}
 use Rattle.ll_trails.specs.declared.trail.ProcessOrigins.{ProcessOrigins}
 use Rattle.ll_trails.specs.TraceOrigins.{Follows, AreTrails}
-
--- one process more
-pub trails_begun : (trails : List ProcessOrigins) (trail : ProcessOrigins) (sources : Sources) (o : Origins) → AreTrails trails sources → Follows trail o
-    → AreTrails (trails ++ trail ∷ []) (with_next sources o)
-trails_begun trails trail sources o are follows = record {
-  count = simp length-append (omega (arith, are.count));
-  each = λ process one eq. elim (cases_eq process (length trails)) [
-    | inl last ↦
-        let here : slice_get (trails ++ trail ∷ []) process ≡ Some trail = rw (slice_get-push trails process trail, eq-eqb process (length trails) last) refl in
-        let it : trail ≡ one = cc in
-        rw (← it, eq-eqb process sources.count (last ∙ are.count)) follows
-    | inr earlier ↦
-        let before : slice_get (trails ++ trail ∷ []) process ≡ slice_get trails process =
-        rw (slice_get-push trails process trail, ne_eqb process (length trails) earlier) refl in
-        rw (ne_eqb process sources.count (λ same. earlier (same ∙ sym are.count))) (are.each process one (sym before ∙ eq))
-  ];
-}
 
 -- another trail of one process
 pub trails_changed : (trails : List ProcessOrigins) (process : ℕ) (trail : ProcessOrigins) (sources : Sources) (o : Origins) → process < length trails

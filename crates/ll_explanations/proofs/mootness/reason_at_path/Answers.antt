@@ -1,7 +1,31 @@
-use Rattle.std.proofs.Common.{◌≡◌, rules, Some}
+use Rattle.std.proofs.Common.{◌≡◌, ◌∙◌, ℕ, List, Option, Some, None, sym, rules}
+use Rattle.std.specs.Prelude.{IfSome}
+use Rattle.std.proofs.lemmas.Option.{none-some}
+use Rattle.ll_tree.specs.declared.place.Place.{Place}
+use Rattle.ll_tree.specs.Trees.{Entry, place}
+use Rattle.ll_trace.specs.declared.op.Op.{Op}
+use Rattle.ll_trace.specs.FirstPlaces.{first_place}
+use Rattle.ll_trace.specs.Operations.{paths_of}
+use Rattle.ll_semantics.specs.declared.request.Wanted.{Wanted}
 use Rattle.ll_semantics.specs.Requests.{wanted}
-use Rattle.ll_explanations.proofs.Wanting.{known_wanted}
+use Rattle.ll_reasons.specs.declared.why.Which.TheVariants.{First}
+use Rattle.ll_reasons.specs.Meant.{text_named}
+use Rattle.ll_trace.specs.declared.op.Op.TheVariants as calls
 use Rattle.ll_explanations.proofs.mootness.reason_at_path.Goals as goal
+
+module _ (path : List ℕ) (want : Wanted) where
+  abbrev given : List ℕ × Wanted
+  given = (path, want)
+
+  first_named : (tree : List Entry) (op : Op) → Some given ≡ wanted op → first_place tree op ≡ place tree (text_named op First)
+  unfolding wanted first_place text_named paths_of
+  first_named tree (calls.AddPath rs path fs) is = absurd (none-some given (sym is))
+  first_named tree op is = cc
+
+  known_wanted : (tree : List Entry) (op : Op) (known : Option Place) → Some given ≡ wanted op
+      → IfSome known (λ one. one ≡ first_place tree op) → IfSome known (λ one. one ≡ place tree (text_named op First))
+  known_wanted tree op None is first = tt
+  known_wanted tree op (Some one) is first = first ∙ first_named tree op is
 
 pub unmet-requires : goal.unmet-requires
 unmet-requires c =

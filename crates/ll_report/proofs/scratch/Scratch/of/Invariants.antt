@@ -4,6 +4,7 @@ use Rattle.ll_report.proofs.Suiting.{IsSuitedBefore}
 use Rattle.ll_report.proofs.scratch.Scratch.of.Given as goal
 
 abbrev pub invariant-loop-place : goal.invariant-loop-place
-invariant-loop-place g l =
-    (l.measure.room ≡ 0)
-    × IsSuitedBefore g.T.Telling.told l.explains l.tree l.records l.findings l.apart.items l.longest l.place
+invariant-loop-place g l = record {
+  empty : l.measure.room ≡ 0;
+  suited : IsSuitedBefore g.T.Telling.told l.explains l.tree l.records l.findings l.apart.items l.longest l.place;
+}

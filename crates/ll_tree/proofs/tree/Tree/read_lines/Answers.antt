@@ -10,4 +10,4 @@ pub returns-in-Err-clause-reading : goal.returns-in-Err-clause-reading
 returns-in-Err-clause-reading c =
     meets_fault tree_format (below_root c.loop-line.tree) c.loop-line.line-iterator (line_view c.in-Some.line) c.next.new.self c.in-Err.cause
     (reading tree_format c.args.bytes.now)
-    c.in-Some.ensures.steps c.loop-line.invariant.0 c.in-Err.ensures.line
+    c.in-Some.ensures.steps c.loop-line.invariant.reading c.in-Err.ensures.line

@@ -6,4 +6,7 @@ use Rattle.ll_tree.specs.TreeReading.{tree_format}
 use Rattle.ll_tree.proofs.tree.Tree.read_lines.Given as goal
 
 abbrev pub invariant-loop-line : goal.invariant-loop-line
-invariant-loop-line l = (read_lines tree_format (below_root l.tree) l.line-iterator ≡ reading tree_format l.bytes) × IsRooted l.tree
+invariant-loop-line l = record {
+  reading : read_lines tree_format (below_root l.tree) l.line-iterator ≡ reading tree_format l.bytes;
+  rooted : IsRooted l.tree;
+}
