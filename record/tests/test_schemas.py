@@ -88,9 +88,9 @@ call = "open r"
 path = "/usr"
 [[refused]]
 call = "rename"
-from = "/usr/x"
+from = "/usr/no-such-file-of-the-tests"
 kind = "reg"
-to = "/tmp/x"
+to = "/tmp/no-such-file-of-the-tests"
 [[refused]]
 call = "ftruncate"
 path = "/tmp/none"
