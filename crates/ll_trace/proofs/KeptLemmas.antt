@@ -4,7 +4,7 @@ use Rattle.std.specs.FinMap.{FinMap, empty, get, get-empty}
 use Rattle.std.specs.Ordering.{nat_cmp}
 use Rattle.ll_trace.specs.declared.op.Op.{Op}
 use Rattle.ll_trace.specs.declared.op.Op.TheVariants.{Exit}
-use Rattle.ll_trace.specs.declared.reader.Owner.{Owner}
+use Rattle.ll_trace.specs.declared.owners.Owner.{Owner}
 use Rattle.ll_trace.specs.declared.reader.Reader.{Reader}
 use Rattle.ll_trace.specs.Entries.{Entry, is_exit, pid_started, started_pid, is_start_of, is_end_of, is_live, process_named, process_count}
 use Rattle.ll_trace.specs.Kept.{number, owner_of, past, runs, stopped, IsKept, IsNoted, Begins, Stops}

@@ -12,3 +12,4 @@ pub mod SetLemmas
 pub mod BestEffort
 pub mod Versions
 pub mod SaidByName
+pub mod RecentOwners

@@ -3,7 +3,7 @@
 use Rattle.std.specs.Prelude.{◌≡◌, ℕ, ◌+◌, ◌==◌, Bool, true, false, List, [], ◌∷◌, map, reverse, Option, Some, None, option_map, if◌then◌else◌}
 use Rattle.std.specs.FinMap.{get}
 use Rattle.ll_trace.specs.declared.reader.Entry as declared
-use Rattle.ll_trace.specs.declared.reader.Owner.{Owner}
+use Rattle.ll_trace.specs.declared.owners.Owner.{Owner}
 use Rattle.ll_trace.specs.declared.reader.Reader.{Reader}
 use Rattle.ll_trace.specs.Entries.{Entry, is_start_of, is_end_of, process_count}
 use Rattle.ll_trace.specs.Records.{entry_of}

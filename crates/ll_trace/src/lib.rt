@@ -6,6 +6,7 @@ mod located;
 mod members;
 mod op;
 mod operations;
+mod owners;
 mod parts;
 mod path_text;
 mod reader;

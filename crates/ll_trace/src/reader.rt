@@ -10,13 +10,13 @@ ghost use Rattle.ll_trace.specs.Kept.{IsKept, IsNoted, Begins, Stops, entries, e
 
 use crate::op::Op;
 use crate::operations::operation_of;
+use crate::owners::{Owner, Owners};
 use crate::record::{ProcessId, Record};
 use json::Scratch;
 use ll_lines::blocks::LineBlock;
 use ll_lines::lines::{FileLine, FilledLines};
 use ll_lines::{Cause, ReadFault};
 use ll_members::{Name, number_of, read_members};
-use ll_shared::SharedMap;
 use std::alloc::Global;
 
 /// The most records of a trace.
@@ -33,18 +33,11 @@ pub(crate) struct Entry {
     op: Op,
 }
 
-/// The latest process of a pid.
-#[derive(Clone, Copy)]
-struct Owner {
-    process: ProcessId,
-    running: bool,
-}
-
 /// What is read so far.
 #[derive(Drop)]
 pub(crate) struct Reader {
     records: Vec<Record>,
-    owners: SharedMap<Owner>,
+    owners: Owners,
     processes: u32,
 }
 
@@ -93,7 +86,7 @@ impl Reader {
     {
         Reader {
             records: Vec::new(alloc),
-            owners: SharedMap::new(alloc),
+            owners: Owners::new(alloc),
             processes: 0,
         }
     }
@@ -109,7 +102,7 @@ impl Reader {
         requires { IsKept self.now }
         ensures { result ≡ owner_of (past self.now) pid }
     {
-        self.owners.get(pid).copied()
+        self.owners.get(pid)
     }
 
     #[tactic(auto, using(crate::proofs::KeptLemmas::is_running))]
@@ -237,7 +230,7 @@ impl Reader {
         ensures ok { OnOk result (Stops self.old self.new pid) }
         ensures err { IfErr result (λ cause. cause ≡ Memory) }
     {
-        if let Some(owner) = self.owners.get(pid).copied() {
+        if let Some(owner) = self.owners.get(pid) {
             let stopped = Owner {
                 process: owner.process,
                 running: false,
