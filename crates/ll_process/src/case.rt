@@ -1,6 +1,6 @@
 //! What is judged: a tree, a trace, a version of the interface, and the rulebook.
 
-ghost use Rattle.std.specs.Prelude.{◌≡◌, ◌<◌, ℕ, Some, IfOk, IfSome, length, slice_get};
+ghost use Rattle.std.specs.Prelude.{◌≡◌, ◌<◌, ℕ, All, Some, IfOk, IfSome, length, slice_get};
 ghost use Rattle.std.specs.Option.{option_map};
 ghost use Rattle.ll_process.specs.Cases.{IsCase};
 ghost use Rattle.ll_trace.specs.declared.record.Record.{Record as OneRecord};
@@ -165,6 +165,7 @@ impl Case {
     pub(crate) fn own_records(&self, process: ProcessId) -> &[u32]
         requires { process.0 < process_count self.now.records }
         ensures places { result.now ≡ own_records self.now.records process.0 }
+        ensures within { All (λ place. place < length self.now.records) result.now }
         ensures case { IsCase self.now }
     {
         self.trace().records_of(process)

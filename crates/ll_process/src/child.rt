@@ -1,6 +1,6 @@
 //! Children: the state with which they begin, and who gets their jobs.
 
-ghost use Rattle.std.specs.Prelude.{◌≡◌, IfOk, IfSome, OnOk, option_to_list};
+ghost use Rattle.std.specs.Prelude.{◌≡◌, false, IfOk, IfSome, None, OnOk, option_to_list};
 ghost use Rattle.std.specs.Option.{option_map};
 ghost use Rattle.ll_trace.specs.Processes.{forked_at};
 ghost use Rattle.ll_process.specs.Own.{IsOwn, Leaves};
@@ -14,19 +14,24 @@ use ll_state::OwnState;
 use ll_trace::ProcessId;
 
 /// The job of the child that a process's own record forks, if it forks one. The child begins with what
-/// its parent has after that record.
+/// its parent has after that record. A record that is known to fork none isn't looked at.
 pub(crate) fn child_job<'c>(
     case: &'c Case,
     process: ProcessId,
     index: u32,
+    may_fork: bool,
     own: &OwnState,
 ) -> Result<Option<Job<'c>>, NoMemory>
     requires own { IsOwn case.now index process.0 }
+    requires known { may_fork ≡ false → forked_at case.now.records index ≡ None }
     requires leaves { Leaves case.now index process.0 own.now }
     ensures child { IfOk result
         (λ job. option_map (λ child. child.process.0) job ≡ forked_at case.now.records index) }
     ensures of_case { IfOk result (λ job. IfSome job (λ child. child.case.now ≡ case.now)) }
 {
+    if !may_fork {
+        return Ok(None);
+    }
     let Some(child) = case.child_at(index) else {
         return Ok(None);
     };

@@ -6,6 +6,7 @@ ghost use Rattle.ll_process.specs.Cases.{own_answers};
 ghost use Rattle.ll_process.specs.Jobs.{processes_of, AreJobsOf, HandedOut, KeepsMore, SharesOut, weight, weight_of};
 
 use crate::adding::append;
+use crate::ahead::Ahead;
 use crate::case::Case;
 use crate::child::{child_job, offer};
 use crate::hand::Hand;
@@ -49,10 +50,13 @@ fn judge_own<'c, H: Hand<'c>>(
         mut own,
         ..
     } = job;
-    for index in case.own_records(process) {
+    let places = case.own_records(process);
+    let mut ahead = Ahead::new(case, places);
+    for (at, index) in places.iter().enumerate() {
+        let forks = ahead.may_fork(at);
         let answer = answer_own(case, process, *index, &mut own)?;
         append(answers, (*index, answer))?;
-        let child = child_job(case, process, *index, &own)?;
+        let child = child_job(case, process, *index, forks, &own)?;
         offer(case, child, hand, todo)?;
     }
     Ok(())

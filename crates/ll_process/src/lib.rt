@@ -2,6 +2,7 @@
 #![tactic(auto)]
 
 mod adding;
+mod ahead;
 mod case;
 mod child;
 mod descend;

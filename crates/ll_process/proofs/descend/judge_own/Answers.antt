@@ -1,60 +1,69 @@
 -- The walk begins, takes one record more, and ends at the process's last record.
-use Rattle.std.proofs.Common.{subst, refl}
+use Rattle.std.proofs.Common.{◌≡◌, ◌∙◌, subst, refl}
 use Rattle.ll_process.specs.Cases.{CaseValue, BeginsAs}
 use Rattle.ll_process.proofs.Descents.{keeps_on, keeps_same}
 use Rattle.ll_process.proofs.Walked.{walked_none, walked_more, place_now, own_now, handed_all, less_to_do}
 use Rattle.ll_process.proofs.descend.judge_own.Goals as goal
 
-pub loop-index-init : goal.loop-index-init
-loop-index-init g c = record {
+pub loop-at-init : goal.loop-at-init
+loop-at-init g c = record {
   walked = walked_none c.args.case.now c.args.job.process.0 c.args.job.own c.args.answers.now.items
-      (g.H.Hand.kept c.args.hand.now) c.args.todo.now.items c.own_records-index-items.ensures.case
+      (g.H.Hand.kept c.args.hand.now) c.args.todo.now.items c.own_records-places.ensures.case
       (rw c.requires.its at c.args.job.there) (subst (λ (cv : CaseValue). BeginsAs cv c.args.job.process.0 c.args.job.own) c.requires.its c.args.job.begins)
       c.requires.of_case;
   keeps = keeps_same c.args.case.now.records (g.H.Hand.kept c.args.hand.now) (g.H.Hand.kept c.args.hand.now) refl;
   suits = c.requires.suits;
+  ahead = c.new-ahead.ensures.case;
+  its = c.new-ahead.ensures.places ∙ c.own_records-places.ensures.places;
   stays = λ before same. same;
 }
 
 pub answer_own-requires-clause-own : goal.answer_own-requires-clause-own
 answer_own-requires-clause-own g c =
-    own_now c.args.case.now c.args.job.process.0 c.loop-index.index-index c.own_records-index-items.result.now
-    c.own_records-index-items.ensures.places c.loop-index-test.true
+    own_now c.args.case.now c.args.job.process.0 c.loop-at.at c.own_records-places.result.now
+    c.own_records-places.ensures.places c.loop-at-test.true
 
 pub answer_own-requires-clause-meets : goal.answer_own-requires-clause-meets
 answer_own-requires-clause-meets g c =
-    c.loop-index.invariant.walked.meets _ (place_now c.args.case.now c.args.job.process.0 c.loop-index.index-index c.own_records-index-items.result.now
-    c.own_records-index-items.ensures.places c.loop-index-test.true)
+    c.loop-at.invariant.walked.meets _ (place_now c.args.case.now c.args.job.process.0 c.loop-at.at c.own_records-places.result.now
+    c.own_records-places.ensures.places c.loop-at-test.true)
 
 pub child_job-requires-clause-own : goal.child_job-requires-clause-own
 child_job-requires-clause-own g c =
-    own_now c.args.case.now c.args.job.process.0 c.loop-index.index-index c.own_records-index-items.result.now
-    c.own_records-index-items.ensures.places c.loop-index-test.true
+    own_now c.args.case.now c.args.job.process.0 c.loop-at.at c.own_records-places.result.now
+    c.own_records-places.ensures.places c.loop-at-test.true
 
-pub loop-index-preserved : goal.loop-index-preserved
-loop-index-preserved g c = record {
+pub loop-at-preserved : goal.loop-at-preserved
+loop-at-preserved g c = record {
   walked = rw c.in_ok-append.ensures
-      (walked_more c.args.case.now c.args.job.process.0 c.loop-index.index-index c.own_records-index-items.result.now c.own_records-index-items.ensures.places
-      c.in_ok-answer.answer c.loop-index.own c.answer_own.new.own
-      c.args.answers.now.items c.loop-index.answers.items (g.H.Hand.kept c.args.hand.now) (g.H.Hand.kept c.loop-index.hand)
-      (g.H.Hand.kept c.offer.new.hand) c.args.todo.now.items c.loop-index.todo.items c.offer.new.todo.items
-      c.own_records-index-items.ensures.case c.loop-index-test.true c.loop-index.invariant.walked c.in_ok-answer.ensures.answer c.in_ok-answer.ensures.leaves
+      (walked_more c.args.case.now c.args.job.process.0 c.loop-at.at c.own_records-places.result.now c.own_records-places.ensures.places
+      c.in_ok-answer.answer c.loop-at.own c.answer_own.new.own
+      c.args.answers.now.items c.loop-at.answers.items (g.H.Hand.kept c.args.hand.now) (g.H.Hand.kept c.loop-at.hand)
+      (g.H.Hand.kept c.offer.new.hand) c.args.todo.now.items c.loop-at.todo.items c.offer.new.todo.items
+      c.own_records-places.ensures.case c.loop-at-test.true c.loop-at.invariant.walked c.in_ok-answer.ensures.answer c.in_ok-answer.ensures.leaves
       (rw c.in_ok-child.ensures.child at c.in_ok-offer.ensures.handed) c.in_ok-offer.ensures.of_case);
-  keeps = keeps_on c.args.case.now.records (g.H.Hand.kept c.args.hand.now) (g.H.Hand.kept c.loop-index.hand)
-      (g.H.Hand.kept c.offer.new.hand) c.loop-index.invariant.keeps c.in_ok-offer.ensures.keeps;
+  keeps = keeps_on c.args.case.now.records (g.H.Hand.kept c.args.hand.now) (g.H.Hand.kept c.loop-at.hand)
+      (g.H.Hand.kept c.offer.new.hand) c.loop-at.invariant.keeps c.in_ok-offer.ensures.keeps;
   suits = c.in_ok-offer.ensures.suits;
-  stays = λ before same. c.in_ok-offer.ensures.stays before (c.loop-index.invariant.stays before same);
+  ahead = c.may_fork-forks.ensures.case ∙ c.loop-at.invariant.ahead;
+  its = c.may_fork-forks.ensures.places ∙ c.loop-at.invariant.its;
+  stays = λ before same. c.in_ok-offer.ensures.stays before (c.loop-at.invariant.stays before same);
 }
+
+pub child_job-requires-clause-known : goal.child_job-requires-clause-known
+child_job-requires-clause-known g c =
+    λ calm. rw (← c.loop-at.invariant.ahead) (c.may_fork-forks.ensures.known calm _ (rw c.loop-at.invariant.its
+    (place_now c.args.case.now c.args.job.process.0 c.loop-at.at c.own_records-places.result.now c.own_records-places.ensures.places c.loop-at-test.true)))
 
 pub returns-clause-less : goal.returns-clause-less
 returns-clause-less g c =
-    less_to_do c.args.case.now c.args.job.process.0 (g.H.Hand.kept c.args.hand.now) (g.H.Hand.kept c.loop-index.hand) _ _ c.own_records-index-items.ensures.case
-    (handed_all c.args.case.now c.args.job.process.0 c.loop-index.index-index c.own_records-index-items.result.now c.own_records-index-items.ensures.places
-    c.loop-index.own c.args.answers.now.items c.loop-index.answers.items
-    (g.H.Hand.kept c.args.hand.now) (g.H.Hand.kept c.loop-index.hand) c.args.todo.now.items c.loop-index.todo.items c.loop-index-test.false
-    c.loop-index.invariant.walked) c.loop-index.invariant.keeps
+    less_to_do c.args.case.now c.args.job.process.0 (g.H.Hand.kept c.args.hand.now) (g.H.Hand.kept c.loop-at.hand) _ _ c.own_records-places.ensures.case
+    (handed_all c.args.case.now c.args.job.process.0 c.loop-at.at c.own_records-places.result.now c.own_records-places.ensures.places
+    c.loop-at.own c.args.answers.now.items c.loop-at.answers.items
+    (g.H.Hand.kept c.args.hand.now) (g.H.Hand.kept c.loop-at.hand) c.args.todo.now.items c.loop-at.todo.items c.loop-at-test.false
+    c.loop-at.invariant.walked) c.loop-at.invariant.keeps
 
 pub returns-in_err-offer-clause-keeps : goal.returns-in_err-offer-clause-keeps
 returns-in_err-offer-clause-keeps g c =
-    keeps_on c.args.case.now.records (g.H.Hand.kept c.args.hand.now) (g.H.Hand.kept c.loop-index.hand)
-    (g.H.Hand.kept c.offer.new.hand) c.loop-index.invariant.keeps c.in_err-offer.ensures.keeps
+    keeps_on c.args.case.now.records (g.H.Hand.kept c.args.hand.now) (g.H.Hand.kept c.loop-at.hand)
+    (g.H.Hand.kept c.offer.new.hand) c.loop-at.invariant.keeps c.in_err-offer.ensures.keeps
