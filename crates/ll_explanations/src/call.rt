@@ -2,8 +2,8 @@
 
 ghost use Rattle.std.specs.Prelude.{◌≡◌, All, IfOk, IfSome};
 ghost use Rattle.ll_tree.specs.Trees.{place};
+ghost use Rattle.ll_trace.specs.FirstPlaces.{first_place};
 ghost use Rattle.ll_semantics.specs.Fits.{IsFitMove};
-ghost use Rattle.ll_semantics.specs.Moves.{link_move, rename_move};
 ghost use Rattle.ll_semantics.specs.Requests.{asks, request, wanted};
 ghost use Rattle.ll_reasons.specs.Explanations.{objections_to};
 ghost use Rattle.ll_reasons.specs.Objections.{to_move, to_request};
@@ -20,29 +20,38 @@ use ll_rules::{Errno, LayerSet, Move};
 use ll_semantics::{Wanted, wanted};
 use ll_state::{asks, link_move, place_of, rename_move};
 use ll_trace::{Op, PathText};
+use ll_tree::Place;
 use std::alloc::{AllocError, Global};
 
 /// What layers object to, layer after layer, or that memory ran out.
 pub(crate) type Objected = Result<Noted, AllocError>;
 
-/// What layers object to in what a call wants at a path.
+/// What layers object to in what a call wants at a path, whose place may be known.
 #[tactic(auto, unfolding(ll_reasons::specs::Objections::to_request, crate::specs::Asking::objected, crate::specs::Meanings::by_layer))]
-fn to_wanted(alloc: Global, ctx: &Confinement, path: &PathText, wanted: Wanted) -> Objected
+fn to_wanted(
+    alloc: Global,
+    ctx: &Confinement,
+    path: &PathText,
+    known: Option<Place>,
+    wanted: Wanted,
+) -> Objected
+    requires { IfSome known (λ one. one ≡ place ctx.now.tree.now path.now) }
     ensures said { IfOk result (λ all. by_layer ctx.now.tree.now all.items
         ≡ to_request ctx.now.tree.now (stacked ctx.now)
         (asks ctx.now.tree.now (place ctx.now.tree.now path.now) wanted)) }
     ensures made { IfOk result (λ all. All (IsMade ctx.now.trail.now.layers.items) all.items) }
 {
-    let place = place_of(ctx.tree, path, None);
+    let place = place_of(ctx.tree, path, known);
     match asks(ctx.tree, place, wanted) {
         None => Ok(Vec::new(alloc)),
         Some(request) => { objections_of(alloc, ctx, &Asked::OnNode(request.node, request.rights)) }
     }
 }
 
-/// What layers object to in a call that may want something at a path.
+/// What layers object to in a call that may want something at a path, whose place may be known.
 #[tactic(auto, unfolding(ll_reasons::specs::Objections::to_request, crate::specs::Meanings::by_layer))]
-fn to_request(alloc: Global, ctx: &Confinement, op: &Op) -> Objected
+fn to_request(alloc: Global, ctx: &Confinement, op: &Op, known: Option<Place>) -> Objected
+    requires { IfSome known (λ one. one ≡ first_place ctx.now.tree.now op.now) }
     ensures said { IfOk result (λ all. by_layer ctx.now.tree.now all.items
         ≡ to_request ctx.now.tree.now (stacked ctx.now)
         (request ctx.now.tree.now (wanted op.now))) }
@@ -50,7 +59,7 @@ fn to_request(alloc: Global, ctx: &Confinement, op: &Op) -> Objected
 {
     match wanted(op) {
         None => Ok(Vec::new(alloc)),
-        Some((path, wanted)) => to_wanted(alloc, ctx, path, wanted),
+        Some((path, wanted)) => to_wanted(alloc, ctx, path, known, wanted),
     }
 }
 
@@ -69,49 +78,8 @@ fn to_move(alloc: Global, ctx: &Confinement, asked: Option<Move>, error: Errno) 
     objections_of(alloc, ctx, &Asked::Moving(request, error))
 }
 
-/// What layers object to in rename(2).
-fn to_rename(
-    alloc: Global,
-    ctx: &Confinement,
-    from: &PathText,
-    to: &PathText,
-    exchange: bool,
-    error: Errno,
-) -> Objected
-    ensures said { IfOk result (λ all. by_layer ctx.now.tree.now all.items
-        ≡ to_move ctx.now.tree.now (stacked ctx.now) error
-        (rename_move ctx.now.tree.now (place ctx.now.tree.now from.now)
-        (place ctx.now.tree.now to.now) exchange)) }
-    ensures made { IfOk result (λ all. All (IsMade ctx.now.trail.now.layers.items) all.items) }
-{
-    let source = place_of(ctx.tree, from, None);
-    let target = place_of(ctx.tree, to, None);
-    let asked = rename_move(ctx.tree, source, target, exchange);
-    to_move(alloc, ctx, asked, error)
-}
-
-/// What layers object to in link(2).
-fn to_link(
-    alloc: Global,
-    ctx: &Confinement,
-    from: &PathText,
-    to: &PathText,
-    error: Errno,
-) -> Objected
-    ensures said { IfOk result (λ all. by_layer ctx.now.tree.now all.items
-        ≡ to_move ctx.now.tree.now (stacked ctx.now) error
-        (link_move ctx.now.tree.now (place ctx.now.tree.now from.now)
-        (place ctx.now.tree.now to.now))) }
-    ensures made { IfOk result (λ all. All (IsMade ctx.now.trail.now.layers.items) all.items) }
-{
-    let source = place_of(ctx.tree, from, None);
-    let target = place_of(ctx.tree, to, None);
-    let asked = link_move(ctx.tree, source, target);
-    to_move(alloc, ctx, asked, error)
-}
-
 /// What the layers of a process that refuse a call object to. The call's error says what is looked at for a move, and
-/// the numbers of the layers for a call on a descriptor.
+/// the numbers of the layers for a call on a descriptor. The place of its first path may be known.
 #[tactic(auto, unfolding(crate::specs::Asking::objecting))]
 pub(crate) fn objections_to(
     alloc: Global,
@@ -119,7 +87,9 @@ pub(crate) fn objections_to(
     op: &Op,
     error: Errno,
     numbers: LayerSet,
+    known: Option<Place>,
 ) -> Objected
+    requires { IfSome known (λ one. one ≡ first_place ctx.now.tree.now op.now) }
     ensures said { IfOk result (λ all. by_layer ctx.now.tree.now all.items
         ≡ objections_to ctx.now.tree.now (stacked ctx.now)
         (followed ctx.now.trail.now) op.now error numbers) }
@@ -129,14 +99,21 @@ pub(crate) fn objections_to(
         Op::Ftruncate { fd } => { kept_by_descriptor(alloc, ctx, FsRight::Truncate, numbers, *fd) }
         Op::Ioctl { fd, .. } => kept_by_descriptor(alloc, ctx, FsRight::IoctlDev, numbers, *fd),
         Op::Rename { from, to, exchange } => {
-            to_rename(alloc, ctx, from, to.path(), *exchange, error)
+            let source = place_of(ctx.tree, from, known);
+            let target = place_of(ctx.tree, to.path(), None);
+            let asked = rename_move(ctx.tree, source, target, *exchange);
+            to_move(alloc, ctx, asked, error)
         }
-        Op::Link { from, to } => to_link(alloc, ctx, from, to.path(), error),
+        Op::Link { from, to } => {
+            let source = place_of(ctx.tree, from, known);
+            let target = place_of(ctx.tree, to.path(), None);
+            to_move(alloc, ctx, link_move(ctx.tree, source, target), error)
+        }
         Op::Mount => objections_of(alloc, ctx, &Asked::Mounting),
         Op::Bind { port } => objections_of(alloc, ctx, &Asked::OnPort(*port, Net::BIND_TCP)),
         Op::Connect { port } => {
             objections_of(alloc, ctx, &Asked::OnPort(*port, Net::CONNECT_TCP))
         }
-        _ => to_request(alloc, ctx, op),
+        _ => to_request(alloc, ctx, op, known),
     }
 }

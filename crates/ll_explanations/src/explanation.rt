@@ -111,7 +111,8 @@ fn refused(
         layers: case.layers(),
         domain: &domain,
     };
-    let all = objections_to(alloc, &ctx, &found.op, error, numbers)?;
+    let known = case.known_place(place);
+    let all = objections_to(alloc, &ctx, &found.op, error, numbers, known)?;
     Ok(Explanation::Objections(LayerObjections { all }))
 }
 

@@ -1,7 +1,8 @@
 -- What the calls of each kind are answered and leave, so that a judge may look at them one kind at a time.
-use Rattle.std.proofs.Common.{◌≡◌, ◌<◌, ℕ, Bool, true, false, List, length, Option, Some, None, refl, if◌then◌else◌, sym, subst}
+use Rattle.std.proofs.Common.{◌≡◌, ◌∙◌, ◌<◌, ℕ, Bool, true, false, List, length, Option, Some, None, refl, if◌then◌else◌, sym, subst}
 use Rattle.std.specs.Prelude.{IfSome}
 use Rattle.ll_tree.specs.declared.place.NodeId.{NodeId}
+use Rattle.ll_tree.specs.declared.place.Place.{Place}
 use Rattle.ll_tree.specs.declared.place.Place.TheVariants as places
 use Rattle.ll_lines.specs.Paths.{Path, front, path_of}
 use Rattle.ll_tree.specs.Trees.{Entry, IsNode, is_dir, kind_at, node_at, gap_in, place_or_gap, place_of, place}
@@ -55,10 +56,16 @@ pub place_inside : (tree : List Entry) (text : List ℕ) → IsPlace tree (place
 unfolding place
 place_inside tree text = read_inside tree (path_of text)
 
-pub first_wanted : (tree : List Entry) (op : Op) (want : List ℕ × Wanted) → Some want ≡ wanted op → first_place tree op ≡ place tree want.0
+first_wanted : (tree : List Entry) (op : Op) (want : List ℕ × Wanted) → Some want ≡ wanted op → first_place tree op ≡ place tree want.0
 unfolding wanted first_place paths_of
 first_wanted tree (calls.AddPath rs path fs) want is = cc
 first_wanted tree op want is = cc
+
+-- a place that is known of a call's first path is that of the path at which it wants something
+pub place_wanted : (tree : List Entry) (op : Op) (path : List ℕ) (want : Wanted) (known : Option Place) → Some (path, want) ≡ wanted op
+    → IfSome known (λ one. one ≡ first_place tree op) → IfSome known (λ one. one ≡ place tree path)
+place_wanted tree op path want None is first = tt
+place_wanted tree op path want (Some one) is first = first ∙ first_wanted tree op (path, want) is
 
 -- ---- calls that change nothing of their process's state
 
