@@ -1,5 +1,5 @@
 -- The report as JSON, by the versions that are asked for.
-use Rattle.std.proofs.Common.{◌≡◌, ◌∙◌, ℕ, ◌≤◌, List, [], ◌∷◌, ◌++◌, ap, ap₂, arith, length, map, refl, subst, sym}
+use Rattle.std.proofs.Common.{◌≡◌, ◌∙◌, ℕ, List, ◌++◌, ap, arith, length, map, subst}
 use Rattle.std.specs.Prelude.{count_by}
 use Rattle.std.specs.List.{range_with_len}
 use Rattle.std.proofs.lemmas.List.{length-map}
@@ -7,7 +7,7 @@ use Rattle.ll_tree.specs.Trees.{Entry}
 use Rattle.ll_trace.specs.declared.record.Record.{Record}
 use Rattle.ll_report.specs.declared.options.Shown.{Shown}
 use Rattle.ll_report.specs.Told.{Told}
-use Rattle.ll_report.specs.Rows.{is_refused_under_some, refused_under_some}
+use Rattle.ll_report.specs.Rows.{is_refused_under_some}
 use Rattle.ll_json.specs.Parts.{line_text}
 use Rattle.ll_json.specs.Records.{about}
 use Rattle.ll_json.specs.Reports.{IsJsonReport, found_of, totals_from, totals_json}

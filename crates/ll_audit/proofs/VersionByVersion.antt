@@ -33,7 +33,6 @@ use Rattle.ll_audit.specs.ShownReports.{taken, version_at, versions_by}
 use Rattle.ll_rights.specs.AbiRanges.{is_in, versions_in}
 use Rattle.ll_rights.proofs.AbiRanges.{few_versions}
 use Rattle.std.proofs.Math.Seq.{drop-cons}
-use Rattle.std.proofs.lemmas.List.{length-map}
 
 -- ---- best effort keeps what the report tells of a record
 

@@ -41,14 +41,14 @@ failure_text (failure.Unread name) = codes "cannot read " ++ name.now
 failure_text failure.Unwritten = codes "cannot write"
 
 -- the line that says this, with the program's name before it
-unfoldable pub line_of : List ℕ → List ℕ
-line_of text = codes "landaudit: " ++ text ++ codes "\n"
+unfoldable pub error_line : List ℕ → List ℕ
+error_line text = codes "landaudit: " ++ text ++ codes "\n"
 
 abbrev pub failure_line : Failure → List ℕ
-failure_line failure = line_of (failure_text failure)
+failure_line failure = error_line (failure_text failure)
 
 abbrev pub fault_line : Fault → List ℕ
-fault_line one = line_of (fault_text one)
+fault_line one = error_line (fault_text one)
 
 -- known bytes grow by the line, if it could be written, and else by a beginning of it
 unfoldable pub WritesLine : {A E : Type 0} → Result A E → Option (List ℕ) → Option (List ℕ) → List ℕ → Type 0

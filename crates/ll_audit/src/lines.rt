@@ -2,7 +2,7 @@
 
 ghost use Rattle.std.specs.Prelude.{◌≡◌, ◌++◌, codes};
 ghost use Rattle.ll_audit.specs.declared.lines.Failure.TheVariants.{Audit};
-ghost use Rattle.ll_audit.specs.FaultLines.{WritesLine, cause_name, failure_line, failure_status, fault_line, line_of, place_text};
+ghost use Rattle.ll_audit.specs.FaultLines.{WritesLine, cause_name, error_line, failure_line, failure_status, fault_line, place_text};
 
 use crate::fault::Fault;
 use itoa::Buffer;
@@ -70,16 +70,16 @@ fn write_fault<W: Write>(err: &mut W, fault: &Fault) -> io::Result<()>
 }
 
 /// Writes a line of one text behind the program's name.
-#[tactic(auto, unfolding(crate::specs::FaultLines::line_of, crate::specs::FaultLines::WritesLine))]
+#[tactic(auto, unfolding(crate::specs::FaultLines::error_line, crate::specs::FaultLines::WritesLine))]
 fn write_line<W: Write>(err: &mut W, text: &str) -> io::Result<()>
     ensures { WritesLine result (W.contents err.old) (W.contents err.new)
-        (line_of text.now) }
+        (error_line text.now) }
 {
     write_texts(err, &["landaudit: ", text, "\n"])
 }
 
 /// Writes the line on a file of this name that can't be read.
-#[tactic(auto, unfolding(crate::specs::FaultLines::line_of, crate::specs::FaultLines::WritesLine))]
+#[tactic(auto, unfolding(crate::specs::FaultLines::error_line, crate::specs::FaultLines::WritesLine))]
 fn write_unread<W: Write>(err: &mut W, name: &str) -> io::Result<()>
     ensures { WritesLine result (W.contents err.old) (W.contents err.new)
         (failure_line (Failure.Unread name.entry)) }
@@ -90,7 +90,7 @@ fn write_unread<W: Write>(err: &mut W, name: &str) -> io::Result<()>
 /// Writes the line that says which line of a file is wrong, and why.
 fn write_place<W: Write>(err: &mut W, file: &str, fault: &ReadFault) -> io::Result<()>
     ensures { WritesLine result (W.contents err.old) (W.contents err.new)
-        (line_of (place_text file.now fault.now)) }
+        (error_line (place_text file.now fault.now)) }
 {
     let mut buffer = Buffer::new();
     let line = buffer.format(fault.line);
@@ -105,7 +105,7 @@ fn write_words<'t, W: Write>(
     cause: &'t str,
 ) -> io::Result<()>
     ensures { WritesLine result (W.contents err.old) (W.contents err.new)
-        (line_of (file.now ++ codes " line " ++ line.now ++ codes ": " ++ cause.now)) }
+        (error_line (file.now ++ codes " line " ++ line.now ++ codes ": " ++ cause.now)) }
 {
     write_texts(
         err,

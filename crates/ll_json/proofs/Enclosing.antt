@@ -2,7 +2,6 @@
 use Rattle.std.proofs.Common.{◌≡◌, ◌∙◌, List, [], ◌∷◌, ◌++◌, refl, ap, append_assoc}
 use Rattle.json.specs.Json.{Json}
 use Rattle.json.specs.Token as token
-use Rattle.json.specs.Token.{Token}
 use Rattle.json.specs.Tree.{items_tokens, json_tokens, members_tokens}
 use Rattle.ll_json.specs.Parts.{Named, array_of, items_of, members_of, named_tokens, values_tokens}
 

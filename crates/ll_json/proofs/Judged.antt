@@ -14,7 +14,7 @@ use Rattle.ll_semantics.specs.declared.answer.Answer.{Answer}
 use Rattle.ll_semantics.specs.declared.answer.Answer.TheVariants.{Allowed, Moot, Refused}
 use Rattle.ll_semantics.specs.Worlds.{judged}
 use Rattle.ll_reasons.specs.Explanations as meant
-use Rattle.ll_reasons.specs.Explanations.{explained_at, origins_at}
+use Rattle.ll_reasons.specs.Explanations.{origins_at}
 use Rattle.ll_reasons.specs.Objections.{Objection}
 use Rattle.ll_reasons.specs.Objections as objecting
 use Rattle.ll_explanations.specs.FindingValues.{FindingValue}

@@ -1,12 +1,12 @@
 use Rattle.std.proofs.Common.{◌≡◌, List, ℕ, ◌++◌, codes, append_assoc, refl, subst}
-use Rattle.ll_audit.specs.FaultLines.{WritesLine, line_of}
+use Rattle.ll_audit.specs.FaultLines.{WritesLine, error_line}
 use Rattle.ll_audit.proofs.lines.write_words.Goals as goal
 
 -- the texts of a line, one behind the other
 texts_of_line : (file line cause : List ℕ)
     → codes "landaudit: " ++ (file ++ (codes " line " ++ (line ++ (codes ": " ++ (cause ++ codes "\n")))))
-    ≡ line_of (file ++ codes " line " ++ line ++ codes ": " ++ cause)
-unfolding line_of
+    ≡ error_line (file ++ codes " line " ++ line ++ codes ": " ++ cause)
+unfolding error_line
 texts_of_line file line cause = simp append_assoc refl
 
 pub returns : goal.returns
