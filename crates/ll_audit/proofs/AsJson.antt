@@ -4,14 +4,14 @@ use Rattle.std.specs.Prelude.{count_by}
 use Rattle.std.specs.List.{range_with_len}
 use Rattle.std.proofs.lemmas.List.{length-map}
 use Rattle.ll_tree.specs.Trees.{Entry}
-use Rattle.ll_trace.specs.declared.record.Record.{Record}
+use Rattle.ll_trace.specs.declared.op.Record.{Record}
 use Rattle.ll_report.specs.declared.options.Shown.{Shown}
-use Rattle.ll_report.specs.Told.{Told}
+use Rattle.ll_report.specs.Shown.{Told}
 use Rattle.ll_report.specs.Rows.{is_refused_under_some}
 use Rattle.ll_json.specs.Parts.{line_text}
 use Rattle.ll_json.specs.Records.{about}
 use Rattle.ll_json.specs.Reports.{IsJsonReport, found_of, totals_from, totals_json}
-use Rattle.ll_json.specs.Versions.{Version}
+use Rattle.ll_json.specs.Judged.{Version}
 use Rattle.ll_json.proofs.RowsTold.{same_lines}
 
 -- a report on records of which the same is told

@@ -11,7 +11,7 @@ use Rattle.ll_audit.specs.declared.outcome.Outcome.{Outcome}
 use Rattle.ll_audit.specs.declared.outcome.Outcome.TheVariants as outcome
 use Rattle.ll_command.specs.Command.{Request, Text, request_of}
 use Rattle.ll_audit.specs.FaultLines.{failure_status}
-use Rattle.ll_audit.specs.Files.{Files}
+use Rattle.ll_audit.specs.Inputs.{Files}
 use Rattle.ll_audit.specs.Fronts.{EndsWithoutRun, HasFailure, HasWrongWords, IsOutcomeOf, Reports, StaysQuiet, TellsWhy, WritesNothing, WritesReport}
 use Rattle.ll_audit.specs.Outcomes.{EndsWith}
 use Rattle.ll_command.proofs.CommandLine.{asks_for_no_run}

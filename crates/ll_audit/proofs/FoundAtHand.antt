@@ -2,17 +2,16 @@
 use Rattle.std.proofs.Common.{◌≡◌, List, [], ◌∷◌, ap, ap₂, map, refl}
 use Rattle.ll_rights.specs.declared.abi.Abi.{Abi}
 use Rattle.ll_tree.specs.Trees.{Entry}
-use Rattle.ll_trace.specs.declared.record.Record.{Record}
-use Rattle.ll_explanations.specs.FindingValues.{FindingValue}
+use Rattle.ll_trace.specs.declared.op.Record.{Record}
+use Rattle.ll_explanations.specs.Findings.{FindingValue}
 use Rattle.ll_report.specs.Found.{Found}
 use Rattle.ll_report.specs.Versions.{founds_in}
 use Rattle.ll_report.proofs.FoundJudged.{found_as_judged}
 use Rattle.ll_report.specs.declared.options.Options.{Options}
 use Rattle.ll_report.specs.declared.options.Shown.{Shown}
 use Rattle.ll_rights.specs.AbiRanges.{versions_in}
-use Rattle.ll_json.specs.Judged.{AreFound}
+use Rattle.ll_json.specs.Judged.{AreFound, Version}
 use Rattle.ll_json.specs.Reports.{found_of}
-use Rattle.ll_json.specs.Versions.{Version}
 use Rattle.ll_audit.specs.ShownReports.{findings, found_at, version_at, versions_by}
 
 module _ (shown : Shown) (tree : List Entry) (hand : List Record) where

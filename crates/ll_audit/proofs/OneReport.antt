@@ -6,13 +6,12 @@ use Rattle.std.proofs.lemmas.Option.{same_Some}
 use Rattle.ll_rights.specs.Abis.{number_of}
 use Rattle.ll_rights.specs.declared.abi.Abi.{Abi}
 use Rattle.ll_tree.specs.Trees.{Entry}
-use Rattle.ll_trace.specs.declared.record.Record.{Record}
+use Rattle.ll_trace.specs.declared.op.Record.{Record}
 use Rattle.ll_explain.specs.Explained.{text_at}
 use Rattle.ll_semantics.specs.Worlds.{judged}
 use Rattle.ll_report.specs.declared.report.Report.{Report}
-use Rattle.ll_report.specs.Told.{Told, told_by}
+use Rattle.ll_report.specs.Shown.{IsShownReportOn, Told, told_by}
 use Rattle.ll_report.specs.Lines.{lines_of}
-use Rattle.ll_report.specs.Shown.{IsShownReportOn}
 use Rattle.ll_report.proofs.BlocksMade.{is_report_text}
 use Rattle.ll_report.specs.declared.options.Options.{Options}
 use Rattle.ll_audit.specs.Audits.{BothRead, IsReport}

@@ -11,7 +11,7 @@ use Rattle.ll_tree.specs.Trees.{Entry}
 use Rattle.ll_trace.specs.declared.op.Op.{Op}
 use Rattle.ll_trace.specs.declared.op.Op.TheVariants as calls
 use Rattle.ll_trace.specs.declared.op.RuleType.TheVariants.{PathBeneath, NetPort}
-use Rattle.ll_trace.specs.declared.record.Record.{Record}
+use Rattle.ll_trace.specs.declared.op.Record.{Record}
 use Rattle.ll_trace.specs.BestEffort.{at_best_effort, records_at_best_effort}
 use Rattle.ll_trace.proofs.Versions.{records-older}
 use Rattle.ll_json.specs.Records.{about}
@@ -22,14 +22,11 @@ use Rattle.ll_trace.specs.declared.trace.Effort.{Effort}
 use Rattle.ll_trace.specs.declared.trace.Effort.TheVariants.{AsRecorded, Best}
 use Rattle.ll_report.specs.declared.options.Options.{Options}
 use Rattle.ll_audit.specs.declared.ranging.Audited.{Audited}
-use Rattle.ll_explanations.specs.FindingValues.{FindingValue}
-use Rattle.ll_explanations.specs.Findings.{Finds}
+use Rattle.ll_explanations.specs.Findings.{FindingValue, Finds}
 use Rattle.ll_explanations.specs.TakenLater.{AreTakenLater}
 use Rattle.ll_explanations.proofs.TakenLater.{taken_as_they_are, taken_again, taken_at_best_effort}
-use Rattle.ll_json.specs.Judged.{AreFound}
-use Rattle.ll_json.specs.Versions.{Version}
-use Rattle.ll_audit.specs.Audited.{Adds}
-use Rattle.ll_audit.specs.ShownReports.{taken, version_at, versions_by}
+use Rattle.ll_json.specs.Judged.{AreFound, Version}
+use Rattle.ll_audit.specs.ShownReports.{Adds, taken, version_at, versions_by}
 use Rattle.ll_rights.specs.AbiRanges.{is_in, versions_in}
 use Rattle.ll_rights.proofs.AbiRanges.{few_versions}
 use Rattle.std.proofs.Math.Seq.{drop-cons}

@@ -1,12 +1,11 @@
--- What an audit answers: the report, or why there is none.
--- Source: docs/FORMATS.md, "The report" and "Faults of a run"; docs/SEMANTICS.md.
-use Rattle.std.specs.Prelude.{◌≡◌, ℕ, List}
+-- What an audit answers: the report, or why there is none. Also how many threads may judge.
+-- Source: docs/FORMATS.md, "The report", "The command line" and "Faults of a run"; docs/SEMANTICS.md.
+use Rattle.std.specs.Prelude.{◌≡◌, ◌≤◌, ℕ, List}
 use Rattle.ll_rights.specs.declared.abi.Abi.{Abi}
-use Rattle.ll_pool.specs.Crews.{IsCrew}
 use Rattle.ll_lines.specs.Reading.{IsBad}
 use Rattle.ll_tree.specs.TreeReading.{IsTreeOf, tree_format}
 use Rattle.ll_tree.specs.Trees.{Entry}
-use Rattle.ll_trace.specs.declared.record.Record.{Record}
+use Rattle.ll_trace.specs.declared.op.Record.{Record}
 use Rattle.ll_trace.specs.Entries.{trace_file}
 use Rattle.ll_trace.specs.Records.{IsTrace}
 use Rattle.ll_semantics.specs.Worlds.{judged}
@@ -15,6 +14,10 @@ use Rattle.ll_report.specs.Lines.{lines_of, refused_among}
 use Rattle.ll_report.specs.Report.{report_text}
 use Rattle.ll_audit.specs.declared.fault.Fault.{Fault}
 use Rattle.ll_audit.specs.declared.fault.Fault.TheVariants as fault
+
+-- a number of threads that may judge
+abbrev pub IsCrew : ℕ → Type 0
+IsCrew workers = (1 ≤ workers) × (workers ≤ 64)
 
 -- the report on records whose calls meet this tree: the answers are those of one fold over all records
 pub record IsReportOn (tree : List Entry) (abi : Abi) (records : List Record) (report : Report) : Type 0 where

@@ -6,7 +6,7 @@ use Rattle.ll_lines.specs.Reading.{Format, IsBad}
 use Rattle.ll_tree.specs.TreeReading.{tree_format}
 use Rattle.ll_lines.specs.declared.fault.ReadFault.{ReadFault}
 use Rattle.ll_trace.specs.Entries.{trace_file}
-use Rattle.ll_report.specs.Told.{Told}
+use Rattle.ll_report.specs.Shown.{Told}
 use Rattle.ll_report.specs.Report.{report_status}
 use Rattle.ll_audit.specs.declared.fault.Fault.TheVariants as fault
 use Rattle.ll_audit.specs.declared.lines.Failure.{Failure}
@@ -18,7 +18,7 @@ use Rattle.ll_audit.specs.Audits.{ReadsAsTrace, ReadsAsTree}
 use Rattle.ll_audit.specs.ShownReports.{IsReportWith}
 use Rattle.ll_command.specs.Command.{AreWrong, AskForText, Request, Text, request_of}
 use Rattle.ll_audit.specs.FaultLines.{failure_line, failure_status}
-use Rattle.ll_audit.specs.Files.{Files, bytes_of}
+use Rattle.ll_audit.specs.Inputs.{Files, bytes_of}
 use Rattle.ll_audit.specs.Outcomes.{AppendsBeginning, Complains}
 
 -- these are the bytes of the file of a name, where the files are known

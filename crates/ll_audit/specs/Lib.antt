@@ -1,11 +1,7 @@
-pub mod Files
 pub mod Inputs
 pub mod FaultLines
 pub mod Outcomes
 pub mod Audits
 pub mod Causes
 pub mod Fronts
-pub mod Cuts
 pub mod ShownReports
-pub mod Audited
-pub mod ReportTexts

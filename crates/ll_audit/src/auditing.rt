@@ -4,9 +4,8 @@ ghost use Rattle.std.specs.Prelude.{◌≡◌, ◌≢◌, ℕ, List, IfOk, IfErr
 ghost use Rattle.ll_lines.specs.declared.fault.Cause.TheVariants.{Memory as NoMemoryLeft};
 ghost use Rattle.ll_tree.specs.TreeReading.{IsTreeOf};
 ghost use Rattle.ll_trace.specs.Records.{IsTrace};
-ghost use Rattle.ll_report.specs.{Shown.IsShownReportOn, Told.told_by};
-ghost use Rattle.ll_pool.specs.Crews.{IsCrew};
-ghost use Rattle.ll_audit.specs.Audits.{IsFaultOf, IsReport};
+ghost use Rattle.ll_report.specs.Shown.{IsShownReportOn, told_by};
+ghost use Rattle.ll_audit.specs.Audits.{IsCrew, IsFaultOf, IsReport};
 ghost use Rattle.ll_audit.specs.ShownReports.{IsReportBy, IsReportInJson, IsReportOver, IsReportWith, IsTextReport, taken};
 ghost use Rattle.ll_audit.specs.Inputs.{trace_bytes, tree_bytes};
 ghost use Rattle.ll_audit.specs.Causes.{IsTraceFault, IsTreeFault, IsWant};

@@ -2,7 +2,7 @@
 
 ghost use Rattle.std.specs.Prelude.{◌≡◌, ◌<◌, IfOk};
 ghost use Rattle.ll_trace.specs.Processes.{process_count};
-ghost use Rattle.ll_audit.specs.Cuts.{cuts_by, is_long};
+ghost use Rattle.ll_audit.specs.Inputs.{cuts_by, is_long};
 
 use ll_trace::{ProcessId, Trace};
 use std::alloc::{AllocError, Global};

@@ -4,8 +4,8 @@ ghost use Rattle.std.specs.Prelude.{◌≡◌, ◌≢◌, ◌⊎◌, ◌+◌, �
 ghost use Rattle.ll_lines.specs.declared.fault.Cause.TheVariants.{Memory as NoMemoryLeft};
 ghost use Rattle.ll_lines.specs.Reading.{IsBad};
 ghost use Rattle.ll_trace.specs.{Entries.trace_file, Records.IsTrace};
-ghost use Rattle.ll_audit.specs.{declared.fault.Fault.TheVariants.Memory, Files.bytes_of};
-ghost use Rattle.ll_audit.specs.Inputs.{trace_bytes, tree_bytes};
+ghost use Rattle.ll_audit.specs.declared.fault.Fault.TheVariants.{Memory};
+ghost use Rattle.ll_audit.specs.Inputs.{bytes_of, trace_bytes, tree_bytes};
 
 use crate::fault::Fault;
 use crate::lines::Failure;

@@ -1,9 +1,9 @@
 //! The program as a whole, whatever its files and its outputs are.
 
 ghost use Rattle.std.specs.Prelude.{◌≡◌, ◌+◌, ◌^◌, ◌<◌, ◌≤◌, IfOk, IfErr, map, string_bytes};
-ghost use Rattle.ll_pool.specs.Crews.{IsCrew};
 ghost use Rattle.ll_command.specs.Command.{request_by};
 ghost use Rattle.ll_audit.specs.Fronts.{EndsWithoutRun, HasReason, HasWrongWords, IsFailureOf, IsOutcomeOf, Reports, StaysQuiet, TellsWhy, WritesNothing, WritesReport};
+ghost use Rattle.ll_audit.specs.Audits.{IsCrew};
 
 use crate::auditing::audit_inputs;
 use crate::cut::Cut;

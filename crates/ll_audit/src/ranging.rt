@@ -2,14 +2,14 @@
 
 ghost use Rattle.std.specs.Prelude.{◌≡◌, ◌+◌, ◌∷◌, ◌<◌, ◌^◌, [], IfOk, IfErr, List, if◌then◌else◌, length, map};
 ghost use Rattle.ll_rights.specs.{Abis.number_of, AbiRanges.is_in};
-ghost use Rattle.ll_pool.specs.Crews.{IsCrew};
-ghost use Rattle.ll_json.specs.{Records.about, Reports.IsJsonReport, Versions.Version};
+ghost use Rattle.ll_json.specs.{Records.about, Reports.IsJsonReport};
 ghost use Rattle.ll_report.specs.Rows.{refused_under_some, rows_text};
 ghost use Rattle.ll_report.specs.Versions.{founds_in};
 ghost use Rattle.ll_command.specs.declared.command.TheConstants.{VERSION};
-ghost use Rattle.ll_json.specs.Judged.{AreFound};
-ghost use Rattle.ll_audit.specs.{Audited.Adds, Causes.IsWant};
-ghost use Rattle.ll_audit.specs.ShownReports.{taken, versions_by};
+ghost use Rattle.ll_json.specs.Judged.{AreFound, Version};
+ghost use Rattle.ll_audit.specs.Causes.{IsWant};
+ghost use Rattle.ll_audit.specs.ShownReports.{Adds, taken, versions_by};
+ghost use Rattle.ll_audit.specs.Audits.{IsCrew};
 
 use crate::fault::Fault;
 use crate::workers::Workers;

@@ -2,8 +2,8 @@
 
 ghost use Rattle.std.specs.Prelude.{◌≡◌, IfOk, OnOk};
 ghost use Rattle.std.specs.Io.KnownBytes.{Appends};
-ghost use Rattle.ll_report.specs.{Report.report_status, Told.told_by, Writing.AppendsBeginning};
-ghost use Rattle.ll_audit.specs.ReportTexts.{told_in};
+ghost use Rattle.ll_report.specs.{Report.report_status, Shown.told_by, Writing.AppendsBeginning};
+ghost use Rattle.ll_audit.specs.ShownReports.{told_in};
 
 use ll_json::JsonRows;
 use ll_report::{Blocks, Report, RowReport, VersionRows};
@@ -30,8 +30,8 @@ pub struct ReportText {
 }
 
 impl Model for ReportText {
-    ghost use Rattle.ll_report.specs.Told.{Told};
-    ghost use Rattle.ll_audit.specs.ReportTexts.{told_in};
+    ghost use Rattle.ll_report.specs.Shown.{Told};
+    ghost use Rattle.ll_audit.specs.ShownReports.{told_in};
 
     ghost Value = { Told };
 

@@ -2,7 +2,7 @@
 
 ghost use Rattle.std.specs.Prelude.{◌≡◌, ◌+◌, ◌-◌, ◌^◌, ◌<◌, ◌≤◌, ℕ, Option, Some, IfOk, IfSome, find, option_map};
 ghost use Rattle.std.specs.Str.{bytes_eq};
-ghost use Rattle.ll_audit.specs.Files.{Files, bytes_of, files_of};
+ghost use Rattle.ll_audit.specs.Inputs.{Files, bytes_of, files_of};
 
 use ll_lines::blocks::LineBlocks;
 use std::alloc::Global;

@@ -2,8 +2,8 @@
 
 ghost use Rattle.std.specs.Prelude.{◌≡◌, IfOk, IfErr};
 ghost use Rattle.ll_semantics.specs.Worlds.{judged};
-ghost use Rattle.ll_pool.specs.Crews.{IsCrew};
 ghost use Rattle.ll_audit.specs.Causes.{IsWant};
+ghost use Rattle.ll_audit.specs.Audits.{IsCrew};
 
 use crate::fault::Fault;
 use ll_pool::{Gate, collect_whole, run};

@@ -1,6 +1,6 @@
 -- The command line: `landaudit --abi N[-M] [--workers N] [--grain N] [--best-effort] [--refused] [--differs] [--explain] [--json] TREE TRACE`, and what it asks for.
 -- Source: docs/FORMATS.md, "The command line".
-use Rattle.std.specs.Prelude.{◌≡◌, ◌≢◌, ◌⊎◌, ◌+◌, ◌-◌, ◌==◌, ◌&&◌, ◌||◌, ⊤, is_none, nat_le, nat_lt, ℕ, Bool, true, false, List, [], ◌∷◌, Option, Some, None, codes, length, if◌then◌else◌, option_and_then}
+use Rattle.std.specs.Prelude.{◌≡◌, ◌≢◌, ◌⊎◌, ◌+◌, ◌-◌, ◌≤◌, ◌==◌, ◌&&◌, ◌||◌, ⊤, is_none, nat_le, nat_lt, ℕ, Bool, true, false, List, [], ◌∷◌, Option, Some, None, codes, length, if◌then◌else◌, option_and_then}
 use Rattle.std.specs.Str.{bytes_eq}
 use Rattle.std.specs.Str.Parse.{digits_value, without_leading_plus}
 use Rattle.clap.specs.declared.builder.action.ArgAction.{ArgAction}
@@ -18,7 +18,6 @@ use Rattle.ll_report.specs.declared.options.Format.{Format}
 use Rattle.ll_report.specs.declared.options.Format.TheVariants.{Json, Text as Plain}
 use Rattle.ll_report.specs.declared.options.Shown.{Shown}
 use Rattle.ll_report.specs.declared.options.TheConstants.{ALL_LINES}
-use Rattle.ll_pool.specs.Crews.{IsCrew}
 use Rattle.ll_rights.specs.AbiRanges.{Range, range_from}
 use Rattle.ll_command.specs.declared.command.Run.{Run}
 use Rattle.ll_trace.specs.declared.trace.Effort.{Effort}
@@ -206,7 +205,7 @@ request_by run =
 
 -- what a plan says of the words that it was made from
 abbrev pub IsPlanFor : List Text → Plan → Type 0
-IsPlanFor words (plan.Run run) = (request_of words ≡ Some (request_by run)) × IsCrew run.workers
+IsPlanFor words (plan.Run run) = (request_of words ≡ Some (request_by run)) × (1 ≤ run.workers) × (run.workers ≤ 64)
 IsPlanFor words (plan.Text error) = AskForText words
 IsPlanFor words (plan.Usage error) = AreWrong words
 IsPlanFor words (plan.Misuse why) = AreWrong words

@@ -1,13 +1,11 @@
 //! The command line.
 
-ghost use Rattle.std.specs.Prelude.{if◌then◌else◌, ◌≡◌, ◌⊎◌, [], IfOk, IfSome, MatchResult, Some, false, is_some, map, option_map, string_bytes};
+ghost use Rattle.std.specs.Prelude.{if◌then◌else◌, ◌≡◌, ◌⊎◌, ◌≤◌, [], IfOk, IfSome, MatchResult, Some, false, is_some, map, option_map, string_bytes};
 ghost use Rattle.clap.specs.Words.{HasKind, app_of, fault_of, first_of, found_of, kind_of, matches_of, rows_of, rule_of};
 ghost use Rattle.clap.specs.declared.error.kind.ErrorKind.TheVariants.{OutOfMemory};
-ghost use Rattle.ll_pool.specs.Crews.{IsCrew};
 ghost use Rattle.ll_command.specs.Command as spec;
 
-use crate::message::Message;
-use crate::misuse::Misuse;
+use crate::misuse::{Message, Misuse};
 use clap::builder::ValueParser;
 use clap::error::ErrorKind;
 use clap::{Arg, ArgAction, ArgMatches, Command, Error};
@@ -256,7 +254,7 @@ fn range(text: &str) -> Option<AbiRange>
 /// The number of workers, where it is 1 to 64.
 fn crew(number: u64) -> Option<u64>
     ensures value { result ≡ spec.crew_of number }
-    ensures crew { IfSome result IsCrew }
+    ensures crew { IfSome result (λ crew. (1 ≤ crew) × (crew ≤ 64)) }
 {
     if 0 < number && number < 65 {
         Some(number)
@@ -335,7 +333,7 @@ fn options(abis: AbiRange, matches: &ArgMatches<'_>) -> Options
 fn run_of<'a>(matches: &ArgMatches<'a>) -> Option<Run<'a>>
     ensures request { option_map spec.request_by result
         ≡ spec.request_in (rows_of (found_of matches.now)) }
-    ensures crew { IfSome result (λ run. IsCrew run.workers) }
+    ensures crew { IfSome result (λ run. (1 ≤ run.workers) × (run.workers ≤ 64)) }
 {
     Some(Run {
         options: options(range(text(matches, "abi")?)?, matches),

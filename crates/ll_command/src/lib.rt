@@ -3,10 +3,8 @@
 
 mod command;
 mod laws;
-mod message;
 mod misuse;
 
 pub use command::{Plan, Run, VERSION, plan_of};
 pub use laws::{command_lines, words_without_a_fault_name_a_run};
-pub use message::Message;
-pub use misuse::Misuse;
+pub use misuse::{Message, Misuse};

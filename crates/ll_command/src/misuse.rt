@@ -1,7 +1,19 @@
-//! Words of the command line that are each as their rule has it, and are still wrong.
+//! What there is to say of words that name no run, and what is wrong with words that are each as their rule has it.
 
+use clap::Error;
 use ll_rights::with_abi_numbers;
 use std::fmt;
+
+/// Help, the version, or what is wrong with the words, as a text of some lines.
+#[derive(Debug, Drop)]
+pub struct Message(pub(crate) Error);
+
+impl fmt::Display for Message {
+    fn fmt<W: fmt::Write>(&self, f: &mut fmt::Formatter<W>) -> fmt::Result {
+        let error = &self.0;
+        write!(f, "{error}")
+    }
+}
 
 /// What is wrong with such words. What it prints is a line without its end.
 #[derive(Clone, Copy, Debug, PartialEq, Eq)]

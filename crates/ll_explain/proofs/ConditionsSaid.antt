@@ -5,7 +5,7 @@ use Rattle.std.specs.List.{list_any}
 use Rattle.std.proofs.lemmas.Bool.{cases_Bool, true≢false}
 use Rattle.ll_rights.specs.declared.fs.Fs.{Fs}
 use Rattle.ll_rights.specs.Rights as files
-use Rattle.ll_explanations.specs.Sets.{rights_in}
+use Rattle.ll_explanations.specs.Meanings.{rights_in}
 use Rattle.ll_explain.specs.Words.{rights_text, unknown_text}
 
 module _ (test : files.FsRight → Bool) where

@@ -13,7 +13,7 @@ use Rattle.ll_tree.specs.Trees.{Entry}
 use Rattle.ll_trace.specs.BestEffort.{names_rights}
 use Rattle.ll_trace.specs.declared.op.Op.{Op}
 use Rattle.ll_trace.specs.declared.op.Op.TheVariants as calls
-use Rattle.ll_trace.specs.declared.record.Record.{Record}
+use Rattle.ll_trace.specs.declared.op.Record.{Record}
 use Rattle.ll_semantics.specs.declared.answer.Answer.{Answer}
 use Rattle.ll_semantics.specs.Worlds.{judged}
 use Rattle.ll_semantics.proofs.Steps.{length-judged}
@@ -21,8 +21,7 @@ use Rattle.ll_reasons.specs.Explanations as meant
 use Rattle.ll_reasons.specs.Explanations.{origins_at}
 use Rattle.ll_reasons.specs.Objections as objecting
 use Rattle.ll_explanations.specs.Explained.{IsExplanationOf}
-use Rattle.ll_explanations.specs.FindingValues.{FindingValue}
-use Rattle.ll_explanations.specs.Findings.{Finds, Tells, kept_at, said_by, said_in}
+use Rattle.ll_explanations.specs.Findings.{FindingValue, Finds, Tells, kept_at, said_by, said_in}
 use Rattle.ll_explanations.specs.Kept.{if_said}
 use Rattle.ll_explanations.specs.Meanings.{AreMade, explanation_in}
 use Rattle.ll_explanations.specs.TakenLater.{AreTakenLater, IsTakenLater, is_of_rights}

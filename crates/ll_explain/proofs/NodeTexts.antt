@@ -1,7 +1,7 @@
 -- The text of what is no node of the tree.
 use Rattle.std.proofs.Common.{◌≡◌, ◌≤◌, List, [], ◌∷◌, length, sym, ap}
 use Rattle.std.proofs.Math.ListN.{get_or-eq_default}
-use Rattle.ll_lines.specs.PathTexts.{text_of}
+use Rattle.ll_lines.specs.Paths.{text_of}
 use Rattle.ll_tree.specs.Trees.{Entry, path_at, root}
 use Rattle.ll_tree.specs.declared.place.NodeId.{NodeId}
 

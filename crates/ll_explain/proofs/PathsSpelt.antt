@@ -2,8 +2,7 @@
 use Rattle.std.proofs.Common.{◌≡◌, ℕ, List, Option, Some, None, refl, ap}
 use Rattle.std.specs.Prelude.{IsTrue, is_some}
 use Rattle.json.specs.Print.{escape}
-use Rattle.ll_lines.specs.Paths.{Path, path_of}
-use Rattle.ll_lines.specs.PathTexts.{text_of}
+use Rattle.ll_lines.specs.Paths.{Path, path_of, text_of}
 use Rattle.ll_lines.proofs.PathLaws.{text_of-path_of}
 use Rattle.ll_reasons.specs.Reasons.{path_or_root, spelt}
 use Rattle.ll_explain.specs.Words.{path_text}

@@ -4,7 +4,7 @@ use Rattle.std.specs.Prelude.{not, ◌&&◌}
 use Rattle.std.specs.List.{list_all}
 use Rattle.std.proofs.lemmas.Bool.{false≢true}
 use Rattle.json.specs.Print.{escape, escape_byte, escape_letter}
-use Rattle.ll_explain.specs.Plain.{is_plain}
+use Rattle.ll_explain.specs.Words.{is_plain}
 
 plain : (lettered below : Bool) (short long byte : List ℕ) → (not lettered && not below) ≡ true → byte ≡ cond lettered short (cond below long byte)
 plain true below short long byte is = absurd (false≢true is)

@@ -3,5 +3,4 @@ pub mod Tables
 pub mod Lines
 pub mod Explained
 pub mod Buffers
-pub mod Plain
 pub mod Told

@@ -2,7 +2,7 @@
 -- Source: docs/FORMATS.md, "Explanations".
 use Rattle.std.specs.Prelude.{ℕ, List, [], ◌∷◌, ◌++◌, ◌==◌, Option, codes, decimal, option_and_then, slice_get, if◌then◌else◌}
 use Rattle.ll_tree.specs.Trees.{Entry}
-use Rattle.ll_trace.specs.declared.record.Record.{Record}
+use Rattle.ll_trace.specs.declared.op.Record.{Record}
 use Rattle.ll_explanations.specs.Meanings.{objection_in}
 use Rattle.ll_explanations.specs.declared.objection.LayerObjection.{LayerObjection}
 use Rattle.ll_explain.specs.Words.{line_of, objection_text}
@@ -34,6 +34,6 @@ unfolding
     Rattle.ll_explain.specs.Words.explanation_text Rattle.ll_explain.specs.Words.layer_text Rattle.ll_explain.specs.Words.layer_head
     Rattle.ll_explain.specs.Words.objection_text Rattle.ll_explain.specs.Words.listed Rattle.ll_explain.specs.Words.condition_text
     Rattle.ll_explain.specs.Words.unknown_text Rattle.ll_explain.specs.Words.reason_text Rattle.ll_explain.specs.Words.path_text
-    Rattle.ll_explain.specs.Words.joined Rattle.ll_explain.specs.Words.behind Rattle.ll_lines.specs.PathTexts.text_of
+    Rattle.ll_explain.specs.Words.joined Rattle.ll_explain.specs.Words.behind Rattle.ll_lines.specs.Paths.text_of
     Rattle.json.specs.Print.escape_byte
 wording = tt

@@ -1,15 +1,14 @@
 -- The text of explanations: lines that begin with four spaces, behind the record's own line.
 -- Source: docs/FORMATS.md, "Explanations"; paths are escaped as RFC 8259, section 7, escapes texts.
-use Rattle.std.specs.Prelude.{ℕ, ◌-◌, List, [], ◌∷◌, ◌++◌, map, Option, Some, None, option_and_then, slice_get, codes, decimal}
+use Rattle.std.specs.Prelude.{ℕ, ◌-◌, Bool, not, ◌&&◌, List, [], ◌∷◌, ◌++◌, map, nat_lt, Option, Some, None, option_and_then, slice_get, codes, decimal}
 use Rattle.std.specs.List.{flat_map}
-use Rattle.json.specs.Print.{escape}
+use Rattle.json.specs.Print.{escape, escape_letter}
 use Rattle.ll_rights.specs.declared.kind.Kind.TheVariants.{Dir, Reg, Sym, Char, Block, Fifo, Sock}
 use Rattle.ll_rights.specs.Abis.{number_of}
 use Rattle.ll_rights.specs.Rights as files
 use Rattle.ll_rights.specs.NetRights as network
-use Rattle.ll_lines.specs.Paths.{Path}
-use Rattle.ll_lines.specs.PathTexts.{text_of}
-use Rattle.ll_trace.specs.declared.record.Record.{Record}
+use Rattle.ll_lines.specs.Paths.{Path, text_of}
+use Rattle.ll_trace.specs.declared.op.Record.{Record}
 use Rattle.ll_trace.specs.declared.op.Op.{Op}
 use Rattle.ll_trace.specs.declared.op.Op.TheVariants as calls
 use Rattle.ll_reasons.specs.Objections.{Objection, missing, closed, gained, mounting, kept}
@@ -28,6 +27,10 @@ joined separator (text ∷ texts) = text ++ flat_map (behind separator) texts
 
 unfoldable pub path_text : Path → List ℕ
 path_text path = escape (text_of path)
+
+-- a byte that is in a JSON text as it is
+abbrev pub is_plain : ℕ → Bool
+is_plain byte = not (nat_lt 0 (escape_letter byte)) && not (nat_lt byte 32)
 
 -- the word for a right: its name, or one word for all that have none
 abbrev pub word_for : List ℕ → List ℕ

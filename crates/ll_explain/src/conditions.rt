@@ -3,8 +3,7 @@
 ghost use Rattle.std.specs.Prelude.{◌≡◌, ◌++◌, codes, decimal};
 ghost use Rattle.json.specs.Print.{escape};
 ghost use Rattle.ll_rights.specs.Abis.{number_of};
-ghost use Rattle.ll_explanations.specs.Meanings.{condition_in, path_of_rule};
-ghost use Rattle.ll_explanations.specs.Sets.{port_rights_in, rights_in};
+ghost use Rattle.ll_explanations.specs.Meanings.{condition_in, path_of_rule, port_rights_in, rights_in};
 ghost use Rattle.ll_explain.specs.Buffers.{adding};
 ghost use Rattle.ll_explain.specs.Words.{condition_text, port_rights_text, rights_text, unknown_text};
 

@@ -6,14 +6,15 @@ ghost use Rattle.ll_rights.specs.declared.abi.Abi.TheVariants.{V3, V4};
 ghost use Rattle.ll_rights.specs.Rights.{execute, other, read_file, refer, truncate, write_file};
 ghost use Rattle.ll_rights.specs.NetRights.{bind_tcp};
 ghost use Rattle.ll_tree.specs.Trees.{Entry};
-ghost use Rattle.ll_trace.specs.declared.record.Record.{Record as OneRecord};
+ghost use Rattle.ll_trace.specs.declared.op.Record.{Record as OneRecord};
 ghost use Rattle.ll_trace.specs.declared.op.Op.TheVariants.{Nnp, OpenFile};
 ghost use Rattle.ll_trace.specs.declared.op.Mode.TheVariants.{Write};
 ghost use Rattle.ll_reasons.specs.Conditions.{unhandled, unknown};
 ghost use Rattle.ll_reasons.specs.Explanations.{failure, mootness, nothing, objections};
 ghost use Rattle.ll_reasons.specs.Objections.{closed, gained, kept, missing};
 ghost use Rattle.ll_reasons.specs.Reasons.{absent, unsupported, unenforced};
-ghost use Rattle.ll_explanations.specs.{FindingValues.FindingValue, Findings.Finds, TakenLater.AreTakenLater};
+ghost use Rattle.ll_explanations.specs.TakenLater.{AreTakenLater};
+ghost use Rattle.ll_explanations.specs.Findings.{FindingValue, Finds};
 ghost use Rattle.ll_explain.specs.{Explained.text_at, Told.text_told, Words.explanation_text};
 
 /// A finding says of each record what the definitions say, also by the records as an older version takes them. One

@@ -2,11 +2,10 @@
 
 ghost use Rattle.std.specs.Prelude.{◌≡◌, ◌++◌, codes, decimal, option_and_then, slice_get};
 ghost use Rattle.json.specs.Print.{escape};
-ghost use Rattle.ll_lines.specs.PathTexts.{text_of};
+ghost use Rattle.ll_lines.specs.Paths.{text_of};
 ghost use Rattle.ll_rights.specs.{CodeRights.fs_right, Rights.name_of};
 ghost use Rattle.ll_tree.specs.Trees.{path_at};
-ghost use Rattle.ll_explanations.specs.Meanings.{objection_in};
-ghost use Rattle.ll_explanations.specs.Sets.{port_rights_in, rights_in};
+ghost use Rattle.ll_explanations.specs.Meanings.{objection_in, port_rights_in, rights_in};
 ghost use Rattle.ll_explain.specs.Buffers.{adding};
 ghost use Rattle.ll_explain.specs.Lines.{ending, head_of, lines_from, opening};
 ghost use Rattle.ll_explain.specs.Words.{line_of, objection_text, path_opened, path_text, port_rights_text, rights_text, word_for};

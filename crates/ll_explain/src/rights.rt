@@ -4,7 +4,7 @@ ghost use Rattle.std.specs.Prelude.{◌≡◌, ◌++◌, ℕ, Bool, List, codes,
 ghost use Rattle.ll_rights.specs.CodeRights.{fs_right, net_right};
 ghost use Rattle.ll_rights.specs.Rights as files;
 ghost use Rattle.ll_rights.specs.NetRights as network;
-ghost use Rattle.ll_explanations.specs.Sets.{port_rights_in, rights_in};
+ghost use Rattle.ll_explanations.specs.Meanings.{port_rights_in, rights_in};
 ghost use Rattle.ll_explain.specs.{Buffers.adding, Tables.listed_alike};
 ghost use Rattle.ll_explain.specs.Words.{behind, listed, port_rights_text, rights_text, word_for};
 
@@ -134,7 +134,7 @@ fn push_names<S: RightSet>(text: &mut TextBuffer, rights: S)
 }
 
 /// Adds the names of the rights for files of a set.
-#[tactic(auto, unfolding(ll_explanations::specs::Sets::rights_in))]
+#[tactic(auto, unfolding(ll_explanations::specs::Meanings::rights_in))]
 pub(crate) fn push_rights(text: &mut TextBuffer, rights: Fs)
     ensures { text.new ≡ adding text.old (rights_text (rights_in rights)) }
 {
@@ -142,7 +142,7 @@ pub(crate) fn push_rights(text: &mut TextBuffer, rights: Fs)
 }
 
 /// Adds the names of the rights for ports of a set.
-#[tactic(auto, unfolding(ll_explanations::specs::Sets::port_rights_in))]
+#[tactic(auto, unfolding(ll_explanations::specs::Meanings::port_rights_in))]
 pub(crate) fn push_port_rights(text: &mut TextBuffer, rights: Net)
     ensures { text.new ≡ adding text.old (port_rights_text (port_rights_in rights)) }
 {

@@ -3,7 +3,7 @@
 ghost use Rattle.std.specs.Prelude.{◌≡◌, ◌++◌, ◌<◌, decimal};
 ghost use Rattle.json.specs.Print.{escape, escape_byte, escape_letter};
 ghost use Rattle.std.specs.{Char.digit_char, List.list_all};
-ghost use Rattle.ll_explain.specs.{Buffers.adding, Plain.is_plain};
+ghost use Rattle.ll_explain.specs.{Buffers.adding, Words.is_plain};
 
 use crate::buffer::TextBuffer;
 use itoa::Buffer;

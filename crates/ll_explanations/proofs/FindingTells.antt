@@ -6,12 +6,11 @@ use Rattle.std.proofs.lemmas.Option.{slice_get_cases, slice_get_within}
 use Rattle.ll_rights.specs.declared.abi.Abi.{Abi}
 use Rattle.ll_tree.specs.Trees.{Entry}
 use Rattle.ll_trace.specs.declared.op.Op.{Op}
-use Rattle.ll_trace.specs.declared.record.Record.{Record}
+use Rattle.ll_trace.specs.declared.op.Record.{Record}
 use Rattle.ll_trace.specs.BestEffort.{names_rights}
 use Rattle.ll_semantics.specs.declared.answer.Answer.{Answer}
 use Rattle.ll_semantics.specs.Worlds.{judged}
-use Rattle.ll_explanations.specs.FindingValues.{FindingValue}
-use Rattle.ll_explanations.specs.Findings.{Finds, Tells, kept_at, said_by, said_in}
+use Rattle.ll_explanations.specs.Findings.{FindingValue, Finds, Tells, kept_at, said_by, said_in}
 use Rattle.ll_explanations.specs.Kept.{call_kept, if_said, is_silent, kept_of}
 use Rattle.ll_explanations.specs.TakenLater.{AreTakenLater, IsTakenLater}
 use Rattle.ll_explanations.specs.declared.explained.Explained.{Explained}

@@ -25,7 +25,7 @@ use Rattle.ll_semantics.specs.States.{Layer}
 use Rattle.ll_reasons.specs.Objections.{Objection, closed, closed_rights, gained, if_any, missing}
 use Rattle.ll_reasons.specs.Objections.{mounting, objecting_from, of_layer, on_gain, on_mount, on_path, on_port}
 use Rattle.ll_explanations.specs.Lacked.{gainable, lacked}
-use Rattle.ll_explanations.specs.Sets.{IsOne, port_rights_in, rights_in}
+use Rattle.ll_explanations.specs.Meanings.{IsOne, port_rights_in, rights_in}
 
 -- ---- rights that pass a test
 

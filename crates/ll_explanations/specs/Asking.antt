@@ -6,7 +6,7 @@ use Rattle.ll_tree.specs.Trees.{Entry, IsNode, path_at}
 use Rattle.ll_semantics.specs.States.{Layer}
 use Rattle.ll_reasons.specs.Objections.{Objection, on_mount, on_move, on_path, on_port}
 use Rattle.ll_explanations.specs.MoveRequests.{IsMoveRequest}
-use Rattle.ll_explanations.specs.Sets.{IsOne}
+use Rattle.ll_explanations.specs.Meanings.{IsOne}
 use Rattle.ll_explanations.specs.declared.asked.Asked.{Asked}
 use Rattle.ll_explanations.specs.declared.asked.Asked.TheVariants.{OnNode, OnPort, Mounting, Moving}
 

@@ -1,18 +1,24 @@
--- What is found of the records of a trace under one version: the answers, and the explanations as values.
--- Source: docs/FORMATS.md, "Explanations" and "Several versions".
+-- What is found of the records of a trace under one version: the answers, and the explanations as values, if they are
+-- kept.
+-- Source: docs/FORMATS.md, "Explanations" and "Several versions"; the layout of a finding is the code's own.
 use Rattle.std.specs.Prelude.{◌≡◌, ℕ, Bool, List, Option, Some, None, if◌then◌else◌, length, slice_get, unwrap_or}
 use Rattle.ll_rights.specs.declared.abi.Abi.{Abi}
 use Rattle.ll_tree.specs.Trees.{Entry}
-use Rattle.ll_trace.specs.declared.record.Record.{Record}
+use Rattle.ll_trace.specs.declared.op.Record.{Record}
 use Rattle.ll_trace.specs.declared.op.Op.{Op}
 use Rattle.ll_semantics.specs.declared.answer.Answer.{Answer}
 use Rattle.ll_semantics.specs.declared.answer.Answer.TheVariants.{Moot}
 use Rattle.ll_semantics.specs.Worlds.{judged}
 use Rattle.ll_explanations.specs.Explained.{IsExplanationOf}
-use Rattle.ll_explanations.specs.FindingValues.{FindingValue}
 use Rattle.ll_explanations.specs.Kept.{if_said, kept_of}
 use Rattle.ll_explanations.specs.declared.explanation.Explanation.{Explanation}
 use Rattle.ll_explanations.specs.declared.explained.Explained.{Explained}
+
+-- What contracts see of a finding: the answers to all records, and what is kept of the explanation of each, if
+-- explanations are kept.
+pub record FindingValue : Type 0 where
+  pub answers : List Answer
+  pub explanations : List (Option Explained)
 
 -- the answer to the record at a place
 abbrev pub answer_in : FindingValue → ℕ → Answer

@@ -1,4 +1,3 @@
-pub mod Sets
 pub mod Lacked
 pub mod Confined
 pub mod Meanings
@@ -8,5 +7,4 @@ pub mod Asking
 pub mod Explained
 pub mod TakenLater
 pub mod Kept
-pub mod FindingValues
 pub mod Findings

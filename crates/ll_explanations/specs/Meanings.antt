@@ -1,7 +1,13 @@
--- What an explanation as a value means: the objections, condition and reason of the definitions with the same names.
--- Source: docs/FORMATS.md, "Explanations".
-use Rattle.std.specs.Prelude.{◌≡◌, ◌<◌, ℕ, ◌-◌, ◌==◌, All, List, [], ◌∷◌, option_map, slice_get, if◌then◌else◌}
+-- What an explanation as a value means: the objections, condition and reason of the definitions with the same names, and
+-- the rights of a set as a list.
+-- Source: docs/FORMATS.md, "Explanations"; landlock(7), "Filesystem actions"; the kernel's userspace document on
+-- Landlock, "Network flags".
+use Rattle.std.specs.Prelude.{◌≡◌, ◌<◌, ℕ, ◌-◌, ◌==◌, All, List, [], ◌∷◌, option_map, slice_get, filter, if◌then◌else◌}
 use Rattle.ll_rights.specs.CodeRights.{fs_right}
+use Rattle.ll_rights.specs.Rights as files
+use Rattle.ll_rights.specs.NetRights as network
+use Rattle.ll_rights.specs.declared.fs.Fs.{Fs}
+use Rattle.ll_rights.specs.declared.net.Net.{Net}
 use Rattle.ll_tree.specs.Trees.{Entry, path_at}
 use Rattle.ll_trace.specs.declared.op.Op.{Op}
 use Rattle.ll_trace.specs.declared.op.Op.TheVariants as calls
@@ -9,7 +15,6 @@ use Rattle.ll_reasons.specs.Objections as meant
 use Rattle.ll_reasons.specs.Conditions as conditions
 use Rattle.ll_reasons.specs.Meant.{reason_in}
 use Rattle.ll_reasons.specs.Explanations as explanations
-use Rattle.ll_explanations.specs.Sets.{port_rights_in, rights_in}
 use Rattle.ll_explanations.specs.declared.objection.Objection.{Objection}
 use Rattle.ll_explanations.specs.declared.objection.Objection.TheVariants.{Missing, Closed, Gained, Mounting, Kept}
 use Rattle.ll_explanations.specs.declared.objection.LayerObjection.{LayerObjection}
@@ -17,6 +22,20 @@ use Rattle.ll_explanations.specs.declared.condition.Condition.{Condition}
 use Rattle.ll_explanations.specs.declared.condition.Condition.TheVariants.{Unknown, Portless, Rightless, Unheld, Unhandled, UnhandledOnPorts, OnlyForDirectories, NoPort, Unprivileged, Full, Other}
 use Rattle.ll_explanations.specs.declared.explanation.Explanation.{Explanation}
 use Rattle.ll_explanations.specs.declared.explanation.Explanation.TheVariants.{Nothing, Objections, Failure, Mootness}
+
+-- ---- the rights of a set as a list, and a set of one right
+
+-- in the order of the table
+unfoldable pub rights_in : Fs → List files.FsRight
+rights_in set = filter (files.has set) files.all_rights
+
+unfoldable pub port_rights_in : Net → List network.NetRight
+port_rights_in set = filter (network.has set) network.all_rights
+
+-- a set of rights for ports has one right alone
+pub record IsOne (set : Net) : Type 0 where
+  pub one : network.NetRight
+  pub same : set ≡ network.only one
 
 -- ---- objections; nodes are of the case's tree, and what a descriptor's file lacked is told by the place of the record that opened it
 

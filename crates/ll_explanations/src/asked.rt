@@ -7,8 +7,7 @@ ghost use Rattle.ll_reasons.specs.Objections.{objecting, on_gain, on_mount, on_p
 ghost use Rattle.ll_explanations.specs.Adding.{AddsOf};
 ghost use Rattle.ll_explanations.specs.Asking.{IsAsked, objected};
 ghost use Rattle.ll_explanations.specs.Confined.{rules_of, stacked};
-ghost use Rattle.ll_explanations.specs.Meanings.{IsMade, by_layer, objection_in};
-ghost use Rattle.ll_explanations.specs.Sets.{IsOne};
+ghost use Rattle.ll_explanations.specs.Meanings.{IsMade, IsOne, by_layer, objection_in};
 
 use crate::confinement::{Confinement, OneLayer, made_by};
 use crate::missing::{Test, passing};

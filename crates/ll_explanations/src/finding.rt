@@ -23,7 +23,7 @@ pub struct Finding {
 }
 
 impl Model for Finding {
-    ghost use Rattle.ll_explanations.specs.FindingValues.{FindingValue};
+    ghost use Rattle.ll_explanations.specs.Findings.{FindingValue};
 
     ghost Value = { FindingValue };
 

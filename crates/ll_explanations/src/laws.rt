@@ -3,10 +3,9 @@
 ghost use Rattle.std.specs.Prelude.{◌≡◌, ℕ, Bool, List, None, Some, false, slice_get, true};
 ghost use Rattle.ll_rights.specs.declared.abi.Abi.{Abi as Version};
 ghost use Rattle.ll_tree.specs.Trees.{Entry};
-ghost use Rattle.ll_trace.specs.{declared.record.Record.Record as OneRecord, BestEffort.records_at_best_effort};
+ghost use Rattle.ll_trace.specs.{declared.op.Record.Record as OneRecord, BestEffort.records_at_best_effort};
 ghost use Rattle.ll_semantics.specs.{declared.answer.Answer.Answer as Given, Worlds.judged};
-ghost use Rattle.ll_explanations.specs.FindingValues.{FindingValue};
-ghost use Rattle.ll_explanations.specs.Findings.{Finds, Tells, said_in};
+ghost use Rattle.ll_explanations.specs.Findings.{FindingValue, Finds, Tells, said_in};
 ghost use Rattle.ll_explanations.specs.TakenLater.{AreTakenLater};
 
 /// Records are taken later as they are; what is taken later may be taken again; and best effort takes them so.

@@ -8,7 +8,7 @@ ghost use Rattle.ll_reasons.specs.declared.why.Which.TheVariants.{First};
 ghost use Rattle.ll_reasons.specs.Meant.{path_named, reason_in, text_named};
 ghost use Rattle.ll_reasons.specs.Origins.{Origins};
 ghost use Rattle.ll_reasons.specs.Reasons.{no_object, not_for_writing, open_already, reason, spelt, unmet, unopened};
-ghost use Rattle.ll_trails.specs.{Opened.opened, TraceOrigins.Follows};
+ghost use Rattle.ll_trails.specs.TraceOrigins.{Follows, opened};
 
 use ll_reasons::{Reason, no_object, unlinked, unmet, unrenamed};
 use ll_semantics::wanted;

@@ -9,7 +9,7 @@ use Rattle.json.specs.Token.{Token}
 use Rattle.json.specs.Tree.{json_tokens}
 use Rattle.ll_tree.specs.Trees.{Entry}
 use Rattle.ll_trace.specs.declared.op.Op.{Op}
-use Rattle.ll_trace.specs.declared.record.Record.{Record}
+use Rattle.ll_trace.specs.declared.op.Record.{Record}
 use Rattle.ll_semantics.specs.declared.answer.Answer.{Answer}
 use Rattle.ll_semantics.specs.declared.answer.Answer.TheVariants.{Allowed, Moot, Refused}
 use Rattle.ll_semantics.specs.Worlds.{judged}
@@ -17,8 +17,7 @@ use Rattle.ll_reasons.specs.Explanations as meant
 use Rattle.ll_reasons.specs.Explanations.{origins_at}
 use Rattle.ll_reasons.specs.Objections.{Objection}
 use Rattle.ll_reasons.specs.Objections as objecting
-use Rattle.ll_explanations.specs.FindingValues.{FindingValue}
-use Rattle.ll_explanations.specs.Findings.{Finds, answer_in, said_in}
+use Rattle.ll_explanations.specs.Findings.{FindingValue, Finds, answer_in, said_in}
 use Rattle.ll_explanations.specs.Kept.{if_said, is_silent}
 use Rattle.ll_explanations.specs.Meanings.{AreMade, explanation_in, objection_in}
 use Rattle.ll_explanations.specs.TakenLater.{AreTakenLater}
@@ -34,7 +33,7 @@ use Rattle.ll_json.specs.Records.{answer_members, layers_json, members_at, membe
 use Rattle.ll_json.specs.Rows.{members_tokens, said_of}
 use Rattle.ll_json.specs.Spans.{members_text}
 use Rattle.ll_json.specs.Values.{answer_tokens, layers_tokens, plain_members}
-use Rattle.ll_json.specs.Versions.{Version}
+use Rattle.ll_json.specs.Judged.{Version}
 use Rattle.ll_json.specs.Why.{objection_json}
 use Rattle.ll_json.proofs.Meant.{answer_means}
 

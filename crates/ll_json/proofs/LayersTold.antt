@@ -8,7 +8,7 @@ use Rattle.json.specs.Token as token
 use Rattle.json.specs.Token.{Token}
 use Rattle.json.specs.Tree.{json_tokens}
 use Rattle.ll_tree.specs.Trees.{Entry}
-use Rattle.ll_trace.specs.declared.record.Record.{Record}
+use Rattle.ll_trace.specs.declared.op.Record.{Record}
 use Rattle.ll_reasons.specs.Objections.{Objection}
 use Rattle.ll_explanations.specs.Meanings.{IsMade, by_layer, in_front, objection_in}
 use Rattle.ll_explanations.specs.declared.objection.LayerObjection.{LayerObjection}

@@ -5,13 +5,13 @@ use Rattle.json.specs.Token.{Token}
 use Rattle.json.specs.Tree.{json_tokens}
 use Rattle.ll_tree.specs.Trees.{Entry}
 use Rattle.ll_trace.specs.declared.op.Op.{Op}
-use Rattle.ll_trace.specs.declared.record.Record.{Record}
+use Rattle.ll_trace.specs.declared.op.Record.{Record}
 use Rattle.ll_semantics.specs.declared.answer.Answer.{Answer}
 use Rattle.ll_semantics.specs.declared.answer.Answer.TheVariants.{Allowed, Moot, Refused}
 use Rattle.ll_explanations.specs.Meanings.{AreMade, by_layer, explanation_in}
 use Rattle.ll_explanations.specs.declared.explanation.Explanation.{Explanation}
 use Rattle.ll_explanations.specs.declared.explanation.Explanation.TheVariants.{Nothing, Objections, Failure, Mootness}
-use Rattle.ll_report.specs.Names.{error_name}
+use Rattle.ll_report.specs.Lines.{error_name}
 use Rattle.ll_json.specs.Parts.{named_tokens}
 use Rattle.ll_json.specs.Records.{answer_members, layers_json}
 use Rattle.ll_json.specs.Values.{answer_tokens, layers_tokens, why_tokens}

@@ -9,7 +9,7 @@ use Rattle.ll_rights.specs.declared.net.NetRight.{NetRight}
 use Rattle.ll_rights.specs.CodeRights.{fs_right, net_right}
 use Rattle.ll_rights.specs.Rights as files
 use Rattle.ll_rights.specs.NetRights as network
-use Rattle.ll_explanations.specs.Sets.{port_rights_in, rights_in}
+use Rattle.ll_explanations.specs.Meanings.{port_rights_in, rights_in}
 use Rattle.ll_json.specs.Names.{name_in, port_name_in, word_if, words_of}
 use Rattle.ll_json.specs.Parts.{values_tokens}
 

@@ -5,7 +5,7 @@ use Rattle.std.proofs.lemmas.Bool.{ne_eqb, true≢false}
 use Rattle.json.specs.Token.{Token}
 use Rattle.json.specs.Tree.{json_tokens}
 use Rattle.ll_rules.specs.LayerNumbers.{is_among, passing_upto}
-use Rattle.ll_json.specs.Numbers.{among_tokens}
+use Rattle.ll_json.specs.Values.{among_tokens}
 use Rattle.ll_json.specs.Parts.{values_tokens}
 use Rattle.ll_json.specs.Records.{bare_layer}
 use Rattle.ll_json.specs.Writing.{Written, writing}

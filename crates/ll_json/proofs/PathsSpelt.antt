@@ -1,8 +1,7 @@
 -- The text of a path that a text spells.
 use Rattle.std.proofs.Common.{◌≡◌, ℕ, List, Option, Some, None, refl}
 use Rattle.std.specs.Prelude.{IsTrue, is_some}
-use Rattle.ll_lines.specs.Paths.{Path, path_of}
-use Rattle.ll_lines.specs.PathTexts.{text_of}
+use Rattle.ll_lines.specs.Paths.{Path, path_of, text_of}
 use Rattle.ll_lines.proofs.PathLaws.{text_of-path_of}
 use Rattle.ll_reasons.specs.Reasons.{path_or_root, spelt}
 

@@ -12,12 +12,12 @@ use Rattle.json.specs.Token as token
 use Rattle.json.specs.Token.{Token}
 use Rattle.json.specs.Tree.{json_tokens}
 use Rattle.ll_tree.specs.Trees.{Entry}
-use Rattle.ll_trace.specs.declared.record.Record.{Record}
+use Rattle.ll_trace.specs.declared.op.Record.{Record}
 use Rattle.ll_semantics.specs.declared.answer.Answer.{Answer}
 use Rattle.ll_semantics.specs.declared.answer.Answer.TheVariants.{Allowed, Moot, Refused}
 use Rattle.ll_semantics.specs.Worlds.{judged}
 use Rattle.ll_semantics.proofs.Steps.{length-judged}
-use Rattle.ll_explanations.specs.FindingValues.{FindingValue}
+use Rattle.ll_explanations.specs.Findings.{FindingValue}
 use Rattle.ll_report.specs.declared.options.Shown.{Shown}
 use Rattle.ll_report.specs.Found.{Found, answer_at}
 use Rattle.ll_report.specs.Lines.{verdict_of}
@@ -28,13 +28,12 @@ use Rattle.ll_report.specs.Spans.{Span, spans_from, spans_of}
 use Rattle.ll_report.proofs.Making.{next_rows}
 use Rattle.ll_report.proofs.RowsSaid.{any_map, count_same, map_map, refused_alone}
 use Rattle.ll_report.specs.Versions.{answers_in, some_refuses}
-use Rattle.ll_json.specs.Judged.{AreFound, IsFound}
+use Rattle.ll_json.specs.Judged.{AreFound, IsFound, Version}
 use Rattle.ll_json.specs.Parts.{Named, line_text, named_tokens, values_tokens}
 use Rattle.ll_json.specs.Records.{about, answer_json, answer_members, members_at, members_with, record_json, record_of}
 use Rattle.ll_json.specs.Reports.{IsJsonReport, found_of, lines_from, row_line, said_under, total_json, totals_from, totals_json}
 use Rattle.ll_json.specs.Rows.{head_tokens, json_made, line_of, row_text, said_of, separated, span_text, versions_tokens}
 use Rattle.ll_json.specs.Spans.{answers_json, members_text, span_json}
-use Rattle.ll_json.specs.Versions.{Version}
 use Rattle.ll_json.proofs.Enclosing.{named_end, values_end}
 use Rattle.ll_json.proofs.Judged.{members_are, said_is}
 use Rattle.ll_json.proofs.Printed.{ends_object, ends_with, print_more}

@@ -7,16 +7,13 @@ use Rattle.std.proofs.lemmas.Slice.Eq.{bytes_eq-Decides}
 use Rattle.json.specs.Print.{print}
 use Rattle.json.specs.Token as token
 use Rattle.ll_tree.specs.Trees.{Entry}
-use Rattle.ll_trace.specs.declared.record.Record.{Record}
+use Rattle.ll_trace.specs.declared.op.Record.{Record}
 use Rattle.ll_semantics.specs.declared.answer.Answer.{Answer}
-use Rattle.ll_explanations.specs.FindingValues.{FindingValue}
+use Rattle.ll_explanations.specs.Findings.{FindingValue, answer_in, kept_at}
 use Rattle.ll_explanations.specs.Findings as findings
-use Rattle.ll_explanations.specs.Findings.{answer_in, kept_at}
 use Rattle.ll_explanations.specs.declared.explained.Explained.{Explained}
-use Rattle.ll_report.specs.Alike.{AnswerAs, AreAlike, ExplainAs}
+use Rattle.ll_report.specs.Scratches.{AnswerAs, AreAlike, ExplainAs, FitIn, ScratchValue, is_apart, said_by, told_under}
 use Rattle.ll_report.specs.declared.sayings.Sayings.{Sayings}
-use Rattle.ll_report.specs.Sayings.{said_by}
-use Rattle.ll_report.specs.Scratches.{FitIn, ScratchValue, is_apart, told_under}
 use Rattle.ll_report.specs.Spans.{agree}
 use Rattle.ll_json.specs.Rows.{members_tokens, said_of}
 use Rattle.ll_json.specs.Telling.{AreComparable, members_told}

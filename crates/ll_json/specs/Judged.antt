@@ -1,13 +1,18 @@
--- Findings of versions, as they are when the oldest version takes the records.
+-- The versions that answer a trace, as they take it, and what is found under each, as it is when the oldest version takes
+-- the records.
 -- Source: docs/FORMATS.md, "Several versions".
 use Rattle.std.specs.Prelude.{Bool, List}
 use Rattle.std.specs.List.{AllZip}
+use Rattle.ll_rights.specs.declared.abi.Abi.{Abi}
 use Rattle.ll_tree.specs.Trees.{Entry}
-use Rattle.ll_trace.specs.declared.record.Record.{Record}
-use Rattle.ll_explanations.specs.FindingValues.{FindingValue}
-use Rattle.ll_explanations.specs.Findings.{Finds}
+use Rattle.ll_trace.specs.declared.op.Record.{Record}
+use Rattle.ll_explanations.specs.Findings.{FindingValue, Finds}
 use Rattle.ll_explanations.specs.TakenLater.{AreTakenLater}
-use Rattle.ll_json.specs.Versions.{Version}
+
+-- a version of Landlock's interface, and the records as they are taken under it
+pub record Version : Type 0 where
+  pub abi : Abi
+  pub records : List Record
 
 -- it is found under a version, and these are the version's records as they are taken later
 pub record IsFound (explains : Bool) (tree : List Entry) (later : List Record) (version : Version) (finding : FindingValue) : Type 0 where

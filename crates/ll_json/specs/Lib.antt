@@ -3,10 +3,8 @@ pub mod Writing
 pub mod Why
 pub mod Names
 pub mod Layering
-pub mod Versions
 pub mod Records
 pub mod Values
-pub mod Numbers
 pub mod Spans
 pub mod Reports
 pub mod Rows

@@ -3,16 +3,16 @@
 use Rattle.std.specs.Prelude.{ℕ, Bool, List, [], ◌∷◌, map, Option, Some, None, codes, slice_get, if◌then◌else◌}
 use Rattle.json.specs.Json.{Json, string}
 use Rattle.ll_tree.specs.Trees.{Entry}
-use Rattle.ll_trace.specs.declared.record.Record.{Record}
+use Rattle.ll_trace.specs.declared.op.Record.{Record}
 use Rattle.ll_trace.specs.Operations.{op_name}
 use Rattle.ll_semantics.specs.declared.answer.Answer.{Answer}
 use Rattle.ll_semantics.specs.declared.answer.Answer.TheVariants.{Allowed, Moot, Refused}
 use Rattle.ll_semantics.specs.Worlds.{judged}
 use Rattle.ll_reasons.specs.Reasons.{Reason}
 use Rattle.ll_reasons.specs.Explanations.{Explanation, nothing, objections, failure, mootness, explained_at, origins_at}
-use Rattle.ll_report.specs.Names.{error_name}
+use Rattle.ll_report.specs.Lines.{error_name}
 use Rattle.ll_json.specs.Parts.{Named, array_of, object_of, whole}
-use Rattle.ll_json.specs.Versions.{Version}
+use Rattle.ll_json.specs.Judged.{Version}
 use Rattle.ll_json.specs.Why.{condition_json, layer_json, reason_json}
 
 -- ---- the members of an answer; where explanations aren't shown, the explanation is `nothing`

@@ -4,16 +4,16 @@
 use Rattle.std.specs.Prelude.{◌≡◌, ◌+◌, ℕ, List, [], ◌∷◌, ◌++◌, codes, if◌then◌else◌, length, map}
 use Rattle.json.specs.Json.{Json, string}
 use Rattle.ll_tree.specs.Trees.{Entry}
-use Rattle.ll_trace.specs.declared.record.Record.{Record}
+use Rattle.ll_trace.specs.declared.op.Record.{Record}
 use Rattle.ll_report.specs.declared.options.Shown.{Shown}
-use Rattle.ll_report.specs.Told.{Told}
+use Rattle.ll_report.specs.Shown.{Told}
 use Rattle.ll_report.specs.Found.{Found, found_under}
 use Rattle.ll_report.specs.Report.{is_allowed, is_moot, is_refused}
 use Rattle.ll_report.specs.Rows.{count_under, is_row_left_out, refused_under_some}
 use Rattle.ll_json.specs.Parts.{Named, array_of, line_text, object_of, whole}
 use Rattle.ll_json.specs.Records.{members_at, record_json}
 use Rattle.ll_json.specs.Spans.{answers_json}
-use Rattle.ll_json.specs.Versions.{Version}
+use Rattle.ll_json.specs.Judged.{Version}
 
 -- ---- the lines of records
 

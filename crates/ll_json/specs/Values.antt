@@ -1,19 +1,20 @@
 -- What is written of an answer by its explanation as a value.
 -- Source: docs/FORMATS.md, "The report" and "Explanations".
-use Rattle.std.specs.Prelude.{ℕ, List, [], ◌∷◌, ◌++◌, codes, map}
+use Rattle.std.specs.Prelude.{ℕ, List, [], ◌∷◌, ◌++◌, codes, map, if◌then◌else◌}
 use Rattle.json.specs.Token as token
 use Rattle.json.specs.Token.{Token}
 use Rattle.json.specs.Tree.{json_tokens}
 use Rattle.ll_tree.specs.Trees.{Entry}
+use Rattle.ll_rules.specs.LayerNumbers.{is_among}
 use Rattle.ll_trace.specs.declared.op.Op.{Op}
-use Rattle.ll_trace.specs.declared.record.Record.{Record}
+use Rattle.ll_trace.specs.declared.op.Record.{Record}
 use Rattle.ll_semantics.specs.declared.answer.Answer.{Answer}
 use Rattle.ll_semantics.specs.declared.answer.Answer.TheVariants.{Allowed, Moot, Refused}
 use Rattle.ll_explanations.specs.Meanings.{explanation_in}
 use Rattle.ll_explanations.specs.declared.explanation.Explanation.{Explanation}
 use Rattle.ll_explanations.specs.declared.explanation.Explanation.TheVariants.{Nothing, Objections, Failure, Mootness}
 use Rattle.ll_reasons.specs.Explanations.{nothing}
-use Rattle.ll_report.specs.Names.{error_name}
+use Rattle.ll_report.specs.Lines.{error_name}
 use Rattle.ll_json.specs.Layering.{objections_from}
 use Rattle.ll_json.specs.Parts.{Named, array_of, named_tokens}
 use Rattle.ll_json.specs.Records.{answer_members, bare_layer, why_members}
@@ -21,6 +22,10 @@ use Rattle.ll_json.specs.Records.{answer_members, bare_layer, why_members}
 -- layers by their numbers alone
 abbrev pub bare_tokens : List ℕ → List Token
 bare_tokens numbers = json_tokens (array_of (map bare_layer numbers))
+
+-- one of layers that are told by their numbers, one after another: a layer where it is in a set
+unfoldable pub among_tokens : List ℕ → ℕ → List Token
+among_tokens numbers number = if is_among number numbers then json_tokens (bare_layer number) else []
 
 -- the layers that refuse: with all that they object to, where this is explained
 unfoldable pub layers_tokens : List Entry → List Record → List ℕ → Explanation → List Token

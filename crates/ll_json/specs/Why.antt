@@ -7,9 +7,8 @@ use Rattle.ll_rights.specs.declared.kind.Kind.TheVariants.{Dir, Reg, Sym, Char, 
 use Rattle.ll_rights.specs.Abis.{number_of}
 use Rattle.ll_rights.specs.Rights as files
 use Rattle.ll_rights.specs.NetRights as network
-use Rattle.ll_lines.specs.Paths.{Path}
-use Rattle.ll_lines.specs.PathTexts.{text_of}
-use Rattle.ll_trace.specs.declared.record.Record.{Record}
+use Rattle.ll_lines.specs.Paths.{Path, text_of}
+use Rattle.ll_trace.specs.declared.op.Record.{Record}
 use Rattle.ll_reasons.specs.Objections.{Objection, missing, closed, gained, mounting, kept}
 use Rattle.ll_reasons.specs.Conditions as conditions
 use Rattle.ll_reasons.specs.Conditions.{Condition}

@@ -9,12 +9,11 @@ ghost use Rattle.ll_semantics.specs.declared.answer.Answer.TheVariants.{Refused}
 ghost use Rattle.ll_tree.specs.Trees.{Entry};
 ghost use Rattle.ll_explanations.specs.Meanings.{condition_in, explanation_in};
 ghost use Rattle.ll_reasons.specs.Meant.{reason_in};
-ghost use Rattle.ll_report.specs.Names as spec;
+ghost use Rattle.ll_report.specs.Lines as spec;
 ghost use Rattle.ll_report.specs.Versions.{answered};
-ghost use Rattle.ll_json.specs.Numbers.{among_tokens};
 ghost use Rattle.ll_json.specs.Parts.{array_of, named_tokens, values_tokens};
 ghost use Rattle.ll_json.specs.Records.{bare_layer, why_members};
-ghost use Rattle.ll_json.specs.Values.{answer_tokens, layers_tokens, plain_members};
+ghost use Rattle.ll_json.specs.Values.{among_tokens, answer_tokens, layers_tokens, plain_members};
 ghost use Rattle.ll_json.specs.Writing.{writing};
 ghost use Rattle.ll_json.specs.Why.{condition_json, reason_json};
 
@@ -40,7 +39,7 @@ fn write_bare_layer(out: &mut JsonText, number: u32)
 }
 
 /// Writes a layer by its number alone, where it is in a set.
-#[tactic(auto, unfolding(crate::specs::Writing::writing, crate::specs::Numbers::among_tokens))]
+#[tactic(auto, unfolding(crate::specs::Writing::writing, crate::specs::Values::among_tokens))]
 fn write_if_among(out: &mut JsonText, numbers: LayerSet, number: u32)
     ensures { out.new ≡ writing out.old (among_tokens numbers number) }
 {

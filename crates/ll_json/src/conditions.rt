@@ -5,8 +5,7 @@ ghost use Rattle.std.specs.Prelude.{◌≡◌, ◌∷◌, [], codes};
 ghost use Rattle.json.specs.{Json.string, Tree.json_tokens};
 ghost use Rattle.ll_rights.specs.Abis.{number_of};
 ghost use Rattle.ll_explanations.specs.Meanings as meanings;
-ghost use Rattle.ll_explanations.specs.Meanings.{condition_in};
-ghost use Rattle.ll_explanations.specs.Sets.{port_rights_in, rights_in};
+ghost use Rattle.ll_explanations.specs.Meanings.{condition_in, port_rights_in, rights_in};
 ghost use Rattle.ll_json.specs.{Parts.array_of, Parts.whole, Writing.writing};
 ghost use Rattle.ll_json.specs.Why.{by_condition, condition_json, port_rights_json, rights_json};
 

@@ -5,13 +5,12 @@ ghost use Rattle.std.specs.Prelude.{◌≡◌, ◌∷◌, ◌++◌, [], true, co
 ghost use Rattle.json.specs.Json.{boolean, string};
 ghost use Rattle.json.specs.Token as token;
 ghost use Rattle.json.specs.Tree.{json_tokens};
-ghost use Rattle.ll_lines.specs.PathTexts.{text_of};
+ghost use Rattle.ll_lines.specs.Paths.{text_of};
 ghost use Rattle.ll_rights.specs.CodeRights.{fs_right};
 ghost use Rattle.ll_tree.specs.Trees.{path_at};
 ghost use Rattle.ll_explain.specs.Words as spec;
 ghost use Rattle.ll_explain.specs.Words.{line_of};
-ghost use Rattle.ll_explanations.specs.Meanings.{objection_in};
-ghost use Rattle.ll_explanations.specs.Sets.{port_rights_in, rights_in};
+ghost use Rattle.ll_explanations.specs.Meanings.{objection_in, port_rights_in, rights_in};
 ghost use Rattle.ll_json.specs.Layering.{ending, head_of, next_tokens, objections_from, opening};
 ghost use Rattle.ll_json.specs.Parts.{object_of, whole};
 ghost use Rattle.ll_json.specs.Writing.{writing};

@@ -3,8 +3,8 @@
 
 ghost use Rattle.std.specs.Prelude.{◌≡◌, ◌+◌, ◌<◌, ◌^◌, IfOk, List, length};
 ghost use Rattle.ll_report.specs.Scratches.{Suits};
-ghost use Rattle.ll_json.specs.{Judged.AreFound, Reports.IsJsonReport, Rows.json_made, Telling.members_told};
-ghost use Rattle.ll_json.specs.Versions.{Version};
+ghost use Rattle.ll_json.specs.{Reports.IsJsonReport, Rows.json_made, Telling.members_told};
+ghost use Rattle.ll_json.specs.Judged.{AreFound, Version};
 
 use crate::rows::push_line;
 use crate::said::{BareMembers, Members};

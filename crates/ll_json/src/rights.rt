@@ -7,7 +7,7 @@ ghost use Rattle.json.specs.Token as token;
 ghost use Rattle.json.specs.Tree.{json_tokens};
 ghost use Rattle.ll_rights.specs.Rights as files;
 ghost use Rattle.ll_rights.specs.NetRights as network;
-ghost use Rattle.ll_explanations.specs.Sets.{port_rights_in, rights_in};
+ghost use Rattle.ll_explanations.specs.Meanings.{port_rights_in, rights_in};
 ghost use Rattle.ll_json.specs.Names.{name_in, port_name_in, word_if, words_of};
 ghost use Rattle.ll_json.specs.{Parts.array_of, Parts.values_tokens, Writing.writing};
 

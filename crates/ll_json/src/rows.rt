@@ -4,8 +4,7 @@
 ghost use Rattle.std.specs.Prelude.{◌≡◌, ◌+◌, ◌<◌, ◌^◌, false, length, true};
 ghost use Rattle.json.specs.Print.{print};
 ghost use Rattle.ll_explain.specs.Buffers.{adding};
-ghost use Rattle.ll_report.specs.{Alike.AreAlike, Sayings.said_by};
-ghost use Rattle.ll_report.specs.Scratches.{FitIn, is_apart};
+ghost use Rattle.ll_report.specs.Scratches.{AreAlike, FitIn, is_apart, said_by};
 ghost use Rattle.ll_json.specs.Rows.{head_tokens, line_of};
 ghost use Rattle.ll_json.specs.{Telling.AreComparable, Telling.members_told, Writing.writing};
 

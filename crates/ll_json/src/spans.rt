@@ -4,8 +4,7 @@
 ghost use Rattle.std.specs.Prelude.{◌≡◌, ◌+◌, ◌++◌, ◌<◌, ◌^◌, [], codes, false, get_or, if◌then◌else◌, length, nat_lt, true};
 ghost use Rattle.json.specs.Print.{print};
 ghost use Rattle.ll_explain.specs.Buffers.{adding};
-ghost use Rattle.ll_report.specs.Sayings.{said_by};
-ghost use Rattle.ll_report.specs.Scratches.{FitIn};
+ghost use Rattle.ll_report.specs.Scratches.{FitIn, said_by};
 ghost use Rattle.ll_report.specs.Spans.{agree, spans_of};
 ghost use Rattle.ll_json.specs.Rows.{separated, span_text, versions_tokens};
 ghost use Rattle.ll_json.specs.{Telling.AreComparable, Writing.writing};

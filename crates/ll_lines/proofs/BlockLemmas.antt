@@ -5,8 +5,8 @@ use Rattle.std.proofs.lemmas.List.Concat.{flat_map-append}
 use Rattle.std.proofs.lemmas.List.Elements.{All-head, All-push, All-rest}
 use Rattle.std.proofs.KnownBytes.{Consumes-trans}
 use Rattle.std.specs.Io.KnownBytes.{Consumes}
-use Rattle.ll_lines.specs.Blocks.{EndsLine}
-use Rattle.ll_lines.specs.Lines.{Line, filled_from, line_feeds}
+use Rattle.ll_lines.specs.LineByLine.{EndsLine, line_feeds}
+use Rattle.ll_lines.specs.Lines.{Line, filled_from}
 use Rattle.ll_lines.proofs.LinesLemmas.{filled-append}
 
 -- behind a block that ends in a line feed the lines go on

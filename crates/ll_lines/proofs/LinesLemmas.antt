@@ -4,7 +4,8 @@ use Rattle.std.proofs.Common.{Bool, ◌++◌, get_or, cond, sym, ◌∙◌, leng
 use Rattle.std.proofs.lemmas.Bool.{false_from_ne_true, eqb-true}
 use Rattle.std.proofs.lemmas.List.{take_rest, append-nil, take-append-drop, take_more, get_or-drop}
 use Rattle.memchr.specs.Find.{NoneBefore, Nowhere, Passes, is_byte}
-use Rattle.ll_lines.specs.Lines.{lines, with_first, filled_from, Line, line_feeds, numbered_from, is_blank}
+use Rattle.ll_lines.specs.Lines.{lines, with_first, filled_from, Line, numbered_from, is_blank}
+use Rattle.ll_lines.specs.LineByLine.{line_feeds}
 use Rattle.std.specs.Prelude.{not, filter}
 use Rattle.std.proofs.lemmas.List.Elements.{filter-append}
 use Rattle.std.proofs.lemmas.List.Sums.{sum_by-cons}

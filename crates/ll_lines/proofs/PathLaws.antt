@@ -7,8 +7,7 @@ use Rattle.std.specs.List.{list_all, slice_split, All, join_with_byte}
 use Rattle.std.proofs.lemmas.Bool.{le-leb, leb-true, false≢true, and_parts, cases_lt}
 use Rattle.std.proofs.lemmas.Bool.Decides.{nat_tests, Decides-like, same_from_decides}
 use Rattle.ll_lines.specs.declared.path.TheConstants.{LONGEST_PATH}
-use Rattle.ll_lines.specs.Paths.{is_slash, is_name, names_in, after_slash, path_of, Path, Name, is_name_byte, path_eq, front}
-use Rattle.ll_lines.specs.PathTexts.{is_path, text_of}
+use Rattle.ll_lines.specs.Paths.{is_slash, is_name, names_in, after_slash, path_of, Path, Name, is_name_byte, path_eq, front, is_path, text_of}
 use Rattle.std.specs.Str.{bytes_eq}
 use Rattle.std.specs.Bool.{Decides}
 use Rattle.std.proofs.lemmas.Slice.Eq.{slice_eq-Decides, bytes_eq-Decides}

@@ -8,8 +8,7 @@ use Rattle.ll_lines.specs.declared.fault.Cause.TheVariants.{Memory}
 use Rattle.ll_lines.specs.Readers.{Fails}
 use Rattle.ll_lines.specs.Lines.{Line, filled_lines}
 use Rattle.ll_lines.specs.Reading.{Format, entries_of, first_fault, IsGood, IsBad}
-use Rattle.ll_lines.specs.OneWay.{ReadsInOneWay}
-use Rattle.ll_lines.specs.LineByLine.{with_line, read_lines, reading, MeetsFault}
+use Rattle.ll_lines.specs.LineByLine.{with_line, read_lines, reading, MeetsFault, ReadsInOneWay}
 use Rattle.ll_lines.proofs.MemoryLemmas.{unless-map, unless-other}
 
 -- the same, where these entries are before the lines

@@ -1,12 +1,7 @@
-pub mod Fault
 pub mod Readers
 pub mod Lines
-pub mod LineView
 pub mod Members
 pub mod Values
 pub mod Reading
 pub mod LineByLine
-pub mod OneWay
 pub mod Paths
-pub mod PathTexts
-pub mod Blocks

@@ -1,12 +1,30 @@
--- The reading of a file one line after another, which meets the first fault or all entries.
--- Source: docs/FORMATS.md, "What does not read".
-use Rattle.std.specs.Prelude.{◌≡◌, ℕ, List, [], ◌∷◌, ◌++◌, Option, Some, None, Result, Ok, Err}
+-- The reading of a file one line after another, which meets the first fault or all entries: the lines as it sees them,
+-- blocks of whole lines, and that a file is read in one way.
+-- Source: docs/FORMATS.md, "Lines" and "What does not read".
+use Rattle.std.specs.Prelude.{◌≡◌, ◌⊎◌, ℕ, ◌==◌, List, [], ◌∷◌, ◌++◌, count_by, Option, Some, None, Result, Ok, Err}
 use Rattle.ll_lines.specs.declared.fault.Cause.{Cause}
 use Rattle.ll_lines.specs.declared.fault.ReadFault.{ReadFault}
-use Rattle.ll_lines.specs.Fault.{◌>>=◌}
+use Rattle.ll_lines.specs.declared.lines.FileLine.{FileLine}
+use Rattle.ll_lines.specs.Members.{◌>>=◌}
 use Rattle.ll_lines.specs.Lines.{Line, filled_lines}
 use Rattle.ll_lines.specs.Readers.{IsUnlessMemory}
-use Rattle.ll_lines.specs.Reading.{Format}
+use Rattle.ll_lines.specs.Reading.{Format, IsBad}
+
+-- ---- lines, and blocks of whole lines
+
+-- a line as the reading of a file sees it
+abbrev pub line_view : FileLine → Line
+line_view line = record { number = line.number; bytes = line.bytes.now }
+
+-- how many line feeds there are
+abbrev pub line_feeds : List ℕ → ℕ
+line_feeds bytes = count_by (λ byte. byte == 10) bytes
+
+-- bytes of which the last is a line feed
+abbrev pub EndsLine : List ℕ → Type 0
+EndsLine bytes = (front : List ℕ) × (bytes ≡ front ++ 10 ∷ [])
+
+-- ---- the reading
 
 -- the entries, and one more if it has no fault after them
 abbrev pub add_unless : {Entry : Type 0} → List Entry → Entry → Option Cause → Result (List Entry) Cause
@@ -42,3 +60,12 @@ MeetsFault line cause read = IsUnlessMemory cause read (Err (record { line = lin
 abbrev pub GivesReading : {X Entry : Type 0} → (X → List Entry) → Result X ReadFault → Result (List Entry) ReadFault → Type 0
 GivesReading view (Ok x) read = read ≡ Ok (view x)
 GivesReading view (Err fault) read = MeetsFault fault.line fault.cause read
+
+-- ---- that a file is one thing, or has one first fault, and never both
+
+-- So are all files of a format, where this says what a file is.
+pub record ReadsInOneWay {Entry X : Type 0} (format : Format Entry) (Is : List ℕ → X → Type 0) : Type 0 where
+  pub either : (bytes : List ℕ) → ((x : X) × Is bytes x) ⊎ ((fault : ReadFault) × IsBad format bytes fault)
+  pub not_both : (bytes : List ℕ) (x : X) (fault : ReadFault) → Is bytes x → IsBad format bytes fault → ⊥
+  pub one : (bytes : List ℕ) (x other : X) → Is bytes x → Is bytes other → x ≡ other
+  pub one_fault : (bytes : List ℕ) (fault other : ReadFault) → IsBad format bytes fault → IsBad format bytes other → fault ≡ other

@@ -1,6 +1,6 @@
 -- The lines of a file: it is cut at each line feed, and nothing after the last one is no line.
 -- Source: docs/FORMATS.md, "Lines".
-use Rattle.std.specs.Prelude.{ℕ, ◌+◌, ◌==◌, ◌||◌, Bool, not, List, [], ◌∷◌, count_by, filter, if◌then◌else◌}
+use Rattle.std.specs.Prelude.{ℕ, ◌+◌, ◌==◌, ◌||◌, Bool, not, List, [], ◌∷◌, filter, if◌then◌else◌}
 use Rattle.std.specs.List.{list_all}
 
 -- a line with its number, of which the first is 1
@@ -17,10 +17,6 @@ with_first byte (line ∷ others) = (byte ∷ line) ∷ others
 unfoldable pub lines : List ℕ → List (List ℕ)
 lines [] = []
 lines (byte ∷ bytes) = if byte == 10 then [] ∷ lines bytes else with_first byte (lines bytes)
-
--- how many line feeds there are
-abbrev pub line_feeds : List ℕ → ℕ
-line_feeds bytes = count_by (λ byte. byte == 10) bytes
 
 -- a space, a tab or a carriage return
 abbrev pub is_space : ℕ → Bool

@@ -1,13 +1,19 @@
--- The value of a line, and the members of an object: each is there in its form, or the line is at fault.
--- Source: docs/FORMATS.md, "Lines".
-use Rattle.std.specs.Prelude.{ℕ, Bool, false, List, Option, Some, None, ok_or, option_and_then, Result, Ok, if◌then◌else◌}
+-- The value of a line, and the members of an object: each is there in its form, or the line is at fault. What a reader
+-- answers is the value that is there, or the first cause of a fault.
+-- Source: docs/FORMATS.md, "Lines" and "What does not read".
+use Rattle.std.specs.Prelude.{ℕ, Bool, false, List, Option, Some, None, ok_or, option_and_then, Result, Ok, Err, if◌then◌else◌}
 use Rattle.std.specs.Str.{is_utf8}
 use Rattle.serde_json.specs.Data.{Data, Items, no_items, item}
 use Rattle.serde_json.specs.Read.{read}
 use Rattle.serde_json.specs.Find.{get, as_str, as_number, as_u64, as_bool, as_array}
 use Rattle.ll_lines.specs.declared.fault.Cause.{Cause}
 use Rattle.ll_lines.specs.declared.fault.Cause.TheVariants.{Json, Field}
-use Rattle.ll_lines.specs.Fault.{◌>>=◌}
+
+-- the next step of a reading, where no earlier one has a fault
+infixl 10 ◌>>=◌
+abbrev pub ◌>>=◌ : {A B : Type 0} → Result A Cause → (A → Result B Cause) → Result B Cause
+(Ok x) >>= f = f x
+(Err cause) >>= f = Err cause
 
 -- the one JSON value that the bytes are
 abbrev pub value_of : List ℕ → Option Data

@@ -1,7 +1,7 @@
--- A path of the listed tree as the list of its names, and the text that spells it.
+-- A path of the listed tree as the list of its names, the text that spells it, and which paths have a text.
 -- Source: docs/FORMATS.md, "Paths".
 use Rattle.std.specs.Prelude.{ℕ, ◌∷◌, [], List, Bool, true, false, ◌&&◌, ◌==◌, not, nat_le, length, codes, Option, Some, None, if◌then◌else◌}
-use Rattle.std.specs.List.{list_all, slice_split}
+use Rattle.std.specs.List.{join_with_byte, list_all, slice_split}
 use Rattle.std.specs.Str.{bytes_eq}
 use Rattle.std.specs.Cmp.Lexicographic.{pointwise}
 use Rattle.ll_lines.specs.declared.path.TheConstants.{LONGEST_PATH}
@@ -53,3 +53,11 @@ unfoldable pub is_prefix : Path → Path → Bool
 is_prefix [] path = true
 is_prefix (name ∷ names) [] = false
 is_prefix (name ∷ names) (first ∷ others) = bytes_eq name first && is_prefix names others
+
+-- a path's text has each name after one slash; the root's is the slash alone
+unfoldable pub text_of : Path → List ℕ
+text_of path = 47 ∷ join_with_byte 47 path
+
+-- the names fit in a text of at most 4,096 bytes
+unfoldable pub is_path : Path → Bool
+is_path path = list_all is_name path && nat_le (length (text_of path)) LONGEST_PATH

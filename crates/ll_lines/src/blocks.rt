@@ -2,7 +2,7 @@
 
 ghost use Rattle.std.specs.Prelude.{◌≡◌, ◌≤◌, ◌<◌, ◌++◌, ℕ, List, IfOk, OnOk, IfSome, None, ◌+◌, flat_map, length, take, vec_len};
 ghost use Rattle.std.specs.Io.KnownBytes.{Consumes, IsAtEnd};
-ghost use Rattle.ll_lines.specs.{Blocks.EndsLine, Lines.filled_lines};
+ghost use Rattle.ll_lines.specs.{LineByLine.EndsLine, Lines.filled_lines};
 
 use crate::lines::{FilledLines, LINE_FEED, count_line_feeds};
 use memchr::memrchr;
@@ -57,7 +57,7 @@ pub struct LineBlocks {
 
 impl Model for LineBlocks {
     ghost use Rattle.std.specs.Prelude.{List, ℕ, ◌++◌, ◌<◌, ◌^◌, All, flat_map, length};
-    ghost use Rattle.ll_lines.specs.Blocks.{EndsLine};
+    ghost use Rattle.ll_lines.specs.LineByLine.{EndsLine};
 
     ghost Value = { List ℕ };
 

@@ -3,7 +3,8 @@
 ghost use Rattle.std.specs.Prelude.{◌≡◌, ◌<◌, ◌≤◌, ◌+◌, ◌^◌, ◌∷◌, ◌++◌, [], ℕ, length, max, flat_map, IfOk};
 ghost use Rattle.std.specs.Iterator.{YieldsFirstBy, item_count};
 ghost use Rattle.ll_lines.specs.declared.lines.TheConstants.{LANES};
-ghost use Rattle.ll_lines.specs.Lines.{lines, is_blank, filled_from, filled_lines, line_feeds};
+ghost use Rattle.ll_lines.specs.Lines.{lines, is_blank, filled_from, filled_lines};
+ghost use Rattle.ll_lines.specs.LineByLine.{line_feeds};
 
 use crate::fault::{Cause, ReadFault};
 use memchr::memchr;
@@ -117,7 +118,7 @@ impl<'a> FilledLines<'a> {
 }
 
 impl<'a> Iterator for FilledLines<'a> {
-    ghost use Rattle.ll_lines.specs.LineView.{line_view};
+    ghost use Rattle.ll_lines.specs.LineByLine.{line_view};
 
     type Item = FileLine<'a>;
 

@@ -2,8 +2,7 @@
 
 ghost use Rattle.std.specs.Prelude.{◌≡◌, ◌<◌, ◌∷◌, [], ℕ, List, Some, true, is_some, length, IsTrue, MatchOption};
 ghost use Rattle.std.specs.List.{list_all, slice_split};
-ghost use Rattle.ll_lines.specs.Paths.{Path, is_slash, is_name_byte, is_name, path_of, front};
-ghost use Rattle.ll_lines.specs.PathTexts.{is_path, text_of};
+ghost use Rattle.ll_lines.specs.Paths.{Path, is_slash, is_name_byte, is_name, path_of, front, is_path, text_of};
 
 use memchr::memchr;
 

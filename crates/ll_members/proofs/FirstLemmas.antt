@@ -9,9 +9,8 @@ use Rattle.json.specs.Json as json
 use Rattle.json.specs.Find.{get}
 use Rattle.json.proofs.Grammar.{value_is}
 use Rattle.ll_lines.specs.Values.{is_in_range, are_in_range, have_range}
-use Rattle.ll_members.specs.BothSets.{no_rights}
-use Rattle.ll_members.specs.Slots.{spelt, folded, IsWhole, BeginNoValue, IsReadFrom, AreReadFrom, IsValue, AreMissing, Stands}
-use Rattle.ll_members.specs.Walks.{behind_value, behind_items, behind_members}
+use Rattle.ll_members.specs.Slots.{spelt, folded, IsWhole, BeginNoValue, IsReadFrom, AreReadFrom, IsValue, AreMissing, Stands, no_rights}
+use Rattle.ll_members.specs.Slots.{behind_value, behind_items, behind_members}
 use Rattle.ll_members.specs.declared.rights.Rights.{Rights}
 use Rattle.ll_members.specs.declared.row.Members.{Members}
 use Rattle.ll_members.specs.declared.row.Slot.{Slot}

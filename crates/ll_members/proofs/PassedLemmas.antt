@@ -6,8 +6,7 @@ use Rattle.json.specs.Json as json
 use Rattle.json.specs.Find.{later_or, get_member}
 use Rattle.json.proofs.Grammar.{read_key-shorter, members_end, members_no_key, members_more}
 use Rattle.ll_lines.specs.Values.{is_in_range, have_range}
-use Rattle.ll_members.specs.Walks.{behind, behind_value, behind_members}
-use Rattle.ll_members.specs.Slots.{spelt, IsReadFrom, AreReadFrom, Keeps, ShowMembers, AreMissing}
+use Rattle.ll_members.specs.Slots.{spelt, IsReadFrom, AreReadFrom, Keeps, ShowMembers, AreMissing, behind, behind_value, behind_members}
 use Rattle.ll_members.specs.declared.row.Members.{Members}
 use Rattle.ll_members.specs.declared.row.Slot.{Slot}
 use Rattle.ll_members.proofs.WalkLemmas.{behind-map, member_fails}

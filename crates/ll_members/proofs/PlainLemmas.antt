@@ -27,8 +27,7 @@ use Rattle.serde_json.specs.Read.{number_of}
 use Rattle.ll_lines.specs.declared.fault.Cause.TheVariants.{Json}
 use Rattle.ll_lines.specs.Values.{parsed, data_of, are_in_range, have_range}
 use Rattle.ll_lines.proofs.Values.{in_range}
-use Rattle.ll_members.specs.BothSets.{no_rights, with_rights}
-use Rattle.ll_members.specs.Slots.{spelt, IsLine, ShowMembers, Keeps, AreMissing, rights_of}
+use Rattle.ll_members.specs.Slots.{spelt, IsLine, ShowMembers, Keeps, AreMissing, rights_of, no_rights, with_rights}
 use Rattle.ll_members.specs.Plain.{is_unescaped, IsUnescaped, items_of, ReadsBack, ReadBack}
 use Rattle.ll_members.specs.Plain.{BeginsWithNumber, BeginsWithTexts, BeginsWithValue, BeginsWithMember, IsObject}
 use Rattle.ll_members.specs.declared.rights.Rights.{Rights}

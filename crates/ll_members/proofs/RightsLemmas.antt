@@ -7,9 +7,7 @@ use Rattle.json.specs.Find.{as_str}
 use Rattle.json.proofs.Grammar.{items_more, items_end}
 use Rattle.ll_lines.specs.declared.fault.Cause.TheVariants.{Field}
 use Rattle.ll_lines.specs.Values.{is_in_range, are_in_range}
-use Rattle.ll_members.specs.BothSets.{no_rights}
-use Rattle.ll_members.specs.Slots.{IsReadFrom, with_text, rights_of, folded, text_from}
-use Rattle.ll_members.specs.Walks.{behind, behind_value, behind_items}
+use Rattle.ll_members.specs.Slots.{IsReadFrom, with_text, rights_of, folded, text_from, no_rights, behind, behind_value, behind_items}
 use Rattle.ll_members.specs.declared.rights.Rights.{Rights}
 use Rattle.ll_members.specs.declared.row.Slot.{Slot}
 use Rattle.ll_members.proofs.WalkLemmas.{item_fails}

@@ -6,12 +6,11 @@ use Rattle.json.specs.Find.{get, as_str, as_number, as_bool, as_array}
 use Rattle.serde_json.specs.Data.{Data}
 use Rattle.ll_lines.specs.declared.fault.Cause.{Cause}
 use Rattle.ll_lines.specs.declared.fault.Cause.TheVariants.{Field}
-use Rattle.ll_lines.specs.Fault.{◌>>=◌}
-use Rattle.ll_lines.specs.Members.{text_at, number_at, truth_at, flag_at, items_at, fold_texts}
+use Rattle.ll_lines.specs.Members.{text_at, number_at, truth_at, flag_at, items_at, fold_texts, ◌>>=◌}
 use Rattle.ll_lines.specs.Values.{data_of, data_of_items}
 use Rattle.ll_lines.proofs.Values.{whole, text_in_data, text_at_data, number_at_data, truth_at_data, flag_at_none, flag_at_some, items_at_none, items_at_some}
 use Rattle.ll_members.specs.Rights.{with_fs, fs_at, with_net, net_at, texts_at}
-use Rattle.ll_members.specs.BothSets.{with_rights, no_rights}
+use Rattle.ll_members.specs.Slots.{with_rights, no_rights}
 use Rattle.ll_members.specs.Slots.{spelt, slot_at, Shows, Hold, text_from, number_from, truth_from, flag_from, with_text, rights_of, rights_from, part_of}
 use Rattle.ll_members.specs.declared.rights.Rights.{Rights}
 use Rattle.ll_members.specs.declared.row.Members.{Members}

@@ -7,8 +7,7 @@ use Rattle.json.specs.Lex.{tokens}
 use Rattle.ll_lines.specs.declared.fault.Cause.TheVariants.{Json}
 use Rattle.ll_lines.specs.Members.{value_at}
 use Rattle.ll_lines.specs.Values.{parsed, data_of, is_in_range}
-use Rattle.ll_members.specs.Walks.{behind, behind_value}
-use Rattle.ll_members.specs.Slots.{IsValue, IsLine}
+use Rattle.ll_members.specs.Slots.{IsValue, IsLine, behind, behind_value}
 use Rattle.ll_members.specs.declared.row.Members.{Members}
 use Rattle.ll_lines.proofs.Values.{in_range, out_of_range, parse_fails}
 use Rattle.ll_members.proofs.WalkLemmas.{is_unfit}

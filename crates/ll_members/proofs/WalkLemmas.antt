@@ -4,7 +4,7 @@ use Rattle.json.specs.Token.{Token}
 use Rattle.json.specs.Json.{Json, item, member, Parse, parse_map, after_end_array, read_key, items, members}
 use Rattle.json.proofs.Grammar.{items_more, items_fail, members_more, members_fail}
 use Rattle.ll_lines.specs.Values.{is_in_range, are_in_range, have_range}
-use Rattle.ll_members.specs.Walks.{behind}
+use Rattle.ll_members.specs.Slots.{behind}
 
 -- nothing is behind something that was parsed after a value that doesn't fit
 behind-fails : {A : Type 0} (test : A → Bool) (with : A → A) → ((a : A) → test (with a) ≡ false) → (r : Option (A × List Token))

@@ -1,5 +1,3 @@
 pub mod Rights
-pub mod BothSets
-pub mod Walks
 pub mod Slots
 pub mod Plain

@@ -8,8 +8,7 @@ use Rattle.json.specs.Tree.{json_tokens, items_tokens, depth, HasNumbers}
 use Rattle.serde_json.specs.Find.{as_u64}
 use Rattle.serde_json.specs.Read.{number_of}
 use Rattle.ll_lines.specs.Values.{is_in_range}
-use Rattle.ll_members.specs.BothSets.{no_rights, with_rights}
-use Rattle.ll_members.specs.Slots.{Shows, ShowMembers, ShowOneMore}
+use Rattle.ll_members.specs.Slots.{Shows, ShowMembers, ShowOneMore, no_rights, with_rights}
 use Rattle.ll_members.specs.declared.rights.Rights.{Rights}
 use Rattle.ll_members.specs.declared.row.Members.{Members}
 use Rattle.ll_members.specs.declared.row.Slot.{Slot}

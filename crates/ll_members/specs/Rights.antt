@@ -7,8 +7,7 @@ use Rattle.ll_rights.specs.declared.net.Net.{Net}
 use Rattle.ll_rights.specs.Rights as files
 use Rattle.ll_rights.specs.NetRights as network
 use Rattle.ll_lines.specs.declared.fault.Cause.{Cause}
-use Rattle.ll_lines.specs.Fault.{◌>>=◌}
-use Rattle.ll_lines.specs.Members.{items_at, fold_texts}
+use Rattle.ll_lines.specs.Members.{items_at, fold_texts, ◌>>=◌}
 
 -- the texts of a member that is a list, put together one after another
 abbrev pub texts_at : {Whole : Type 0} → List ℕ → (Whole → List ℕ → Whole) → Whole → Data → Result Whole Cause

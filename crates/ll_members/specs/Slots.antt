@@ -1,4 +1,6 @@
--- The members of a line's value, each in the slot of its name.
+-- The members of a line's value, each in the slot of its name: the rights that a list of names stands for, what is left
+-- behind a value that is passed over, and what the slots show.
+-- Source: docs/FORMATS.md, "The tree file" and "The trace file"; the slots are the code's own.
 use Rattle.std.specs.Prelude.{◌≡◌, ℕ, List, ◌∷◌, Bool, true, Option, Some, None, codes, get_or, length, option_and_then, ok_or, false, Result, Ok, Err, if◌then◌else◌}
 use Rattle.std.specs.Str.{bytes_eq}
 use Rattle.json.specs.Token.{Token}
@@ -7,13 +9,13 @@ use Rattle.json.specs.Find.{later_or, get, get_member, as_str, as_number, as_boo
 use Rattle.serde_json.specs.Data.{Data}
 use Rattle.serde_json.specs.Read.{number_of}
 use Rattle.serde_json.specs.Find.{as_u64}
+use Rattle.ll_rights.specs.Rights as files
+use Rattle.ll_rights.specs.NetRights as network
 use Rattle.ll_lines.specs.Members.{value_at}
 use Rattle.ll_lines.specs.Values.{data_of, is_in_range, are_in_range, have_range}
 use Rattle.ll_lines.specs.declared.fault.Cause.{Cause}
 use Rattle.ll_lines.specs.declared.fault.Cause.TheVariants.{Field}
-use Rattle.ll_members.specs.BothSets.{with_rights, no_rights}
 use Rattle.ll_members.specs.declared.rights.Rights.{Rights}
-use Rattle.ll_members.specs.Walks.{behind_value}
 use Rattle.ll_members.specs.declared.first.First.{First}
 use Rattle.ll_members.specs.declared.first.First.TheVariants.{Whole, Array, Object}
 use Rattle.ll_members.specs.declared.row.Name.{Name}
@@ -21,6 +23,35 @@ use Rattle.ll_members.specs.declared.row.Name.TheVariants.{Op, Pid, Child, Rs, F
 use Rattle.ll_members.specs.declared.row.Slot.{Slot}
 use Rattle.ll_members.specs.declared.row.Slot.TheVariants.{Missing, Text, Number, Truth, Names, Other}
 use Rattle.ll_members.specs.declared.row.Members.{Members}
+use Rattle.ll_members.specs.Rights.{with_fs, with_net}
+
+-- ---- the rights for files and those for the network, which the name of a list tells apart later
+
+-- both sets with the right that a name stands for
+abbrev pub with_rights : Rights → List ℕ → Rights
+with_rights rights name = record { fs = with_fs rights.fs name; net = with_net rights.net name }
+
+-- no right
+abbrev pub no_rights : Rights
+no_rights = record { fs = files.no_right; net = network.no_right }
+
+-- ---- passing over values: what is left behind a value, where every number in it is in range
+
+-- what is left behind what was parsed, where it passes a test
+abbrev pub behind : {A : Type 0} → (A → Bool) → Option (A × List Token) → Option (List Token)
+behind test None = None
+behind test (Some p) = if test p.0 then Some p.1 else None
+
+abbrev pub behind_value : ℕ → List Token → Option (List Token)
+behind_value depth ts = behind is_in_range (json.value depth ts)
+
+abbrev pub behind_items : ℕ → List Token → Option (List Token)
+behind_items depth ts = behind are_in_range (json.items (json.value depth) (length ts) ts)
+
+abbrev pub behind_members : ℕ → List Token → Option (List Token)
+behind_members depth ts = behind have_range (json.members (json.value depth) (length ts) ts)
+
+-- ---- the slots
 
 -- how a name is spelt
 unfoldable pub spelt : Name → List ℕ

@@ -1,7 +1,7 @@
 //! The rights that the names of a list stand for.
 
 ghost use Rattle.std.specs.Prelude.{◌≡◌};
-ghost use Rattle.ll_members.specs.BothSets.{no_rights, with_rights};
+ghost use Rattle.ll_members.specs.Slots.{no_rights, with_rights};
 
 use ll_rights::{Fs, Net, fs_of_name, net_of_name};
 

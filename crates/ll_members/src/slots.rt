@@ -3,9 +3,7 @@
 ghost use Rattle.std.specs.Prelude.{◌≡◌, ◌<◌, length, suc, MatchResult, OnOk, IfErr, Some, None};
 ghost use Rattle.json.specs.Json as spec;
 ghost use Rattle.ll_lines.specs.{declared.fault.Cause.TheVariants.Json, Members.value_at, Readers.Fails};
-ghost use Rattle.ll_members.specs.BothSets.{no_rights};
-ghost use Rattle.ll_members.specs.Walks.{behind_value, behind_items, behind_members};
-ghost use Rattle.ll_members.specs.Slots.{folded, with_text, text_from, IsReadFrom, AreReadFrom, AreMissing, IsValue, IsLine};
+ghost use Rattle.ll_members.specs.Slots.{folded, with_text, text_from, IsReadFrom, AreReadFrom, AreMissing, IsValue, IsLine, no_rights, behind_value, behind_items, behind_members};
 
 use crate::first::{First, first_of};
 use crate::members::text_in;

@@ -6,13 +6,13 @@ use Rattle.std.proofs.lemmas.Bool.{cases_eq}
 use Rattle.std.proofs.lemmas.List.{map-append, append-nil, take_more, length-set, get_or-set_same, get_or-set_other, get_or-replicate, length-replicate}
 use Rattle.std.proofs.lemmas.Grind.{flat_map-append}
 use Rattle.std.proofs.lemmas.Option.{slice_get_within, get_or_from_slice_get, slice_get-get_or}
-use Rattle.ll_trace.specs.declared.record.ProcessId.{ProcessId}
+use Rattle.ll_trace.specs.declared.op.ProcessId.{ProcessId}
 use Rattle.ll_process.specs.declared.piece.Piece.{Piece}
 use Rattle.ll_trace.specs.Processes.{numbers, times, process_count}
 use Rattle.ll_process.specs.Cases.{CaseValue}
 use Rattle.ll_trace.proofs.EachOnce.{times-append, times-nil, times-other, times-same}
 use Rattle.ll_pool.specs.Gathered.{processes_in, IsTally, IsFault}
-use Rattle.ll_trace.specs.declared.record.Record.{Record}
+use Rattle.ll_trace.specs.declared.op.Record.{Record}
 use Rattle.ll_pool.specs.declared.gather.CollectFault.{CollectFault}
 use Rattle.ll_pool.specs.declared.gather.CollectFault.TheVariants.{Missing, Double, Memory}
 

@@ -6,7 +6,7 @@ use Rattle.ll_semantics.specs.declared.answer.Answer.{Answer}
 use Rattle.ll_process.specs.declared.piece.Piece.{Piece}
 use Rattle.ll_trace.specs.Processes.{numbers, times, process_count}
 use Rattle.ll_process.specs.Cases.{CaseValue}
-use Rattle.ll_trace.specs.declared.record.Record.{Record}
+use Rattle.ll_trace.specs.declared.op.Record.{Record}
 use Rattle.ll_pool.specs.declared.gather.CollectFault.{CollectFault}
 use Rattle.ll_pool.specs.declared.gather.CollectFault.TheVariants.{Missing, Double, Memory}
 

@@ -1,4 +1,3 @@
 pub mod Accounts
 pub mod Rule
 pub mod Gathered
-pub mod Crews

@@ -6,12 +6,12 @@ use Rattle.std.proofs.Crossing.{crosses}
 use Rattle.ll_shared.proofs.Crossing.{map_send}
 use Rattle.ll_tree.proofs.tree.Tree.TheSendSync as tree
 use Rattle.ll_trace.proofs.trace.Trace.TheSendSync as trace
-use Rattle.ll_trace.proofs.record.ProcessId.TheSendSync as process
+use Rattle.ll_trace.proofs.op.ProcessId.TheSendSync as process
 use Rattle.ll_rules.proofs.domain.Domain.TheSendSync as domain
 use Rattle.ll_rules.proofs.Crossing.{layer_sync}
 use Rattle.ll_semantics.proofs.answer.Answer.TheSendSync as answer
-use Rattle.ll_semantics.proofs.descriptor.Descriptor.TheSendSync as descriptor
-use Rattle.ll_semantics.proofs.ruleset_outcome.RulesetOutcome.TheSendSync as outcome
+use Rattle.ll_semantics.proofs.answer.Descriptor.TheSendSync as descriptor
+use Rattle.ll_semantics.proofs.answer.RulesetOutcome.TheSendSync as outcome
 use Rattle.ll_state.specs.contracts.own_state.OwnState as OwnState
 use Rattle.ll_process.specs.contracts.case.Case as Case
 use Rattle.ll_process.specs.contracts.job.Job as Job

@@ -3,7 +3,7 @@ use Rattle.std.proofs.Common.{◌≡◌, ℕ, ◌+◌, cond, eqb, List, ◌∷�
 use Rattle.std.proofs.Common.{inr}
 use Rattle.std.specs.Prelude.{sum_by, slice_get}
 use Rattle.std.proofs.lemmas.List.Sums.{sum_by-append, sum_by-cons, sum_by_push}
-use Rattle.ll_trace.specs.declared.record.Record.{Record}
+use Rattle.ll_trace.specs.declared.op.Record.{Record}
 use Rattle.ll_trace.specs.Processes.{kids, times, process_count, children, numbers}
 use Rattle.ll_trace.proofs.EachOnce.{equal_weights, times-append}
 use Rattle.ll_process.specs.Jobs.{SharesOut, KeepsMore, processes_of, AreJobsOf, HandedOut, weight, weight_of}
@@ -12,7 +12,7 @@ use Rattle.std.proofs.lemmas.List.Elements.{All-append, All-nil, All-push, All-p
 use Rattle.std.specs.List.{flat_map}
 use Rattle.std.proofs.lemmas.Grind.{flat_map-append}
 use Rattle.std.proofs.lemmas.Option.{none-some, same_Some}
-use Rattle.ll_trace.specs.declared.record.ProcessId.{ProcessId}
+use Rattle.ll_trace.specs.declared.op.ProcessId.{ProcessId}
 use Rattle.ll_semantics.specs.declared.answer.Answer.{Answer}
 use Rattle.ll_process.specs.declared.job.Job.{Job}
 use Rattle.ll_process.specs.Cases.{CaseValue, own_answers}

@@ -5,7 +5,7 @@ use Rattle.std.proofs.Common.{inr, add-one}
 use Rattle.std.specs.Prelude.{slice_get, sum_by, ◌==◌}
 use Rattle.ll_rights.specs.declared.abi.Abi.{Abi}
 use Rattle.ll_tree.specs.Trees.{Entry}
-use Rattle.ll_trace.specs.declared.record.Record.{Record}
+use Rattle.ll_trace.specs.declared.op.Record.{Record}
 use Rattle.ll_semantics.specs.Worlds.{step}
 use Rattle.ll_semantics.specs.CallContexts.{world_at}
 use Rattle.ll_trace.specs.Processes.{is_fork, process_count, IsNumbered, forked_at, own_from, own_records, children}

@@ -1,7 +1,7 @@
 -- What was judged, what a hand kept and what is still to do, by processes.
 -- Source: the kernel's userspace document on Landlock, "Inheritance": each child begins with what its parent has.
 use Rattle.std.specs.Prelude.{◌≡◌, ℕ, ◌+◌, ◌<◌, ◌∷◌, ◌++◌, List, map, sum_by, All, ◌-◌, ◌^◌}
-use Rattle.ll_trace.specs.declared.record.Record.{Record}
+use Rattle.ll_trace.specs.declared.op.Record.{Record}
 use Rattle.ll_process.specs.declared.job.Job.{Job}
 use Rattle.ll_process.specs.Cases.{CaseValue}
 use Rattle.ll_trace.specs.Processes.{kids, process_count, times}

@@ -1,7 +1,7 @@
 -- What a process has by itself before and after one of its own records.
 -- Source: landlock(7); the kernel's userspace document on Landlock, "Inheritance".
 use Rattle.std.specs.Prelude.{◌≡◌, ℕ, Some, slice_get}
-use Rattle.ll_trace.specs.declared.record.Record.{Record}
+use Rattle.ll_trace.specs.declared.op.Record.{Record}
 use Rattle.ll_state.specs.declared.own_state.OwnState.{OwnState}
 use Rattle.ll_semantics.specs.CallContexts.{CallContext, world_at}
 use Rattle.ll_process.specs.Cases.{CaseValue, AgreesIn}

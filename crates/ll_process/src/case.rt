@@ -3,7 +3,7 @@
 ghost use Rattle.std.specs.Prelude.{◌≡◌, ◌<◌, ℕ, All, Some, IfOk, IfSome, length, slice_get};
 ghost use Rattle.std.specs.Option.{option_map};
 ghost use Rattle.ll_process.specs.Cases.{IsCase};
-ghost use Rattle.ll_trace.specs.declared.record.Record.{Record as OneRecord};
+ghost use Rattle.ll_trace.specs.declared.op.Record.{Record as OneRecord};
 ghost use Rattle.ll_trace.specs.FirstPlaces.{AreFirstPlaces, first_place};
 ghost use Rattle.ll_trace.specs.Processes.{process_count, own_records, forked_at};
 

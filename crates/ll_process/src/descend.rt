@@ -5,7 +5,6 @@ ghost use Rattle.ll_trace.specs.Processes.{process_count, numbers, children};
 ghost use Rattle.ll_process.specs.Cases.{own_answers};
 ghost use Rattle.ll_process.specs.Jobs.{processes_of, AreJobsOf, HandedOut, KeepsMore, SharesOut, weight, weight_of};
 
-use crate::adding::append;
 use crate::ahead::Ahead;
 use crate::case::Case;
 use crate::child::{child_job, offer};
@@ -17,6 +16,16 @@ use ll_rules::NoMemory;
 use ll_semantics::Answer;
 use ll_trace::ProcessId;
 use std::alloc::Global;
+
+/// Adds an item at the end.
+pub(crate) fn append<T: Drop>(items: &mut Vec<T>, item: T) -> Result<(), NoMemory>
+    ensures { OnOk result (items.new.items ≡ items.old.items ++ item ∷ []) }
+{
+    match items.push(item) {
+        Ok(()) => Ok(()),
+        Err(_) => Err(NoMemory),
+    }
+}
 
 /// Judges one process, and adds its records with their answers at the end. Each child that it forks
 /// is offered to the hand; those that come back are still to do.

@@ -1,7 +1,7 @@
 //! Laws on judging processes one at a time, and on distributing processes.
 
 ghost use Rattle.std.specs.Prelude.{◌≡◌, ℕ, ◌+◌, ◌<◌, List};
-ghost use Rattle.ll_trace.specs.declared.record.Record.{Record};
+ghost use Rattle.ll_trace.specs.declared.op.Record.{Record};
 ghost use Rattle.ll_trace.specs.Processes.{IsNumbered, process_count, times, roots, kids};
 ghost use Rattle.ll_process.specs.Orders.{ChangesNoOther, ChangesRulesetsAlone, DependsOnOwn};
 

@@ -2,7 +2,7 @@
 
 ghost use Rattle.std.specs.Prelude.{◌≡◌, ◌<◌, ℕ, Some, slice_get};
 ghost use Rattle.std.specs.List.{flat_map};
-ghost use Rattle.ll_trace.specs.declared.record.ProcessId.{ProcessId as Process};
+ghost use Rattle.ll_trace.specs.declared.op.ProcessId.{ProcessId as Process};
 ghost use Rattle.ll_trace.specs.Processes.{process_count, numbers};
 ghost use Rattle.ll_process.specs.Cases.{own_answers};
 

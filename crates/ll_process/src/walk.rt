@@ -1,8 +1,8 @@
 //! One process's own records, one after another.
 
 ghost use Rattle.std.specs.Prelude.{◌≡◌, ◌<◌, Some, IfOk, IfSome, OnOk, length, slice_get};
-ghost use Rattle.ll_trace.specs.{declared.record.Record.Record as OneRecord, FirstPlaces.first_place};
-ghost use Rattle.ll_semantics.specs.declared.ruleset_outcome.RulesetOutcome.{RulesetOutcome as OneOutcome};
+ghost use Rattle.ll_trace.specs.{declared.op.Record.Record as OneRecord, FirstPlaces.first_place};
+ghost use Rattle.ll_semantics.specs.declared.answer.RulesetOutcome.{RulesetOutcome as OneOutcome};
 ghost use Rattle.ll_semantics.specs.CallContexts.{CallContext, answer_to, state_then};
 ghost use Rattle.ll_state.specs.Agreement.{IsMet, Agrees};
 ghost use Rattle.ll_semantics.specs.RulesetOutcomes.{OutcomeFits};

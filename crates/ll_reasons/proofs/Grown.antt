@@ -4,7 +4,7 @@ use Rattle.std.proofs.Common.{append-nil, IfSome}
 use Rattle.std.specs.Map.{update}
 use Rattle.ll_rights.specs.declared.abi.Abi.{Abi}
 use Rattle.ll_tree.specs.Trees.{Entry}
-use Rattle.ll_trace.specs.declared.record.Record.{Record}
+use Rattle.ll_trace.specs.declared.op.Record.{Record}
 use Rattle.ll_trace.specs.declared.op.Op.{Op}
 use Rattle.ll_trace.specs.declared.op.Op.TheVariants.{Restrict, OpenFile, Adopt, Dup, Close}
 use Rattle.ll_semantics.specs.States.{State, Layer, fresh}

@@ -34,10 +34,10 @@ use Rattle.ll_semantics.specs.States.{Layer, State}
 use Rattle.ll_semantics.specs.Answers as answers
 use Rattle.ll_trace.specs.declared.op.Op.{Op}
 use Rattle.ll_trace.specs.declared.op.Op.TheVariants as calls
-use Rattle.ll_semantics.specs.declared.descriptor.Descriptor.{Descriptor}
+use Rattle.ll_semantics.specs.declared.answer.Descriptor.{Descriptor}
 use Rattle.ll_rights.specs.declared.abi.Abi.{Abi}
 use Rattle.ll_reasons.specs.Origins.{Origins}
-use Rattle.ll_trace.specs.declared.record.Record.{Record}
+use Rattle.ll_trace.specs.declared.op.Record.{Record}
 use Rattle.ll_semantics.specs.Worlds.{World, answer_in, judged}
 use Rattle.ll_semantics.specs.CallContexts.{world_at}
 use Rattle.ll_semantics.proofs.Steps.{judged-at}

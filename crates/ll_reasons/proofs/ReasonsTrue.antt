@@ -22,14 +22,14 @@ use Rattle.ll_trace.specs.declared.op.Op.TheVariants as calls
 use Rattle.ll_trace.specs.declared.op.Sort.{Sort}
 use Rattle.ll_trace.specs.declared.op.Sort.TheVariants.{Regular, Device, Other}
 use Rattle.ll_semantics.specs.declared.answer.Answer.TheVariants.{Allowed, Moot}
-use Rattle.ll_semantics.specs.declared.descriptor.Descriptor.{Descriptor}
+use Rattle.ll_semantics.specs.declared.answer.Descriptor.{Descriptor}
 use Rattle.ll_semantics.specs.declared.request.Wanted.{Wanted}
 use Rattle.ll_semantics.specs.declared.request.Wanted.TheVariants.{Make, Unlink, Rmdir}
 use Rattle.ll_semantics.specs.Requests.{wanted}
 use Rattle.ll_semantics.specs.Moves.{is_above, is_root, is_mixed, rename_move, rename_to, rename_into, rename_onto}
 use Rattle.ll_semantics.specs.States.{State, Layer}
 use Rattle.ll_semantics.specs.Answers as answers
-use Rattle.ll_trace.specs.declared.record.Record.{Record}
+use Rattle.ll_trace.specs.declared.op.Record.{Record}
 use Rattle.ll_semantics.specs.Worlds.{World, answer_in}
 use Rattle.ll_semantics.specs.CallContexts.{world_at}
 use Rattle.ll_reasons.specs.Origins.{Origins}

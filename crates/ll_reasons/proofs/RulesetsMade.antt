@@ -13,7 +13,7 @@ use Rattle.ll_tree.specs.declared.place.Place.TheVariants.{Node, Gap, Nowhere}
 use Rattle.ll_tree.specs.Trees.{Entry, place}
 use Rattle.ll_rules.specs.Layers.{without_rules, with_port_rule}
 use Rattle.ll_rules.specs.Rulesets.{with_rule_at}
-use Rattle.ll_trace.specs.declared.record.Record.{Record}
+use Rattle.ll_trace.specs.declared.op.Record.{Record}
 use Rattle.ll_trace.specs.declared.op.Op.{Op}
 use Rattle.ll_trace.specs.declared.op.Op.TheVariants.{Create, CreateEmpty, AddPath, AddPort, CloseRs}
 use Rattle.ll_semantics.specs.declared.answer.Answer.{Answer}

@@ -21,7 +21,7 @@ use Rattle.ll_trace.specs.declared.op.Sort.{Sort}
 use Rattle.ll_trace.specs.declared.op.Sort.TheVariants.{Regular, Device, Other}
 use Rattle.ll_semantics.specs.declared.answer.Answer.{Answer}
 use Rattle.ll_semantics.specs.declared.answer.Answer.TheVariants.{Allowed, Moot, Refused}
-use Rattle.ll_semantics.specs.declared.descriptor.Descriptor.{Descriptor}
+use Rattle.ll_semantics.specs.declared.answer.Descriptor.{Descriptor}
 use Rattle.ll_semantics.specs.declared.request.Request.{Request}
 use Rattle.ll_semantics.specs.States.{State, Layer}
 use Rattle.ll_semantics.specs.Answers as answers

@@ -2,8 +2,7 @@
 use Rattle.std.proofs.Common.{◌≡◌, ℕ, suc, ◌+◌, ◌<◌, ◌≤◌, Bool, true, false, List, []}
 use Rattle.std.proofs.Common.{◌∷◌, ◌++◌, length, eqb, cond, Option, Some, None, refl, sym, ap, ◌∙◌, arith}
 use Rattle.std.specs.Prelude.{IsTrue, is_some, ◌≢◌}
-use Rattle.ll_lines.specs.Paths.{Path, front, path_of, after_slash, names_in}
-use Rattle.ll_lines.specs.PathTexts.{text_of, is_path}
+use Rattle.ll_lines.specs.Paths.{Path, front, path_of, after_slash, names_in, text_of, is_path}
 use Rattle.ll_lines.specs.Paths.{is_name}
 use Rattle.std.specs.List.{list_all}
 use Rattle.std.specs.List.{join_with_byte}

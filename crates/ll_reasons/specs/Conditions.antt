@@ -10,7 +10,7 @@ use Rattle.ll_rights.specs.NetRights as network
 use Rattle.ll_rules.specs.declared.errno.Errno.{Errno}
 use Rattle.ll_rules.specs.declared.errno.Errno.TheVariants.{Perm, BadFd, TooBig, Inval, NoMsg}
 use Rattle.ll_rules.specs.Rulesets.{has_ports}
-use Rattle.ll_trace.specs.declared.record.Record.{Record}
+use Rattle.ll_trace.specs.declared.op.Record.{Record}
 use Rattle.ll_trace.specs.declared.op.Op.{Op}
 use Rattle.ll_trace.specs.declared.op.Op.TheVariants as calls
 use Rattle.ll_reasons.specs.Origins.{Origins}

@@ -3,11 +3,11 @@
 use Rattle.std.specs.Prelude.{◌≡◌, ◌<◌, ℕ, ◌++◌, List, [], Option, Some, None, Bool, true, false, slice_get}
 use Rattle.ll_rights.specs.declared.abi.Abi.{Abi}
 use Rattle.ll_tree.specs.Trees.{Entry, place}
-use Rattle.ll_trace.specs.declared.record.Record.{Record}
+use Rattle.ll_trace.specs.declared.op.Record.{Record}
 use Rattle.ll_trace.specs.declared.op.Op.{Op}
 use Rattle.ll_trace.specs.declared.op.Op.TheVariants as calls
 use Rattle.ll_semantics.specs.declared.answer.Answer.TheVariants.{Allowed}
-use Rattle.ll_semantics.specs.declared.descriptor.Descriptor.{Descriptor}
+use Rattle.ll_semantics.specs.declared.answer.Descriptor.{Descriptor}
 use Rattle.ll_semantics.specs.States.{State, Layer}
 use Rattle.ll_semantics.specs.Effects.{descriptor, opened}
 use Rattle.ll_semantics.specs.RulesetOutcomes.{enforced}

@@ -12,7 +12,7 @@ use Rattle.ll_trace.specs.declared.op.Op.TheVariants as calls
 use Rattle.ll_trace.specs.declared.op.Sort.{Sort}
 use Rattle.ll_trace.specs.declared.op.Sort.TheVariants.{Regular, Device, Other}
 unfoldable pub use Rattle.ll_trace.specs.Operations.{paths_of, are_spelt}
-use Rattle.ll_semantics.specs.declared.descriptor.Descriptor.{Descriptor}
+use Rattle.ll_semantics.specs.declared.answer.Descriptor.{Descriptor}
 use Rattle.ll_semantics.specs.Moves.{is_root, is_mixed}
 use Rattle.ll_semantics.specs.States.{State}
 use Rattle.ll_reasons.specs.CallNames.{descriptor_of, is_named, is_on_the_way, named_paths, ruleset_number}

@@ -8,7 +8,7 @@ use Rattle.ll_rules.specs.declared.errno.Errno.TheVariants.{Acces, Inval}
 use Rattle.ll_lines.specs.Paths.{Path}
 use Rattle.ll_tree.specs.WorkedTree.{worked_tree}
 use Rattle.ll_rules.specs.WorkedRules.{a, b, a_f}
-use Rattle.ll_trace.specs.declared.record.Record.{Record}
+use Rattle.ll_trace.specs.declared.op.Record.{Record}
 use Rattle.ll_trace.specs.declared.op.Op.TheVariants as calls
 use Rattle.ll_trace.specs.declared.op.RuleType.TheVariants.{PathBeneath, NetPort}
 use Rattle.ll_semantics.specs.declared.answer.Answer.{Answer}

@@ -4,7 +4,7 @@ ghost use Rattle.std.specs.Prelude.{◌≡◌, ℕ, List, ◌∷◌, map, Some, 
 ghost use Rattle.ll_rights.specs.declared.abi.Abi.{Abi};
 ghost use Rattle.ll_tree.specs.Trees.{Entry};
 ghost use Rattle.ll_rules.specs.declared.errno.Errno.{Errno};
-ghost use Rattle.ll_trace.specs.{declared.record.Record.Record, declared.op.Op.Op};
+ghost use Rattle.ll_trace.specs.{declared.op.Record.Record, declared.op.Op.Op};
 ghost use Rattle.ll_semantics.specs.declared.answer.Answer.TheVariants.{Allowed, Refused};
 ghost use Rattle.ll_semantics.specs.{States.Layer, Worlds.judged};
 ghost use Rattle.ll_reasons.specs.{Objections.Objection, Origins.Origins};

@@ -3,7 +3,7 @@
 ghost use Rattle.std.specs.Prelude.{◌≡◌, ℕ, List, All, length, filter_map, option_and_then, slice_get, Some, IfSome, is_some};
 ghost use Rattle.ll_rights.specs.declared.abi.Abi.{Abi};
 ghost use Rattle.ll_tree.specs.Trees.{Entry};
-ghost use Rattle.ll_trace.specs.declared.record.Record.{Record};
+ghost use Rattle.ll_trace.specs.declared.op.Record.{Record};
 ghost use Rattle.ll_semantics.specs.States.{Layer};
 ghost use Rattle.ll_reasons.specs.Made.{enforced_at, is_restrict, opened_at, is_opening, is_create, IsEarlier, domain_there, BeganAs};
 ghost use Rattle.ll_reasons.specs.Conditions.{handled, handled_on_ports};

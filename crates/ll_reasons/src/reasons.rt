@@ -3,7 +3,7 @@
 ghost use Rattle.std.specs.Prelude.{◌≡◌, ℕ, List, [], true, is_some, IsSomeAnd};
 ghost use Rattle.ll_rights.specs.declared.abi.Abi.{Abi};
 ghost use Rattle.ll_tree.specs.Trees.{Entry, node_at};
-ghost use Rattle.ll_trace.specs.{declared.record.Record.Record, declared.op.Op.Op};
+ghost use Rattle.ll_trace.specs.{declared.op.Record.Record, declared.op.Op.Op};
 ghost use Rattle.ll_semantics.specs.declared.answer.Answer.TheVariants.{Moot, Refused};
 ghost use Rattle.ll_rules.specs.declared.errno.Errno.{Errno};
 ghost use Rattle.ll_reasons.specs.{Conditions.condition, ConditionsHold.IsCondition, Reasons.reason};

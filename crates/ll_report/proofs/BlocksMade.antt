@@ -5,13 +5,12 @@ use Rattle.std.specs.Prelude.{unwrap_or}
 use Rattle.std.specs.List.{flat_map}
 use Rattle.ll_rights.specs.declared.abi.Abi.{Abi}
 use Rattle.ll_tree.specs.Trees.{Entry}
-use Rattle.ll_trace.specs.declared.record.Record.{Record}
+use Rattle.ll_trace.specs.declared.op.Record.{Record}
 use Rattle.ll_semantics.specs.declared.answer.Answer.{Answer}
 use Rattle.ll_semantics.specs.declared.answer.Answer.TheVariants.{Moot}
 use Rattle.ll_semantics.specs.Worlds.{judged}
 use Rattle.ll_semantics.proofs.Steps.{length-judged}
-use Rattle.ll_explanations.specs.FindingValues.{FindingValue}
-use Rattle.ll_explanations.specs.Findings.{answer_in}
+use Rattle.ll_explanations.specs.Findings.{FindingValue, answer_in}
 use Rattle.ll_explain.specs.Explained.{text_at}
 use Rattle.ll_explain.specs.Told.{text_told}
 use Rattle.ll_report.specs.declared.options.Shown.{Shown}
@@ -20,8 +19,7 @@ use Rattle.ll_report.specs.Blocks.{block_of, blocks_made, total_of}
 use Rattle.ll_report.specs.Made.{rows_of, text_of}
 use Rattle.ll_report.specs.Lines.{line_of, lines_of}
 use Rattle.ll_report.specs.Report.{ReportLine, line_text, report_text}
-use Rattle.ll_report.specs.Shown.{behind_line, block_text, blocks_from, is_left_out, shown_text}
-use Rattle.ll_report.specs.TextReports.{told_of}
+use Rattle.ll_report.specs.Shown.{behind_line, block_text, blocks_from, is_left_out, shown_text, told_of}
 use Rattle.ll_report.proofs.LinesLeft.{whole_text}
 use Rattle.ll_report.proofs.Making.{next_rows}
 

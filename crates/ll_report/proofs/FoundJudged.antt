@@ -4,10 +4,9 @@ use Rattle.std.specs.List.{range_with_len}
 use Rattle.std.proofs.lemmas.List.Elements.{length_all_zip}
 use Rattle.ll_rights.specs.declared.abi.Abi.{Abi}
 use Rattle.ll_tree.specs.Trees.{Entry}
-use Rattle.ll_trace.specs.declared.record.Record.{Record}
+use Rattle.ll_trace.specs.declared.op.Record.{Record}
 use Rattle.ll_semantics.specs.declared.answer.Answer.{Answer}
-use Rattle.ll_explanations.specs.FindingValues.{FindingValue}
-use Rattle.ll_explanations.specs.Findings.{Finds}
+use Rattle.ll_explanations.specs.Findings.{FindingValue, Finds}
 use Rattle.ll_explanations.specs.TakenLater.{AreTakenLater, IsTakenLater}
 use Rattle.ll_explain.specs.Explained.{text_at}
 use Rattle.ll_explain.specs.Told.{text_told}

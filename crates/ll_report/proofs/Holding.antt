@@ -6,12 +6,12 @@ use Rattle.std.proofs.lemmas.Bool.{cases_lt}
 use Rattle.std.proofs.lemmas.List.{get_or_default, length-map, take_all}
 use Rattle.std.proofs.lemmas.List.Elements.{All-map}
 use Rattle.ll_tree.specs.Trees.{Entry}
-use Rattle.ll_trace.specs.declared.record.Record.{Record}
-use Rattle.ll_explanations.specs.FindingValues.{FindingValue}
+use Rattle.ll_trace.specs.declared.op.Record.{Record}
+use Rattle.ll_explanations.specs.Findings.{FindingValue}
 use Rattle.ll_explain.specs.Buffers.{Buffered, adding, blank, most_counted}
 use Rattle.ll_explain.proofs.Buffering.{added, counted, window}
 use Rattle.ll_report.specs.declared.sayings.Sayings.{Sayings}
-use Rattle.ll_report.specs.Sayings.{said_by}
+use Rattle.ll_report.specs.Scratches.{said_by}
 
 -- as many texts as findings
 pub each_told : (told : List Entry → List Record → FindingValue → ℕ → List ℕ) (s : Sayings) → length (said_by told s) ≡ length s.findings.now

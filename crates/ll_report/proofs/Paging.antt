@@ -7,8 +7,7 @@ use Rattle.std.proofs.Math.Seq.{take-append-add}
 use Rattle.std.proofs.lemmas.List.{append-nil, drop-drop, length-append, take_all}
 use Rattle.ll_explain.specs.Buffers.{Buffered, adding, from_byte, holding, most_counted}
 use Rattle.ll_explain.proofs.Buffering.{added, filled}
-use Rattle.ll_report.specs.Pages.{IsPage, Sends}
-use Rattle.ll_report.specs.Writing.{AppendsBeginning}
+use Rattle.ll_report.specs.Writing.{AppendsBeginning, IsPage, Sends}
 use Rattle.ll_report.proofs.Beginnings.{beginning, further}
 
 -- what a page shows of a part that is added to it without its first bytes

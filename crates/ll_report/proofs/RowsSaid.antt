@@ -10,20 +10,18 @@ use Rattle.std.proofs.lemmas.List.Sums.{sum_by-cons}
 use Rattle.std.proofs.lemmas.Option.{slice_get_past, unwrap_or-slice_get}
 use Rattle.std.proofs.lemmas.List.FromFn.{get_or-map-range_with_len, length-map-range_with_len}
 use Rattle.ll_tree.specs.Trees.{Entry}
-use Rattle.ll_trace.specs.declared.record.Record.{Record}
+use Rattle.ll_trace.specs.declared.op.Record.{Record}
 use Rattle.ll_semantics.specs.declared.answer.Answer.{Answer}
-use Rattle.ll_explanations.specs.FindingValues.{FindingValue}
-use Rattle.ll_explanations.specs.Findings.{answer_in, kept_at, said_by}
+use Rattle.ll_explanations.specs.Findings.{FindingValue, answer_in, kept_at, said_by}
 use Rattle.ll_explain.specs.Told.{said_text, text_told}
 use Rattle.ll_report.specs.declared.options.Shown.{Shown}
 use Rattle.ll_report.specs.declared.spans.Form.TheVariants.{Answers, Explanations}
-use Rattle.ll_report.specs.Alike.{AnswerAs, AreAlike}
+use Rattle.ll_report.specs.Scratches.{AnswerAs, AreAlike, told_under, verdict_told}
 use Rattle.ll_report.specs.Blocks.{block_of}
 use Rattle.ll_report.specs.Found.{Found, answer_at, explanation_at}
 use Rattle.ll_report.specs.Lines.{line_of, verdict_of}
 use Rattle.ll_report.specs.Report.{is_refused, line_text, verdict_text}
 use Rattle.ll_report.specs.Rows.{answers_said, explanations_said, is_refused_under_some, is_row_left_out, row_text, told_of, total_under_text, totals_from}
-use Rattle.ll_report.specs.Scratches.{told_under, verdict_told}
 use Rattle.ll_report.specs.Shown.{behind_line, is_left_out}
 use Rattle.ll_report.specs.Spans.{agree, versions_text}
 use Rattle.ll_report.specs.Versions.{answered, answers_in, found_in, founds_in, some_refuses}

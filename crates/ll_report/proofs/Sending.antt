@@ -3,8 +3,7 @@ use Rattle.std.proofs.Common.{◌≡◌, ◌∙◌, ℕ, ◌+◌, ◌<◌, ◌�
 use Rattle.std.proofs.lemmas.List.{append-nil}
 use Rattle.std.specs.Io.KnownBytes.{Appends}
 use Rattle.ll_report.specs.Made.{Made, part_at, text_of}
-use Rattle.ll_report.specs.Pages.{Sends}
-use Rattle.ll_report.specs.Writing.{AppendsBeginning}
+use Rattle.ll_report.specs.Writing.{AppendsBeginning, Sends}
 use Rattle.ll_report.proofs.Making.{left, left_last, left_next, part_last, part_row}
 use Rattle.ll_report.proofs.Paging.{all_sent, cut_last, cut_part, part_sent}
 

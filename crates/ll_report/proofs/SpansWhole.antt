@@ -6,8 +6,7 @@ use Rattle.std.specs.Str.{bytes_eq}
 use Rattle.std.proofs.lemmas.List.Concat.{flat_map-cons}
 use Rattle.std.proofs.lemmas.List.FromFn.{map-range_with_len_more}
 use Rattle.std.proofs.lemmas.Slice.Eq.{bytes_eq-Decides}
-use Rattle.ll_report.specs.Spans.{Span, spans_from, spans_of}
-use Rattle.ll_report.specs.SpansSpread.{all_spread_out, numbered_from, spread_out}
+use Rattle.ll_report.specs.Spans.{Span, all_spread_out, numbered_from, spans_from, spans_of, spread_out}
 
 -- a span that goes on for a version more
 goes_on : (span : Span) → span.first ≤ span.last

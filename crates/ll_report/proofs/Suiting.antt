@@ -6,10 +6,9 @@ use Rattle.std.proofs.lemmas.Bool.{cases_lt, false≢true}
 use Rattle.std.proofs.lemmas.List.{length-append}
 use Rattle.std.specs.Prelude.{unwrap_or}
 use Rattle.ll_tree.specs.Trees.{Entry}
-use Rattle.ll_trace.specs.declared.record.Record.{Record}
-use Rattle.ll_explanations.specs.FindingValues.{FindingValue}
-use Rattle.ll_report.specs.Alike.{AreAlike}
-use Rattle.ll_report.specs.Scratches.{FitIn, told_under, verdict_told}
+use Rattle.ll_trace.specs.declared.op.Record.{Record}
+use Rattle.ll_explanations.specs.Findings.{FindingValue}
+use Rattle.ll_report.specs.Scratches.{AreAlike, FitIn, told_under, verdict_told}
 
 abbrev pub found_apart : List Bool → ℕ → Bool
 found_apart apart place = unwrap_or (slice_get apart place) false

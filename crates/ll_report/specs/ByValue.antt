@@ -3,10 +3,9 @@
 use Rattle.std.specs.Prelude.{◌≡◌, ℕ, List, Option, slice_get}
 use Rattle.std.proofs.Common.{ap}
 use Rattle.ll_tree.specs.Trees.{Entry}
-use Rattle.ll_trace.specs.declared.record.Record.{Record}
+use Rattle.ll_trace.specs.declared.op.Record.{Record}
 use Rattle.ll_semantics.specs.declared.answer.Answer.{Answer}
-use Rattle.ll_explanations.specs.FindingValues.{FindingValue}
-use Rattle.ll_explanations.specs.Findings.{answer_in, kept_at, said_by}
+use Rattle.ll_explanations.specs.Findings.{FindingValue, answer_in, kept_at, said_by}
 use Rattle.ll_explanations.specs.declared.explained.Explained.{Explained}
 use Rattle.ll_explain.specs.Told.{said_text, text_told}
 use Rattle.ll_report.specs.Lines.{verdict_of}

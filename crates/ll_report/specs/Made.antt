@@ -2,7 +2,7 @@
 -- Source: docs/FORMATS.md, "The report".
 use Rattle.std.specs.Prelude.{◌+◌, ◌++◌, ℕ, List, [], ◌∷◌, slice_get, unwrap_or}
 use Rattle.std.specs.List.{flat_map}
-use Rattle.ll_trace.specs.declared.record.Record.{Record}
+use Rattle.ll_trace.specs.declared.op.Record.{Record}
 
 -- a row is what is shown of a record, which may be nothing
 pub record Made : Type 0 where

@@ -2,7 +2,7 @@
 -- Source: docs/FORMATS.md, "Several versions".
 use Rattle.std.specs.Prelude.{◌+◌, ◌&&◌, ◌||◌, ◌++◌, ℕ, Bool, not, List, [], ◌∷◌, codes, count_by, decimal, if◌then◌else◌, length, map}
 use Rattle.std.specs.List.{list_any, range_with_len}
-use Rattle.ll_trace.specs.declared.record.Record.{Record}
+use Rattle.ll_trace.specs.declared.op.Record.{Record}
 use Rattle.ll_report.specs.declared.options.Shown.{Shown}
 use Rattle.ll_trace.specs.Operations.{op_name}
 use Rattle.ll_report.specs.declared.spans.Form.{Form}

@@ -1,13 +1,29 @@
--- What is kept to compare what versions say.
+-- What versions find alike of a record, what is kept to compare what they say of it, and what they say.
 -- Source: docs/FORMATS.md, "Several versions"; the buffers are the code's own.
-use Rattle.std.specs.Prelude.{◌≡◌, ◌<◌, ◌≤◌, ℕ, Bool, true, false, List, All, length, map, slice_get, unwrap_or}
+use Rattle.std.specs.Prelude.{◌≡◌, ◌<◌, ◌≤◌, ℕ, Bool, [], ◌∷◌, true, false, List, All, length, map, slice_get, unwrap_or}
 use Rattle.ll_tree.specs.Trees.{Entry}
-use Rattle.ll_trace.specs.declared.record.Record.{Record}
-use Rattle.ll_explanations.specs.FindingValues.{FindingValue}
-use Rattle.ll_explanations.specs.Findings.{answer_in}
-use Rattle.ll_report.specs.Alike.{AreAlike}
+use Rattle.ll_trace.specs.declared.op.Record.{Record}
+use Rattle.ll_explanations.specs.Findings.{FindingValue, answer_in, kept_at}
 use Rattle.ll_report.specs.Lines.{verdict_of}
 use Rattle.ll_report.specs.Report.{verdict_text}
+use Rattle.ll_report.specs.declared.sayings.Sayings.{Sayings}
+
+-- ---- what versions find alike of a record
+
+-- each version answers the record at a place as one does
+abbrev pub AnswerAs : FindingValue → List FindingValue → ℕ → Type 0
+AnswerAs one findings place = All (λ finding. answer_in finding place ≡ answer_in one place) findings
+
+-- each version explains it by the same value
+abbrev pub ExplainAs : FindingValue → List FindingValue → ℕ → Type 0
+ExplainAs one findings place = All (λ finding. kept_at finding place ≡ kept_at one place) findings
+
+-- there is a version, and all answer alike, and explain alike if explanations are kept
+abbrev pub AreAlike : Bool → List FindingValue → ℕ → Type 0
+AreAlike explains [] place = ⊥
+AreAlike explains (first ∷ others) place = AnswerAs first others place × (explains ≡ true → ExplainAs first others place)
+
+-- ---- what is kept to compare what versions say
 
 -- of each record whether versions may differ about it, and how long a text can be held
 pub record ScratchValue : Type 0 where
@@ -35,3 +51,9 @@ pub record Suits (told : List Entry → List Record → FindingValue → ℕ →
   pub alike : (place : ℕ) → place < length records → is_apart scratch place ≡ false → AreAlike explains findings place
   pub verdicts : (place : ℕ) → is_apart scratch place ≡ true → FitIn scratch.room (told_under verdict_told tree records findings place)
   pub texts : (place : ℕ) → is_apart scratch place ≡ true → FitIn scratch.room (told_under told tree records findings place)
+
+-- ---- what versions say of the record at a place, by the findings, the tree and the records at hand
+
+-- what is told under each version
+abbrev pub said_by : (List Entry → List Record → FindingValue → ℕ → List ℕ) → Sayings → List (List ℕ)
+said_by told sayings = told_under told sayings.tree.now sayings.records.now sayings.findings.now sayings.place

@@ -1,15 +1,25 @@
--- The report over one version as it is shown: of each record its line and its explanation, or nothing, and the totals of all records.
--- Source: docs/FORMATS.md, "The report" and "Explanations".
+-- What a report tells, and the report over one version as it is shown: of each record its line and its explanation, or
+-- nothing, and the totals of all records.
+-- Source: docs/FORMATS.md, "The report", "Explanations" and "Statuses".
 use Rattle.std.specs.Prelude.{◌≡◌, ◌+◌, ◌&&◌, ◌||◌, ℕ, Bool, not, List, [], ◌∷◌, ◌++◌, if◌then◌else◌, length}
 use Rattle.ll_rights.specs.declared.abi.Abi.{Abi}
 use Rattle.ll_tree.specs.Trees.{Entry}
-use Rattle.ll_trace.specs.declared.record.Record.{Record}
+use Rattle.ll_trace.specs.declared.op.Record.{Record}
 use Rattle.ll_semantics.specs.Worlds.{judged}
 use Rattle.ll_explain.specs.Explained.{text_at}
 use Rattle.ll_report.specs.declared.options.Shown.{Shown}
+use Rattle.ll_report.specs.declared.report.Report.{Report}
 use Rattle.ll_report.specs.Lines.{lines_of, refused_among}
-use Rattle.ll_report.specs.Told.{Told}
 use Rattle.ll_report.specs.Report.{ReportLine, Verdict, count_of, is_allowed, is_moot, is_refused, line_text, total_text}
+
+-- what a report tells: its text, and how many records are refused
+pub record Told : Type 0 where
+  pub text : List ℕ
+  pub refused : ℕ
+
+-- by a report whose bytes are there
+abbrev pub told_by : Report → Told
+told_by report = record { text = report.bytes.items; refused = report.refused }
 
 -- A record whose line is left out: only refused ones are shown, and it isn't, or only those whose answer differs between
 -- versions, and there is one version.
@@ -42,3 +52,10 @@ shown_text shown explained lines =
 pub record IsShownReportOn (shown : Shown) (tree : List Entry) (abi : Abi) (records : List Record) (report : Told) : Type 0 where
   pub text : report.text ≡ shown_text shown (text_at tree abi records) (lines_of records (judged tree abi records))
   pub refused : report.refused ≡ refused_among records (judged tree abi records)
+
+-- the report on records whose calls meet this tree, as it is shown
+abbrev pub told_of : Shown → List Entry → Abi → List Record → Told
+told_of shown tree abi records = record {
+  text = shown_text shown (text_at tree abi records) (lines_of records (judged tree abi records));
+  refused = refused_among records (judged tree abi records);
+}

@@ -1,7 +1,8 @@
--- What is said of a record under neighbouring versions: where it is the same, it is said once.
+-- What is said of a record under neighbouring versions: where it is the same, it is said once. Also what spans say under
+-- each of their versions.
 -- Source: docs/FORMATS.md, "Several versions".
-use Rattle.std.specs.Prelude.{◌+◌, ◌==◌, ◌++◌, ℕ, Bool, true, List, [], ◌∷◌, bytes_eq, codes, decimal, if◌then◌else◌}
-use Rattle.std.specs.List.{flat_map, list_all}
+use Rattle.std.specs.Prelude.{◌+◌, ◌-◌, suc, ◌==◌, ◌++◌, ℕ, Bool, true, List, [], ◌∷◌, bytes_eq, codes, decimal, length, map, if◌then◌else◌}
+use Rattle.std.specs.List.{flat_map, list_all, range_with_len, zip}
 use Rattle.ll_report.specs.declared.spans.Form.{Form}
 use Rattle.ll_report.specs.declared.spans.Form.TheVariants.{Answers, Explanations}
 
@@ -53,3 +54,17 @@ abbrev pub versions_text : Form → ℕ → List (List ℕ) → List ℕ
 versions_text form oldest [] = []
 versions_text form oldest (said ∷ others) =
     if agree (said ∷ others) then alone_text form said else flat_map (span_text form) (spans_of oldest (said ∷ others))
+
+-- ---- what spans say under each of their versions
+
+-- the versions of a span, by their numbers, each with what is said under it
+abbrev pub spread_out : Span → List (ℕ × List ℕ)
+spread_out span = map (λ number. (number, span.said)) (range_with_len span.first (suc span.last - span.first))
+
+-- the versions of spans, each with what is said under it
+abbrev pub all_spread_out : List Span → List (ℕ × List ℕ)
+all_spread_out spans = flat_map spread_out spans
+
+-- neighbouring versions, of which the oldest has this number, each with what is said under it
+abbrev pub numbered_from : ℕ → List (List ℕ) → List (ℕ × List ℕ)
+numbered_from oldest said = zip (range_with_len oldest (length said)) said

@@ -3,9 +3,8 @@
 use Rattle.std.specs.Prelude.{ℕ, Bool, List, [], if◌then◌else◌, length, map}
 use Rattle.std.specs.List.{list_any, range_with_len}
 use Rattle.ll_tree.specs.Trees.{Entry}
-use Rattle.ll_trace.specs.declared.record.Record.{Record}
-use Rattle.ll_explanations.specs.FindingValues.{FindingValue}
-use Rattle.ll_explanations.specs.Findings.{answer_in}
+use Rattle.ll_trace.specs.declared.op.Record.{Record}
+use Rattle.ll_explanations.specs.Findings.{FindingValue, answer_in}
 use Rattle.ll_explain.specs.Told.{text_told}
 use Rattle.ll_report.specs.declared.options.Shown.{Shown}
 use Rattle.ll_report.specs.declared.rows.Row.{Row}

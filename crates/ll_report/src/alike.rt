@@ -1,7 +1,7 @@
 //! What versions find alike of a record.
 
 ghost use Rattle.std.specs.Bool.{OnTrue};
-ghost use Rattle.ll_report.specs.Alike.{AreAlike};
+ghost use Rattle.ll_report.specs.Scratches.{AreAlike};
 
 use ll_explanations::Finding;
 

@@ -3,12 +3,13 @@
 ghost use Rattle.std.specs.Prelude.{◌≡◌, ℕ, List, [], codes};
 ghost use Rattle.ll_rights.specs.{declared.abi.Abi.Abi as Version, declared.abi.Abi.TheVariants.V4};
 ghost use Rattle.ll_tree.specs.{Trees.Entry, WorkedTree.worked_tree};
-ghost use Rattle.ll_trace.specs.declared.record.Record.{Record as OneRecord};
+ghost use Rattle.ll_trace.specs.declared.op.Record.{Record as OneRecord};
 ghost use Rattle.ll_semantics.specs.Worlds.{judged};
-ghost use Rattle.ll_explanations.specs.{FindingValues.FindingValue, Findings.Finds, TakenLater.AreTakenLater};
+ghost use Rattle.ll_explanations.specs.TakenLater.{AreTakenLater};
+ghost use Rattle.ll_explanations.specs.Findings.{FindingValue, Finds};
 ghost use Rattle.ll_report.specs.{declared.options.Shown.Shown, Found.found_under, Versions.found_in, Lines.lines_of};
-ghost use Rattle.ll_report.specs.{Report.report_text, Spans.spans_of};
-ghost use Rattle.ll_report.specs.SpansSpread.{all_spread_out, numbered_from};
+ghost use Rattle.ll_report.specs.Report.{report_text};
+ghost use Rattle.ll_report.specs.Spans.{all_spread_out, numbered_from, spans_of};
 
 /// The report on an empty trace.
 pub fn empty_report()

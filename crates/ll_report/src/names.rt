@@ -1,7 +1,7 @@
 //! The names of errors.
 
 ghost use Rattle.std.specs.Prelude.{◌≡◌};
-ghost use Rattle.ll_report.specs.Names as spec;
+ghost use Rattle.ll_report.specs.Lines as spec;
 
 use ll_rules::Errno;
 

@@ -5,8 +5,7 @@ ghost use Rattle.std.specs.Bool.{OnFalse, OnTrue};
 ghost use Rattle.std.specs.Io.KnownBytes.{Appends};
 ghost use Rattle.ll_explain.specs.Buffers.{adding, holding};
 ghost use Rattle.ll_report.specs.Made.{part_at, text_of};
-ghost use Rattle.ll_report.specs.Pages.{IsPage, Sends};
-ghost use Rattle.ll_report.specs.Writing.{AppendsBeginning};
+ghost use Rattle.ll_report.specs.Writing.{AppendsBeginning, IsPage, Sends};
 
 use crate::made::Rows;
 use crate::writing::{write_bytes, write_whole};

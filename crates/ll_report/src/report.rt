@@ -6,7 +6,7 @@ ghost use Rattle.ll_explain.specs.Buffers.{adding};
 ghost use Rattle.ll_report.specs.Lines.{line_of, verdict_of};
 ghost use Rattle.ll_report.specs.Report as words;
 ghost use Rattle.ll_report.specs.Report.{counts_text, head_text, layers_text, line_text, next_layer_text, record_text, refused, report_status, total_text, verdict_text};
-ghost use Rattle.ll_report.specs.Names as spec;
+ghost use Rattle.ll_report.specs.Lines as spec;
 
 use crate::names::error_name;
 use ll_explain::{TextBuffer, push_number, push_words};

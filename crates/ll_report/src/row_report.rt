@@ -3,7 +3,8 @@
 ghost use Rattle.std.specs.Prelude.{◌≡◌, IfOk, OnOk};
 ghost use Rattle.std.specs.Io.KnownBytes.{Appends};
 ghost use Rattle.ll_semantics.specs.Worlds.{judged};
-ghost use Rattle.ll_report.specs.{Made.text_of, Report.report_status, TextReports.told_of, Told.told_by};
+ghost use Rattle.ll_report.specs.{Made.text_of, Report.report_status};
+ghost use Rattle.ll_report.specs.Shown.{told_by, told_of};
 ghost use Rattle.ll_report.specs.Writing.{AppendsBeginning};
 
 use crate::blocks::Blocks;
@@ -27,7 +28,7 @@ pub struct RowReport<R: Rows> {
 }
 
 impl<R: Rows> Model for RowReport<R> {
-    ghost use Rattle.ll_report.specs.{Made.text_of, Told.Told};
+    ghost use Rattle.ll_report.specs.{Made.text_of, Shown.Told};
 
     ghost Value = { Told };
 

@@ -3,9 +3,8 @@
 ghost use Rattle.std.specs.Prelude.{◌≡◌, ◌+◌, ◌<◌, ◌^◌, ◌&&◌, count_by, false, length, not, true};
 ghost use Rattle.std.specs.List.{range_with_len};
 ghost use Rattle.ll_explain.specs.Buffers.{adding};
-ghost use Rattle.ll_report.specs.{Alike.AreAlike, Rows.is_row_left_out};
-ghost use Rattle.ll_report.specs.Scratches.{FitIn, is_apart, verdict_told};
-ghost use Rattle.ll_report.specs.Sayings.{said_by};
+ghost use Rattle.ll_report.specs.Rows.{is_row_left_out};
+ghost use Rattle.ll_report.specs.Scratches.{AreAlike, FitIn, is_apart, said_by, verdict_told};
 ghost use Rattle.ll_report.specs.Versions.{answers_in, row_of, some_refuses};
 ghost use Rattle.ll_explain.specs.Told.{text_told};
 

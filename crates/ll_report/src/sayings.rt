@@ -2,8 +2,7 @@
 
 ghost use Rattle.std.specs.Prelude.{◌≡◌, ◌<◌, ◌≤◌, ◌^◌, [], false, get_or, length, true};
 ghost use Rattle.ll_explain.specs.Buffers.{adding};
-ghost use Rattle.ll_report.specs.Alike.{AreAlike};
-ghost use Rattle.ll_report.specs.Scratches.{FitIn, told_under, verdict_told};
+ghost use Rattle.ll_report.specs.Scratches.{AreAlike, FitIn, told_under, verdict_told};
 
 use crate::alike::are_alike;
 use crate::telling::{Saying, Telling, Verdicts};

@@ -3,7 +3,7 @@
 
 ghost use Rattle.std.specs.Prelude.{◌≡◌, ◌+◌, ◌<◌, ◌^◌, [], get_or, length};
 ghost use Rattle.ll_explain.specs.Buffers.{adding};
-ghost use Rattle.ll_report.specs.{Scratches.FitIn, Sayings.said_by};
+ghost use Rattle.ll_report.specs.Scratches.{FitIn, said_by};
 ghost use Rattle.ll_report.specs.Spans.{agree, alone_text, numbers_text, span_text, versions_text};
 
 use crate::sayings::Sayings;

@@ -24,9 +24,8 @@ pub struct Saying<'f> {
 pub trait Telling {
     ghost use Rattle.std.specs.Prelude.{◌≡◌, ℕ, List};
     ghost use Rattle.ll_tree.specs.Trees.{Entry};
-    ghost use Rattle.ll_trace.specs.declared.record.Record.{Record as OneRecord};
-    ghost use Rattle.ll_explanations.specs.FindingValues.{FindingValue};
-    ghost use Rattle.ll_explanations.specs.Findings.{answer_in, kept_at};
+    ghost use Rattle.ll_trace.specs.declared.op.Record.{Record as OneRecord};
+    ghost use Rattle.ll_explanations.specs.Findings.{FindingValue, answer_in, kept_at};
 
     ghost told: { List Entry → List OneRecord → FindingValue → ℕ → List ℕ };
 

@@ -10,8 +10,8 @@ use Rattle.std.proofs.lemmas.Nat.Bits.{bit_at_or, bit_at_and, bit_at_xor, bit_at
 use Rattle.std.proofs.lemmas.Nat.Bits.{same_from_bits_below}
 use Rattle.std.proofs.lemmas.List.FromFn.{get_or-range_with_len, length-range_with_len}
 use Rattle.std.proofs.lemmas.List.Folds.{list_any-from_Any}
-use Rattle.ll_rights.specs.Bits.{has_place}
-use Rattle.ll_rights.specs.BitSets.{bits_without}
+use Rattle.ll_rights.specs.Sets.{has_place}
+use Rattle.ll_rights.specs.Supported.{bits_without}
 
 -- of two bits, the larger is 1 where either is, and the smaller where both are
 pub one_of_bits : (x y : ℕ) → x < 2 → y < 2 → (eqb (max x y) 1 ≡ (eqb x 1 || eqb y 1)) × (eqb (min x y) 1 ≡ (eqb x 1 && eqb y 1))

@@ -6,10 +6,9 @@ use Rattle.ll_rights.specs.declared.fs.Fs.{Fs}
 use Rattle.ll_rights.specs.declared.net.Net.{Net}
 use Rattle.ll_rights.specs.Abis.{number_of, is_since, knows_fs, knows_net}
 use Rattle.ll_rights.specs.Sets.{Row}
-use Rattle.ll_rights.specs.BitSets.{bits_of, bits_without}
+use Rattle.ll_rights.specs.Supported.{bits_of, bits_without, supported_fs, supported_net}
 use Rattle.ll_rights.specs.Rights as files
 use Rattle.ll_rights.specs.NetRights as network
-use Rattle.ll_rights.specs.Supported.{supported_fs, supported_net}
 use Rattle.ll_rights.proofs.Sets.{fs_table, net_table}
 use Rattle.ll_rights.proofs.Tables.{IsTable, has-supported, supported-known, supported-lacking, supported-older}
 

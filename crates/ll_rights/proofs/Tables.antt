@@ -8,9 +8,8 @@ use Rattle.std.specs.List.{list_any, list_all, range_with_len}
 use Rattle.std.proofs.lemmas.Bool.{cases_Bool, eqb-true, eq-eqb}
 use Rattle.std.proofs.lemmas.Map.Views.{any-filter_same}
 use Rattle.std.proofs.lemmas.Nat.{and_comm}
-use Rattle.ll_rights.specs.Bits.{has_place}
-use Rattle.ll_rights.specs.Sets.{Row, first_named}
-use Rattle.ll_rights.specs.BitSets.{bits_of, bits_without}
+use Rattle.ll_rights.specs.Sets.{Row, first_named, has_place}
+use Rattle.ll_rights.specs.Supported.{bits_of, bits_without}
 use Rattle.ll_rights.proofs.Places.{any_none, all_each, has_place-or, has_place-power, has_place-without, has_place-and, without-twice, zero_place, known_below}
 use Rattle.ll_rights.proofs.Places.{is_zero_by_places, is_lacking_by_places, is_within_by_places}
 

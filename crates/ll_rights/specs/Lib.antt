@@ -1,6 +1,4 @@
-pub mod Bits
 pub mod Sets
-pub mod BitSets
 pub mod Rights
 pub mod NetRights
 pub mod CodeRights

@@ -1,7 +1,13 @@
--- Tables of rights and sets of them: what the rights for files and those for the network have in common.
+-- Tables of rights and sets of them, which are words of named bits: what the rights for files and those for the network
+-- have in common.
 -- Source: landlock_create_ruleset(2), whose access rights are bits of a mask.
-use Rattle.std.specs.Prelude.{ℕ, ◌^◌, Bool, true, false, not, ◌&&◌, ◌||◌, ◌==◌, List, [], Option, Some, None, bytes_eq, find, unwrap_or}
-use Rattle.ll_rights.specs.Bits.{has_place}
+use Rattle.std.specs.Prelude.{ℕ, ◌^◌, Bool, true, false, not, ◌&&◌, ◌||◌, ◌==◌, List, [], nat_le, nat_lt, Option, Some, None, bytes_eq, find, if◌then◌else◌, unwrap_or}
+use Rattle.std.specs.Int.{bit_at}
+
+-- Of bits whose first `named` places have a name: whether the one at `place` is there.
+-- All places from `named` on stand for one member, which is there if any of them is.
+abbrev pub has_place : ℕ → ℕ → ℕ → Bool
+has_place named bits place = if nat_lt place named then bit_at bits place == 1 else nat_le (2 ^ named) bits
 
 -- What a table says of a right: its name, the number of its bit, the ABI that it comes with, and whether it applies to what
 -- isn't a directory.

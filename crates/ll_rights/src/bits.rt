@@ -1,7 +1,7 @@
 //! Sets of named bits.
 
 ghost use Rattle.std.specs.Prelude.{◌≡◌, ◌<◌};
-ghost use Rattle.ll_rights.specs.{Bits.has_place, BitSets.bits_without};
+ghost use Rattle.ll_rights.specs.{Sets.has_place, Supported.bits_without};
 
 /// Whether a set of bits, this many of them named, has the one at a place; all bits without a name are one member, which has
 /// the place behind the named ones.

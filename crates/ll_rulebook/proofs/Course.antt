@@ -11,12 +11,12 @@ use Rattle.ll_tree.specs.Trees.{Entry}
 use Rattle.ll_rules.specs.declared.domain.LayerId.{LayerId}
 use Rattle.ll_rules.specs.Layers.{RulesOn, without_rules}
 use Rattle.ll_rules.specs.KeptLayers.{layer_at}
-use Rattle.ll_trace.specs.declared.record.Record.{Record}
+use Rattle.ll_trace.specs.declared.op.Record.{Record}
 use Rattle.ll_trace.specs.declared.op.Op.{Op}
 use Rattle.ll_trace.specs.Entries.{is_start}
-use Rattle.ll_trace.specs.RecordFacts.{AreRecords}
-use Rattle.ll_semantics.specs.declared.ruleset_outcome.RulesetOutcome.{RulesetOutcome}
-use Rattle.ll_semantics.specs.declared.ruleset_outcome.RulesetOutcome.TheVariants.{Answered, Frozen, ByState}
+use Rattle.ll_trace.specs.Traces.{AreRecords}
+use Rattle.ll_semantics.specs.declared.answer.RulesetOutcome.{RulesetOutcome}
+use Rattle.ll_semantics.specs.declared.answer.RulesetOutcome.TheVariants.{Answered, Frozen, ByState}
 use Rattle.ll_semantics.specs.States.{Layer}
 use Rattle.ll_semantics.specs.CallContexts.{answer_to, world_at}
 use Rattle.ll_semantics.specs.RulesetOutcomes.{OutcomeFits, IsFrozen, enforced}

@@ -28,8 +28,8 @@ use Rattle.ll_rules.proofs.SameLayers.{SameRules-refl}
 use Rattle.ll_trace.specs.declared.op.Op.{Op}
 use Rattle.ll_semantics.specs.declared.answer.Answer.{Answer}
 use Rattle.ll_semantics.specs.declared.answer.Answer.TheVariants.{Allowed, Moot, Refused}
-use Rattle.ll_semantics.specs.declared.ruleset_outcome.RulesetOutcome.{RulesetOutcome}
-use Rattle.ll_semantics.specs.declared.ruleset_outcome.RulesetOutcome.TheVariants.{Answered, Frozen}
+use Rattle.ll_semantics.specs.declared.answer.RulesetOutcome.{RulesetOutcome}
+use Rattle.ll_semantics.specs.declared.answer.RulesetOutcome.TheVariants.{Answered, Frozen}
 use Rattle.ll_semantics.specs.States.{State, Layer}
 use Rattle.ll_semantics.specs.Answers.{answer, named, fails, of_rule_refusal}
 use Rattle.ll_semantics.specs.Effects.{Effect, nothing, leaves, leaves_rulesets, begins, effect, changed_at}

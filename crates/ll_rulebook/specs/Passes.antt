@@ -10,8 +10,8 @@ use Rattle.ll_rules.specs.Layers.{RulesOn, without_rules}
 use Rattle.ll_rules.specs.KeptLayers.{SameRules}
 use Rattle.ll_rules.specs.InTree.{in_tree, AreInTree}
 use Rattle.ll_trace.specs.declared.op.Op.{Op}
-use Rattle.ll_trace.specs.declared.record.Record.{Record}
-use Rattle.ll_semantics.specs.declared.ruleset_outcome.RulesetOutcome.{RulesetOutcome}
+use Rattle.ll_trace.specs.declared.op.Record.{Record}
+use Rattle.ll_semantics.specs.declared.answer.RulesetOutcome.{RulesetOutcome}
 use Rattle.ll_semantics.specs.declared.answer.Answer.TheVariants.{Allowed}
 use Rattle.ll_semantics.specs.States.{State, Layer}
 use Rattle.ll_semantics.specs.Answers.{answer}

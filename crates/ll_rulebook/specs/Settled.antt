@@ -5,8 +5,8 @@ use Rattle.ll_rights.specs.declared.abi.Abi.{Abi}
 use Rattle.ll_tree.specs.Trees.{Entry}
 use Rattle.ll_rules.specs.Layers.{RulesOn}
 use Rattle.ll_rules.specs.InTree.{AreInTree}
-use Rattle.ll_trace.specs.declared.record.Record.{Record}
-use Rattle.ll_semantics.specs.declared.ruleset_outcome.RulesetOutcome.{RulesetOutcome}
+use Rattle.ll_trace.specs.declared.op.Record.{Record}
+use Rattle.ll_semantics.specs.declared.answer.RulesetOutcome.{RulesetOutcome}
 use Rattle.ll_semantics.specs.CallContexts.{CallContext, world_at}
 use Rattle.ll_semantics.specs.RulesetOutcomes.{OutcomeFits}
 use Rattle.ll_semantics.specs.Worlds.{World}

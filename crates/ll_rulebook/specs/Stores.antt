@@ -12,8 +12,8 @@ use Rattle.ll_rules.specs.declared.domain.LayerId.{LayerId}
 use Rattle.ll_rules.specs.declared.errno.RuleFault.{RuleFault}
 use Rattle.ll_rules.specs.declared.errno.RuleFault.TheVariants as faults
 use Rattle.ll_semantics.specs.declared.answer.Answer.TheVariants.{Allowed, Moot}
-use Rattle.ll_semantics.specs.declared.ruleset_outcome.RulesetOutcome.{RulesetOutcome}
-use Rattle.ll_semantics.specs.declared.ruleset_outcome.RulesetOutcome.TheVariants.{Answered}
+use Rattle.ll_semantics.specs.declared.answer.RulesetOutcome.{RulesetOutcome}
+use Rattle.ll_semantics.specs.declared.answer.RulesetOutcome.TheVariants.{Answered}
 use Rattle.ll_semantics.specs.Answers.{fails}
 use Rattle.ll_rules.specs.Layers.{RulesOn}
 use Rattle.ll_rules.specs.KeptLayers.{SameRules, GrantsOnPort}

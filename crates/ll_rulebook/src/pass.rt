@@ -3,7 +3,7 @@
 ghost use Rattle.std.specs.Prelude.{◌≡◌, ℕ, ◌<◌, ◌^◌, Bool, false, [], length, None, IfOk, OnOk};
 ghost use Rattle.ll_rules.specs.Layers.{without_rules};
 ghost use Rattle.ll_semantics.specs.Answers.{fails};
-ghost use Rattle.ll_trace.specs.{Entries.is_start, RecordFacts.AreRecords};
+ghost use Rattle.ll_trace.specs.{Entries.is_start, Traces.AreRecords};
 ghost use Rattle.ll_rulebook.specs.Stores.{IsAnswerTo, held_by};
 
 use crate::store::Store;

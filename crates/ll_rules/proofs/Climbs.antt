@@ -15,8 +15,7 @@ use Rattle.ll_tree.specs.TreeFacts.{IsTree, StandsIn}
 use Rattle.ll_tree.proofs.Positions.{path_eq-nodes}
 use Rattle.ll_rules.specs.Layers.{RulesOn, granted}
 use Rattle.ll_rules.specs.KeptLayers.{granted_on, granted_on_node}
-use Rattle.ll_rules.specs.InTree.{in_tree, rule_on_path, node, AreInTree}
-use Rattle.ll_rules.specs.WaysUp.{granted_above}
+use Rattle.ll_rules.specs.InTree.{in_tree, rule_on_path, node, AreInTree, granted_above}
 use Rattle.ll_rules.proofs.Booleans.{or_false, and_or, or_and, list_any-agree, list_any-or, list_any-map}
 
 -- ---- prefixes

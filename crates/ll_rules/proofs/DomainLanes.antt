@@ -24,11 +24,10 @@ use Rattle.ll_rules.specs.declared.domain.TheConstants.{MOST_LAYERS}
 use Rattle.ll_rules.specs.declared.domain.LayerId.{LayerId}
 use Rattle.ll_rules.specs.Layers.{RulesOn, without_rules, handles, granted}
 use Rattle.ll_rules.specs.KeptLayers.{granted_on_node, layer_at, domain_of}
-use Rattle.ll_rules.specs.InTree.{in_tree, AreInTree, all_in_tree}
+use Rattle.ll_rules.specs.InTree.{in_tree, AreInTree, all_in_tree, nodes_up, granted_above}
 use Rattle.ll_rules.specs.Checks.{numbers_from, lacks, refusing}
 use Rattle.ll_rules.specs.LayerNumbers.{passing_upto, numbers_passing}
-use Rattle.ll_rules.specs.Lanes.{set_of, lane, is_filled, layer_in}
-use Rattle.ll_rules.specs.WaysUp.{nodes_up, granted_above}
+use Rattle.ll_rules.specs.Lanes.{set_of, lane, is_filled, layer_in, stacked}
 use Rattle.ll_rules.proofs.RightSets.{has_nothing}
 use Rattle.ll_rules.proofs.AskedRights.{some_agree}
 use Rattle.ll_rules.proofs.Booleans.{and_none, and_true}
@@ -36,8 +35,7 @@ use Rattle.ll_rules.proofs.Domains.{numbers_from-map}
 use Rattle.ll_rules.proofs.LaneSets.{nothing_in}
 use Rattle.ll_rules.proofs.Climbs.{climbed}
 use Rattle.ll_rules.proofs.Marks.{neither_bit}
-use Rattle.ll_rules.specs.Stacks.{stacked}
-use Rattle.ll_rules.specs.declared.stack.Stack.{Stack}
+use Rattle.ll_rules.specs.declared.domain.Stack.{Stack}
 
 -- ---- a row, place by place
 

@@ -10,7 +10,7 @@ use Rattle.std.proofs.lemmas.List.{get_or-map, get_or_past, length-map}
 use Rattle.std.proofs.lemmas.Simd.{length-zip2, get_or-zip2, map-map, zip2_splat, bitmask_splat, bit_mask_l, mask_l-lt}
 use lib.Lanes.{zip2, Each1, mask_l, top}
 use Rattle.ll_rights.specs.declared.fs.Fs.{Fs}
-use Rattle.ll_rights.specs.Bits.{has_place}
+use Rattle.ll_rights.specs.Sets.{has_place}
 use Rattle.ll_rights.specs.Rights.{FsRight, has, other, is_empty, bit_of}
 use Rattle.ll_rights.proofs.Places.{has_place-named, has_place-other, has_place-or, has_place-and, has_place-lacking}
 use Rattle.ll_rights.proofs.Sets.{fs_table, fs_is_empty}

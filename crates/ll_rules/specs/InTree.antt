@@ -1,12 +1,15 @@
--- Layers with rules on the nodes of a tree, as layers with rules on the paths of these nodes.
+-- Layers with rules on the nodes of a tree, as layers with rules on the paths of these nodes, and the way from a node up
+-- to the root.
 -- Source: landlock(7), "Landlock rules".
-use Rattle.std.specs.Prelude.{ℕ, ◌<◌, List, map, length, All}
+use Rattle.std.specs.Prelude.{ℕ, ◌+◌, ◌<◌, Bool, false, List, map, length, All, Option, Some, None}
 use Rattle.std.proofs.Props.{props}
+use Rattle.std.specs.Option.{option_map_or}
 use Rattle.ll_rights.specs.declared.fs.Fs.{Fs}
+use Rattle.ll_rights.specs.Rights.{FsRight}
 use Rattle.ll_tree.specs.declared.place.NodeId.{NodeId}
 use Rattle.ll_lines.specs.Paths.{Path}
 use Rattle.ll_tree.specs.Trees.{Entry, path_at, IsNode}
-use Rattle.ll_rules.specs.Layers.{RulesOn}
+use Rattle.ll_rules.specs.Layers.{RulesOn, granted}
 use Rattle.ll_tree.specs.declared.place.Place.{Place}
 use Rattle.ll_tree.specs.declared.place.Place.TheVariants.{Node, Gap, Nowhere}
 use Rattle.ll_rules.specs.declared.moves.Target.{Target}
@@ -47,3 +50,14 @@ IsTargetIn tree (Over there) = IsNode tree there
 pub IsTargetIn-once : (tree : List Entry) (target : Target) → IsProp (IsTargetIn tree target)
 IsTargetIn-once tree (New directory) = hlevel props
 IsTargetIn-once tree (Over there) = hlevel props
+
+-- ---- the way from a node up to the root
+
+-- how many nodes there are from a node up, it and the root included
+unfoldable pub nodes_up : List Entry → Option NodeId → ℕ
+nodes_up tree from = option_map_or (λ node. length (path_at tree node) + 1) from 0
+
+-- what is granted from a node up, if there is one
+unfoldable pub granted_above : List Entry → RulesOn ℕ → Option NodeId → FsRight → Bool
+granted_above tree rules None right = false
+granted_above tree rules (Some up) right = granted (in_tree tree rules) (path_at tree up) right

@@ -1,5 +1,5 @@
--- Lanes: a set of rights for each layer of a domain, in the place of its layer.
--- Source: docs/DECISIONS.md, the checks by lanes.
+-- Lanes: a set of rights for each layer of a domain, in the place of its layer. Also the layers that a domain stacks.
+-- Source: docs/DECISIONS.md, the checks by lanes; the kernel's userspace document on Landlock, "Ruleset layers".
 use Rattle.std.specs.Prelude.{◌≡◌, ℕ, zero, suc, ◌-◌, ◌^◌, bit_and, Bool, false, not, ◌&&◌, List, slice_index, slice_index_or}
 use Rattle.ll_rights.specs.declared.fs.Fs.{Fs}
 use Rattle.ll_rights.specs.Rights as files
@@ -9,6 +9,8 @@ use Rattle.ll_lines.specs.Paths.{Path}
 use Rattle.ll_tree.specs.Trees.{Entry}
 use Rattle.ll_rules.specs.Layers.{RulesOn, without_rules, handles, granted}
 use Rattle.ll_rules.specs.InTree.{in_tree}
+use Rattle.ll_rules.specs.KeptLayers.{domain_of}
+use Rattle.ll_rules.specs.declared.domain.Stack.{Stack}
 
 -- the bits of the rights that have a name, which are those before the bit of `other`
 abbrev pub named_bits : ℕ
@@ -35,3 +37,13 @@ layer_in domain place = slice_index_or domain place (without_rules files.no_righ
 abbrev pub AreLacking : List Entry → List (RulesOn ℕ) → Path → List ℕ → Type 0
 AreLacking tree domain path lanes =
     (place : ℕ) (right : FsRight) → has (lane lanes place) right ≡ (handles (layer_in domain place) right && not (granted (in_tree tree (layer_in domain place)) path right))
+
+-- ---- the layers that a domain stacks
+
+-- the layers of a stack, the oldest first
+abbrev pub layers_of : Stack → List (RulesOn ℕ)
+layers_of stack = domain_of stack.layers.now stack.ids.now
+
+-- the layer at a place of a stack
+abbrev pub stacked : Stack → ℕ → RulesOn ℕ
+stacked stack place = layer_in (layers_of stack) place

@@ -8,6 +8,4 @@ pub mod RuleFaults
 pub mod Checks
 pub mod Moves
 pub mod Lanes
-pub mod Stacks
-pub mod WaysUp
 pub mod WorkedRules

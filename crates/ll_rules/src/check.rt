@@ -7,9 +7,9 @@ ghost use Rattle.ll_rules.specs.InTree.{AreInTree, all_in_tree};
 ghost use Rattle.ll_rules.specs.KeptLayers.{layer_at, domain_of, IsDomainOf};
 ghost use Rattle.ll_rules.specs.Checks.{refusing, refusing_port, refusing_mount};
 
+use crate::domain::Stack;
 use crate::lanes::filled;
 use crate::single_layer::SingleLayer;
-use crate::stack::Stack;
 use crate::{Domain, Layer, LayerId, LayerSet};
 use ll_rights::{Fs, Net};
 use ll_tree::{NodeId, Tree};

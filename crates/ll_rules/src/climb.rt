@@ -5,18 +5,15 @@ ghost use Rattle.std.specs.List.{list_any};
 ghost use Rattle.ll_rights.specs.Rights.{FsRight, has};
 ghost use Rattle.ll_tree.specs.Trees.{IsNode, path_at};
 ghost use Rattle.ll_tree.specs.TreeFacts.{depth_at};
-ghost use Rattle.ll_rules.specs.InTree.{in_tree};
+ghost use Rattle.ll_rules.specs.InTree.{granted_above, in_tree, nodes_up};
 ghost use Rattle.ll_rules.specs.Layers.{handles, granted};
 ghost use Rattle.ll_rules.specs.KeptLayers.{granted_on_node};
-ghost use Rattle.ll_rules.specs.Lanes.{set_of, lane};
-ghost use Rattle.ll_rules.specs.Stacks.{stacked};
-ghost use Rattle.ll_rules.specs.WaysUp.{nodes_up, granted_above};
+ghost use Rattle.ll_rules.specs.Lanes.{set_of, lane, stacked};
 
 use crate::Layer;
 use crate::check::layer_of;
-use crate::domain::MOST_LAYERS;
+use crate::domain::{MOST_LAYERS, Stack};
 use crate::lanes::bits_of;
-use crate::stack::Stack;
 use ll_rights::Fs;
 use ll_tree::NodeId;
 

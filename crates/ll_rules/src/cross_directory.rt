@@ -8,13 +8,11 @@ ghost use Rattle.ll_tree.specs.TreeFacts.{IsTree, depth_at};
 ghost use Rattle.ll_rules.specs.InTree.{in_tree, all_in_tree, IsTargetIn, IsTargetIn-once};
 ghost use Rattle.ll_rules.specs.{Checks.numbers_where, KeptLayers.granted_on_node};
 ghost use Rattle.ll_rules.specs.Moves.{source_of, destination_of, other_gains, holds_back};
-ghost use Rattle.ll_rules.specs.Lanes.{lane, AreLacking};
-ghost use Rattle.ll_rules.specs.Stacks.{layers_of, stacked};
+ghost use Rattle.ll_rules.specs.Lanes.{lane, AreLacking, layers_of, stacked};
 
-use crate::domain::MOST_LAYERS;
+use crate::domain::{MOST_LAYERS, Stack};
 use crate::lanes::{either, filled, no_rights, within, without};
 use crate::ruleset::is_directory;
-use crate::stack::Stack;
 use crate::{Asked, How, LayerSet, Move, Target};
 use ll_rights::{Fs, Kind};
 use ll_tree::NodeId;

@@ -1,10 +1,13 @@
-//! Domains: the layers that a process has stacked.
+//! Domains: the layers that a process has stacked, and the data of a climb by them.
 
-ghost use Rattle.std.specs.Prelude.{◌≡◌, ◌≤◌, [], ◌∷◌, ◌++◌, ◌↔◌, length, IsErr, OnOk, OnErr};
+ghost use Rattle.std.specs.Prelude.{◌≡◌, ◌≤◌, [], ◌∷◌, ◌++◌, ◌↔◌, length, IsErr, All, OnOk, OnErr};
+ghost use Rattle.std.proofs.Props.{props};
 ghost use Rattle.ll_rules.specs.declared.domain.TheConstants.{MOST_LAYERS};
+ghost use Rattle.ll_rules.specs.{InTree.AreInTree, KeptLayers.IsDomainOf};
 
-use crate::Full;
+use crate::{Full, Layer};
 use arrayvec::ArrayVec;
+use ll_tree::Tree;
 use std::marker::Model;
 
 /// The most layers of a domain (landlock_restrict_self(2), "ERRORS").
@@ -60,4 +63,15 @@ impl Domain {
         self.ids.push(layer);
         Ok(())
     }
+}
+
+/// The data of a climb: the tree, all layers, and which of them are stacked, the oldest first.
+#[derive(Clone, Copy)]
+pub(crate) struct Stack<'a> {
+    pub(crate) tree: &'a Tree,
+    pub(crate) layers: &'a [Layer],
+    pub(crate) ids: &'a [LayerId],
+    ghost domain: { IsDomainOf layers.now ids.now } by { Prim.hlevel props },
+    ghost few: { length ids.now ≤ MOST_LAYERS },
+    ghost rules: { All (AreInTree tree.now) layers.now } by { Prim.hlevel props },
 }

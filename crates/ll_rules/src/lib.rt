@@ -15,7 +15,6 @@ mod moves;
 mod ruleset;
 mod sameness;
 mod single_layer;
-mod stack;
 
 pub use check::{check_mount, check_path, check_path_counted, check_port};
 pub use domain::{Domain, LayerId, MOST_LAYERS};

@@ -12,8 +12,8 @@ ghost use Rattle.ll_rules.specs.declared.errno.Errno.TheVariants.{Acces, XDev};
 ghost use Rattle.ll_rules.specs.Moves.{source_of, destination_of as destination_path, kind_there, asked_of_source as asked_there, asked_of_destination as asked_here, refused_or, move_verdict};
 
 use crate::cross_directory::CrossDirectoryMove;
+use crate::domain::Stack;
 use crate::lanes::filled;
-use crate::stack::Stack;
 use crate::{Domain, Errno, Layer, LayerSet};
 use ll_rights::{Fs, Kind};
 use ll_tree::{NodeId, Tree};

@@ -5,9 +5,8 @@ ghost use Rattle.std.proofs.Props.{props};
 ghost use Rattle.ll_rights.specs.Rights.{FsRight, has};
 ghost use Rattle.ll_tree.specs.Trees.{IsNode, path_at};
 ghost use Rattle.ll_tree.specs.TreeFacts.{depth_at};
-ghost use Rattle.ll_rules.specs.InTree.{AreInTree, in_tree, all_in_tree};
+ghost use Rattle.ll_rules.specs.InTree.{AreInTree, in_tree, all_in_tree, nodes_up, granted_above};
 ghost use Rattle.ll_rules.specs.{Layers.granted, Checks.refusing, Lanes.set_of};
-ghost use Rattle.ll_rules.specs.WaysUp.{nodes_up, granted_above};
 
 use crate::climb::{asked_of, left_of};
 use crate::lanes::is_any_in;

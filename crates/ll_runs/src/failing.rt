@@ -1,7 +1,7 @@
 //! A source that fails.
 
 ghost use Rattle.std.specs.Prelude.{◌≡◌, Some};
-ghost use Rattle.ll_audit.specs.Files.{files_of};
+ghost use Rattle.ll_audit.specs.Inputs.{files_of};
 
 use ll_audit::{MemorySource, Source, SourceFault};
 use std::alloc::Global;

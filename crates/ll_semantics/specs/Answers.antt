@@ -25,7 +25,7 @@ use Rattle.ll_semantics.specs.declared.answer.Answer.TheVariants.{Allowed, Moot,
 use Rattle.ll_semantics.specs.declared.request.Request.{Request}
 use Rattle.ll_semantics.specs.Requests.{wanted, request}
 use Rattle.ll_semantics.specs.Moves.{rename_move, link_move}
-use Rattle.ll_semantics.specs.declared.descriptor.Descriptor.{Descriptor}
+use Rattle.ll_semantics.specs.declared.answer.Descriptor.{Descriptor}
 use Rattle.ll_semantics.specs.States.{State, Layer}
 
 -- refused with an error by the layers found, allowed if there are none

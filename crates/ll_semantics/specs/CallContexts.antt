@@ -10,7 +10,7 @@ use Rattle.ll_semantics.specs.States.{State, Layer}
 use Rattle.ll_semantics.specs.Answers.{answer}
 use Rattle.ll_semantics.specs.Effects.{Effect, nothing, leaves, leaves_rulesets, begins, effect}
 use Rattle.ll_semantics.specs.Worlds.{if_allowed, World, empty_world, step}
-use Rattle.ll_trace.specs.declared.record.Record.{Record}
+use Rattle.ll_trace.specs.declared.op.Record.{Record}
 
 -- ---- what an effect makes of the state of its process and of the rulesets, and what a process begins with by it
 

@@ -3,7 +3,7 @@
 use Rattle.std.specs.Prelude.{ℕ, List, [], Bool, Option, None}
 use Rattle.ll_lines.specs.Paths.{Path}
 use Rattle.ll_rules.specs.Layers.{RulesOn}
-use Rattle.ll_semantics.specs.declared.descriptor.Descriptor.{Descriptor}
+use Rattle.ll_semantics.specs.declared.answer.Descriptor.{Descriptor}
 
 -- a ruleset, or the layer that it became
 abbrev pub Layer : Type 0

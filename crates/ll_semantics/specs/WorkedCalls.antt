@@ -5,7 +5,7 @@ use Rattle.ll_rights.specs.declared.kind.Kind.TheVariants.{Reg, Fifo}
 use Rattle.ll_rights.specs.Rights.{execute, write_file, read_file, read_dir, remove_dir, remove_file, make_dir, make_reg, refer, truncate, ioctl_dev}
 use Rattle.ll_rights.specs.NetRights.{bind_tcp, connect_tcp}
 use Rattle.ll_rules.specs.declared.errno.Errno.TheVariants.{Perm, Acces, XDev, Inval, TooBig}
-use Rattle.ll_trace.specs.declared.record.Record.{Record}
+use Rattle.ll_trace.specs.declared.op.Record.{Record}
 use Rattle.ll_trace.specs.declared.op.Op.TheVariants as calls
 use Rattle.ll_trace.specs.declared.op.Mode.TheVariants.{Read, Write, Both}
 use Rattle.ll_trace.specs.declared.op.Sort.TheVariants.{Regular, Device}

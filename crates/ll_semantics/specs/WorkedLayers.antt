@@ -6,7 +6,7 @@ use Rattle.ll_rights.specs.Rights as files
 use Rattle.ll_rights.specs.Rights.{write_file, read_file, read_dir, refer, truncate}
 use Rattle.ll_rights.specs.NetRights.{bind_tcp, connect_tcp}
 use Rattle.ll_rules.specs.declared.errno.Errno.TheVariants.{Perm, BadFd, Acces, Inval, TooBig, NoMsg}
-use Rattle.ll_trace.specs.declared.record.Record.{Record}
+use Rattle.ll_trace.specs.declared.op.Record.{Record}
 use Rattle.ll_trace.specs.declared.op.Op.TheVariants as calls
 use Rattle.ll_trace.specs.declared.op.Mode.TheVariants.{Read, Write, Both}
 use Rattle.ll_semantics.specs.declared.answer.Answer.{Answer}

@@ -3,22 +3,18 @@
 #![tactic(auto)]
 
 mod answer;
-mod descriptor;
 mod laws;
 mod making_do;
 mod request;
-mod ruleset_outcome;
 mod unchanging;
 mod wants;
 
-pub use answer::Answer;
-pub use descriptor::Descriptor;
+pub use answer::{Answer, Descriptor, RulesetOutcome};
 pub use laws::{
     worked_confinements, worked_descriptors, worked_moves, worked_ports, worked_processes,
     worked_requests, worked_rulesets,
 };
 pub use making_do::making_do_is_never_refused;
 pub use request::{Request, Wanted};
-pub use ruleset_outcome::RulesetOutcome;
 pub use unchanging::only_allowed_records_change_the_world;
 pub use wants::wanted;

@@ -12,8 +12,7 @@ use Rattle.std.proofs.lemmas.Bool.Decides.{nat_tests}
 use Rattle.std.specs.FinMap.{FinMap, find, get, insert, remove, from_entries, get-from_entries, get-insert, get-remove, same_map, nat_cmp-IsAntisymmetric}
 use Rattle.ll_shared.specs.declared.node.Node.{Node}
 use Rattle.ll_shared.specs.declared.node.Node.TheVariants.{Empty, Leaf, Fork'}
-use Rattle.ll_shared.specs.Nodes.{chosen, found}
-use Rattle.ll_shared.specs.Maps.{under, entries}
+use Rattle.ll_shared.specs.Nodes.{chosen, entries, found, under}
 
 -- a key is one with these two bits below if its two lowest bits are these and the rest is the rest
 split_key : (q key bits : ℕ) → bits < 4 → (q == 4 * key + bits) ≡ (q % 4 == bits && q / 4 == key)

@@ -1,5 +1,6 @@
--- What a tree of forks has, read as a function from keys to values.
-use Rattle.std.specs.Prelude.{◌≡◌, ℕ, ◌+◌, ◌*◌, ◌/◌, ◌%◌, Option, Some, None, ◌==◌, if◌then◌else◌}
+-- What a tree of forks has, read as a function from keys to values, and which entries it has.
+-- Source: none; the maps of this program alone.
+use Rattle.std.specs.Prelude.{◌≡◌, ℕ, ◌+◌, ◌*◌, ◌/◌, ◌%◌, List, [], ◌∷◌, ◌++◌, map, Option, Some, None, ◌==◌, if◌then◌else◌}
 use Rattle.ll_shared.specs.declared.node.Node.{Node}
 use Rattle.ll_shared.specs.declared.node.Node.TheVariants.{Empty, Leaf, Fork'}
 use Rattle.ll_shared.specs.declared.node.Four.{Four}
@@ -41,3 +42,14 @@ pub record SameFour {V : Type 0} (four copy : Four V) : Type 0 where
   pub one : SameNode four.one copy.one
   pub two : SameNode four.two copy.two
   pub three : SameNode four.three copy.three
+
+-- entries whose keys have these two bits more, below the others
+abbrev pub under : {V : Type 0} → ℕ → List (ℕ × V) → List (ℕ × V)
+under bits entries = map (λ entry. (4 * entry.0 + bits, entry.1)) entries
+
+-- all entries
+abbrev pub entries : {V : Type 0} → Node V → List (ℕ × V)
+entries Empty = []
+entries (Leaf key value) = (key, value) ∷ []
+entries (Fork' p zero one two three) =
+    under 0 (entries zero) ++ under 1 (entries one) ++ under 2 (entries two) ++ under 3 (entries three)

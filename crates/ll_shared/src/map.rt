@@ -44,7 +44,7 @@ impl<V> Model for SharedMap<V> {
 
     ghost coded = { finite.code coded_ℕ V.code };
 
-    ghost use Rattle.ll_shared.specs.Maps.{entries};
+    ghost use Rattle.ll_shared.specs.Nodes.{entries};
 
     ghost view = { λ a. finite.from_entries (entries a.root) };
 }

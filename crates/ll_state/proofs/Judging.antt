@@ -19,7 +19,7 @@ use Rattle.ll_rules.specs.declared.domain.LayerId.{LayerId}
 use Rattle.ll_rules.specs.Layers.{RulesOn}
 use Rattle.ll_semantics.specs.declared.answer.Answer.{Answer}
 use Rattle.ll_semantics.specs.declared.answer.Answer.TheVariants.{Allowed, Moot, Refused}
-use Rattle.ll_semantics.specs.declared.ruleset_outcome.RulesetOutcome.TheVariants.{ByState}
+use Rattle.ll_semantics.specs.declared.answer.RulesetOutcome.TheVariants.{ByState}
 use Rattle.ll_state.specs.declared.own_state.OwnState.{OwnState}
 use Rattle.ll_semantics.specs.States.{State, Layer}
 use Rattle.ll_semantics.specs.Answers.{answer, named}

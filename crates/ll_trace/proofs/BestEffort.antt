@@ -12,13 +12,13 @@ use Rattle.ll_tree.specs.declared.place.Place.{Place}
 use Rattle.ll_tree.specs.Trees as trees
 use Rattle.ll_trace.specs.declared.op.Op.{Op}
 use Rattle.ll_trace.specs.declared.op.Op.TheVariants as calls
-use Rattle.ll_trace.specs.declared.record.ProcessId.{ProcessId}
-use Rattle.ll_trace.specs.declared.record.Record.{Record}
+use Rattle.ll_trace.specs.declared.op.ProcessId.{ProcessId}
+use Rattle.ll_trace.specs.declared.op.Record.{Record}
 use Rattle.ll_trace.specs.declared.tables.Tables.{Tables}
 use Rattle.ll_trace.specs.Entries.{Entry, is_start, is_exit, pid_started, is_live, process_named, misplacement}
 use Rattle.ll_trace.specs.Entries as entries
 use Rattle.ll_trace.specs.Records.{entry_of, record_of, records_after, process_of}
-use Rattle.ll_trace.specs.RecordFacts.{ArePlaced, AreRecords}
+use Rattle.ll_trace.specs.Traces.{ArePlaced, AreRecords}
 use Rattle.ll_trace.specs.Processes.{is_starting, process_count, number_if, started_at, own_from, own_records, forked_by, parents}
 use Rattle.ll_trace.specs.Indexed.{Indexes}
 use Rattle.ll_trace.specs.FirstPlaces.{AreFirstPlaces, first_place, paths_of}

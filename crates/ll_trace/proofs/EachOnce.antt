@@ -8,7 +8,7 @@ use Rattle.std.proofs.lemmas.List.Concat.{flat_map-cons}
 use Rattle.std.proofs.lemmas.List.Sums.{sum_by-append, sum_by-cons}
 use Rattle.ll_trace.specs.Processes.{times, is_start, is_fork, process_count, forked_at, own_from, own_records, children, kids, root_of, roots, IsNumbered}
 use Rattle.std.proofs.lemmas.Option.{cond_some, none-some, same_Some}
-use Rattle.ll_trace.specs.declared.record.Record.{Record}
+use Rattle.ll_trace.specs.declared.op.Record.{Record}
 use Rattle.ll_trace.proofs.Numbers.{start-starts, fork-starts, starts_alone, fork_no_start, StartedAt, forked_at-is, forked_at-from, forked_at-none}
 use Rattle.ll_trace.proofs.Numbers.{started_once, start_of}
 

@@ -3,9 +3,9 @@ use Rattle.std.proofs.Common.{◌≡◌, ℕ, ◌||◌, Bool, true, false, List,
 use Rattle.ll_lines.specs.declared.fault.Cause.{Cause}
 use Rattle.ll_lines.specs.declared.fault.Cause.TheVariants.{Twice, TooMany, UnknownProcess}
 use Rattle.ll_lines.specs.Reading.{first_fault, entries_of, IsGood}
-use Rattle.ll_lines.specs.OneWay.{ReadsInOneWay}
+use Rattle.ll_lines.specs.LineByLine.{ReadsInOneWay}
 use Rattle.ll_lines.proofs.ReadingLemmas.{in_one_way as format_in_one_way}
-use Rattle.ll_trace.specs.declared.record.Record.{Record}
+use Rattle.ll_trace.specs.declared.op.Record.{Record}
 use Rattle.ll_trace.specs.Entries.{Entry, entry_at, is_start_of, is_end_of, is_live, is_live_pid, is_unknown, is_twice, is_too_many, misplacement, started_pid}
 use Rattle.ll_trace.specs.Entries.{trace_file}
 use Rattle.ll_trace.specs.Records.{entry_of, records_after, IsTrace}

@@ -7,11 +7,11 @@ use Rattle.std.proofs.lemmas.Option.{none-some, same_Some}
 use Rattle.ll_lines.specs.declared.fault.Cause.{Cause}
 use Rattle.ll_lines.specs.declared.fault.Cause.TheVariants.{UnknownProcess, Twice, TooMany}
 use Rattle.ll_trace.specs.declared.reader.TheConstants.{MOST_PROCESSES, MOST_RECORDS}
-use Rattle.ll_trace.specs.declared.record.Record.{Record}
+use Rattle.ll_trace.specs.declared.op.Record.{Record}
 use Rattle.ll_trace.specs.Entries as entries
 use Rattle.ll_trace.specs.Entries.{Entry, started_pid, is_pid, is_start_of, is_end_of, is_live, process_named, misplacement, is_unknown, is_twice, is_too_many}
 use Rattle.ll_trace.specs.Records.{entry_of, record_of, records_after, process_of}
-use Rattle.ll_trace.specs.RecordFacts.{ArePlaced, AreRecords}
+use Rattle.ll_trace.specs.Traces.{ArePlaced, AreRecords}
 use Rattle.ll_trace.specs.Processes.{is_start, process_count, IsNumbered}
 use Rattle.ll_trace.proofs.Numbers.{starting-op, process_count-cons, no_count}
 use Rattle.std.proofs.lemmas.List.{length-map}

@@ -12,8 +12,8 @@ use Rattle.std.proofs.lemmas.Bool.{cases_lt, cases_eq, eq-eqb, ne_eqb}
 use Rattle.std.proofs.lemmas.List.{take-append-le, take_all}
 use Rattle.std.proofs.lemmas.List.Sums.{sum_by-cons, sum_by_push}
 use Rattle.std.proofs.lemmas.Option.{cond_some, none-some, same_Some, slice_get_within}
-use Rattle.ll_trace.specs.declared.record.ProcessId.{ProcessId}
-use Rattle.ll_trace.specs.declared.record.Record.{Record}
+use Rattle.ll_trace.specs.declared.op.ProcessId.{ProcessId}
+use Rattle.ll_trace.specs.declared.op.Record.{Record}
 
 -- ---- which calls start a process
 

@@ -3,13 +3,13 @@ use Rattle.std.proofs.Common.{◌≡◌, None, List, [], ◌∷◌, ◌++◌, ma
 use Rattle.std.proofs.lemmas.List.{reverse-append, map-append, append-nil}
 use Rattle.std.specs.FinMap.{get}
 use Rattle.ll_lines.proofs.ReadingLemmas.{read_lines_next, read_lines_fault, read_lines_end}
-use Rattle.ll_trace.specs.declared.record.Record.{Record}
+use Rattle.ll_trace.specs.declared.op.Record.{Record}
 use Rattle.ll_trace.specs.declared.reader.Reader.{Reader}
 use Rattle.ll_lines.specs.LineByLine.{read_lines}
 use Rattle.ll_lines.specs.Lines.{Line}
 use Rattle.ll_trace.specs.Entries.{Entry, misplacement, process_count, trace_file}
 use Rattle.ll_trace.specs.Records.{entry_of, record_of, records_after}
-use Rattle.ll_trace.specs.RecordFacts.{ArePlaced, AreRecords}
+use Rattle.ll_trace.specs.Traces.{ArePlaced, AreRecords}
 use Rattle.ll_trace.proofs.Numbering.{are_numbered}
 use Rattle.ll_trace.specs.Kept.{entries, past, owner_of, IsKept, IsNoted}
 

@@ -5,9 +5,8 @@ use Rattle.std.proofs.lemmas.Slice.Eq.{bytes_eq-Decides}
 use Rattle.serde_json.specs.Data.{Data}
 use Rattle.ll_lines.specs.declared.fault.Cause.{Cause}
 use Rattle.ll_lines.specs.declared.fault.Cause.TheVariants.{BadPath}
-use Rattle.ll_lines.specs.Fault.{◌>>=◌}
+use Rattle.ll_lines.specs.Members.{number_at, text_at, value_at, ◌>>=◌}
 use Rattle.ll_lines.specs.Lines.{Line}
-use Rattle.ll_lines.specs.Members.{number_at, text_at, value_at}
 use Rattle.ll_trace.specs.declared.op.Op.{Op}
 use Rattle.ll_trace.specs.Entries.{Entry, entry_at}
 use Rattle.ll_trace.specs.Forms.{meaning}

@@ -10,8 +10,7 @@ use Rattle.ll_rights.specs.Rights as files
 use Rattle.ll_rights.specs.NetRights as network
 use Rattle.ll_rights.proofs.Sets.{fs_has-only, fs_has-united, net_has-only, net_has-united}
 use Rattle.ll_lines.specs.declared.fault.Cause.{Cause}
-use Rattle.ll_lines.specs.Fault.{◌>>=◌}
-use Rattle.ll_lines.specs.Members.{text_in, fold_texts}
+use Rattle.ll_lines.specs.Members.{text_in, fold_texts, ◌>>=◌}
 use Rattle.ll_members.specs.Rights.{with_fs, with_net}
 use Rattle.ll_trace.specs.SaidByName.{text_of, texts_of}
 

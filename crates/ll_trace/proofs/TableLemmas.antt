@@ -9,7 +9,7 @@ use Rattle.std.proofs.lemmas.List.{get_or_append_left, get_or_at, length-append,
 use Rattle.std.proofs.lemmas.List.{length-take, take_more}
 use Rattle.std.proofs.lemmas.List.Sorted.{searched}
 use Rattle.std.proofs.lemmas.Option.{slice_get_within, slice_get_read}
-use Rattle.ll_trace.specs.declared.record.Record.{Record}
+use Rattle.ll_trace.specs.declared.op.Record.{Record}
 use Rattle.ll_trace.specs.Processes.{is_starting, process_count, started_at, own_from, own_records, forked_by, parent_of, only, IsNumbered}
 use Rattle.ll_trace.specs.Indexed.{AreStarts, Adds, Indexes, lists}
 use Rattle.ll_trace.proofs.Numbers.{with_first, StartedAt, count-all, count-le, count-started, process_count-push, started_at-is, started_at-push, started_once}
@@ -18,7 +18,7 @@ use Rattle.std.specs.Prelude.{All, IfSome, slice_get}
 use Rattle.std.specs.List.{AllByRecursion}
 use Rattle.std.proofs.lemmas.List.Elements.{All-from_recursion}
 use Rattle.std.specs.declared.alloc.Global.{Global}
-use Rattle.ll_trace.specs.declared.record.ProcessId.{ProcessId}
+use Rattle.ll_trace.specs.declared.op.ProcessId.{ProcessId}
 use Rattle.ll_trace.specs.declared.tables.Tables.{Tables}
 
 -- ---- the places of the records that start the processes, of one record more

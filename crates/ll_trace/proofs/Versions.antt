@@ -16,7 +16,7 @@ use Rattle.ll_rights.proofs.Supported.{fs_supported-known, fs_supported-older, n
 use Rattle.ll_trace.specs.declared.op.Op.{Op}
 use Rattle.ll_trace.specs.declared.op.Op.TheVariants as calls
 use Rattle.ll_trace.specs.declared.op.RuleType.TheVariants.{PathBeneath, NetPort}
-use Rattle.ll_trace.specs.declared.record.Record.{Record}
+use Rattle.ll_trace.specs.declared.op.Record.{Record}
 use Rattle.ll_trace.proofs.SetLemmas.{no_fs, no_net}
 use Rattle.ll_trace.specs.BestEffort.{creates, adds_path, adds_port, at_best_effort, record_at_best_effort, records_at_best_effort, IsSupported}
 

@@ -10,7 +10,7 @@ use Rattle.ll_rights.specs.NetRights as network
 use Rattle.ll_trace.specs.declared.op.Op.{Op}
 use Rattle.ll_trace.specs.declared.op.Op.TheVariants as calls
 use Rattle.ll_trace.specs.declared.op.RuleType.TheVariants.{PathBeneath, NetPort}
-use Rattle.ll_trace.specs.declared.record.Record.{Record}
+use Rattle.ll_trace.specs.declared.op.Record.{Record}
 
 -- A program that would handle rights of which none is supported goes on as with a ruleset that handles nothing, so that
 -- a layer has the same number at every version. One that names no right creates no ruleset at any version.

@@ -6,7 +6,7 @@ use Rattle.ll_tree.specs.declared.place.Place.TheVariants.{Nowhere}
 use Rattle.ll_tree.specs.Trees.{Entry, place}
 use Rattle.ll_trace.specs.declared.op.Op.{Op}
 use Rattle.ll_trace.specs.declared.op.Op.TheVariants.{AddPath}
-use Rattle.ll_trace.specs.declared.record.Record.{Record}
+use Rattle.ll_trace.specs.declared.op.Record.{Record}
 unfoldable pub use Rattle.ll_trace.specs.Operations.{paths_of}
 
 abbrev pub place_of_first : List Entry → List (List ℕ) → Place

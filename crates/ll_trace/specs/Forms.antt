@@ -4,8 +4,7 @@ use Rattle.std.specs.Prelude.{ℕ, List, [], ◌∷◌, bytes_eq, Result, Ok, Er
 use Rattle.serde_json.specs.Data.{Data}
 use Rattle.ll_lines.specs.declared.fault.Cause.{Cause}
 use Rattle.ll_lines.specs.declared.fault.Cause.TheVariants.{Field}
-use Rattle.ll_lines.specs.Fault.{◌>>=◌}
-use Rattle.ll_lines.specs.Members.{text_at}
+use Rattle.ll_lines.specs.Members.{text_at, ◌>>=◌}
 
 -- what a word stands for, among words that each stand for something
 abbrev pub meaning : {A : Type 0} → List (List ℕ × A) → List ℕ → Result A Cause

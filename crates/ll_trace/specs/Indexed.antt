@@ -2,7 +2,7 @@
 -- Source: docs/FORMATS.md, "The trace file".
 use Rattle.std.specs.Prelude.{◌≡◌, ℕ, ◌+◌, ◌<◌, ◌==◌, List, [], ◌∷◌, ◌++◌, length, map, Some, Vec, slice_index_or, if◌then◌else◌}
 use Rattle.std.specs.declared.alloc.Global.{Global}
-use Rattle.ll_trace.specs.declared.record.Record.{Record}
+use Rattle.ll_trace.specs.declared.op.Record.{Record}
 use Rattle.ll_trace.specs.declared.tables.Tables.{Tables}
 use Rattle.ll_trace.specs.Processes.{is_starting, process_count, started_at, own_records, forked_by, parents}
 

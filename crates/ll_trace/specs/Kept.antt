@@ -7,7 +7,7 @@ use Rattle.ll_trace.specs.declared.owners.Owner.{Owner}
 use Rattle.ll_trace.specs.declared.reader.Reader.{Reader}
 use Rattle.ll_trace.specs.Entries.{Entry, is_start_of, is_end_of, process_count}
 use Rattle.ll_trace.specs.Records.{entry_of}
-use Rattle.ll_trace.specs.RecordFacts.{AreRecords}
+use Rattle.ll_trace.specs.Traces.{AreRecords}
 
 -- whether the latest process of a pid runs
 abbrev pub runs : Option Owner → Bool

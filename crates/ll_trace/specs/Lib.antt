@@ -4,7 +4,6 @@ pub mod Operations
 pub mod Entries
 pub mod Records
 pub mod Processes
-pub mod RecordFacts
 pub mod Kept
 pub mod Parts
 pub mod Indexed

@@ -7,8 +7,7 @@ use Rattle.ll_rights.specs.declared.kind.Kind.{Kind}
 use Rattle.ll_rights.specs.declared.kind.Kind.TheVariants.{Reg, Char, Block, Fifo, Sock}
 use Rattle.ll_lines.specs.declared.fault.Cause.{Cause}
 use Rattle.ll_lines.specs.declared.fault.Cause.TheVariants.{Field, BadPath}
-use Rattle.ll_lines.specs.Fault.{◌>>=◌}
-use Rattle.ll_lines.specs.Members.{text_at, number_at}
+use Rattle.ll_lines.specs.Members.{text_at, number_at, ◌>>=◌}
 use Rattle.ll_lines.specs.Paths.{path_of}
 use Rattle.ll_trace.specs.Forms.{word_at}
 use Rattle.ll_trace.specs.declared.op.Mode.{Mode}

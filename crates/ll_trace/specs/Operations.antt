@@ -5,8 +5,7 @@ use Rattle.std.specs.List.{list_all}
 use Rattle.serde_json.specs.Data.{Data}
 use Rattle.ll_lines.specs.declared.fault.Cause.{Cause}
 use Rattle.ll_lines.specs.declared.fault.Cause.TheVariants.{BadPath}
-use Rattle.ll_lines.specs.Fault.{◌>>=◌}
-use Rattle.ll_lines.specs.Members.{text_at, number_at, truth_at, flag_at}
+use Rattle.ll_lines.specs.Members.{text_at, number_at, truth_at, flag_at, ◌>>=◌}
 use Rattle.ll_lines.specs.Paths.{path_of}
 use Rattle.ll_trace.specs.declared.op.Op.{Op}
 use Rattle.ll_trace.specs.declared.op.Op.TheVariants.{Start, Fork, Exit, Nnp, Create, AddPath, AddPort, CloseRs, Restrict, OpenFile, Adopt, Dup, Close, Ftruncate, Truncate, Exec, Mknod, Mkdir, Symlink, Unlink, Rmdir, Rename, Link, Mount, Bind, Connect, Ioctl, CreateEmpty, LeaveOut}

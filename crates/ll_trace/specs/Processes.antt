@@ -2,8 +2,8 @@
 -- Source: docs/FORMATS.md, "The trace file".
 use Rattle.std.specs.Prelude.{◌≡◌, ℕ, ◌+◌, ◌<◌, ◌==◌, Bool, true, false, List, [], ◌∷◌, take, map, count_by, filter, Option, Some, None, slice_get, if◌then◌else◌}
 use Rattle.std.specs.List.{filter_map, flat_map}
-use Rattle.ll_trace.specs.declared.record.Record.{Record}
-use Rattle.ll_trace.specs.declared.record.ProcessId.{ProcessId}
+use Rattle.ll_trace.specs.declared.op.Record.{Record}
+use Rattle.ll_trace.specs.declared.op.ProcessId.{ProcessId}
 use Rattle.ll_trace.specs.declared.op.Op.{Op}
 use Rattle.ll_trace.specs.declared.op.Op.TheVariants.{Start, Fork}
 unfoldable pub use Rattle.ll_trace.specs.Entries.{is_start}

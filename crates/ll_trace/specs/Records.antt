@@ -2,7 +2,7 @@
 -- Source: docs/FORMATS.md, "The trace file".
 use Rattle.std.specs.Prelude.{◌≡◌, ℕ, List, [], ◌∷◌, map, unwrap_or, if◌then◌else◌}
 use Rattle.ll_lines.specs.Reading.{IsGood}
-use Rattle.ll_trace.specs.declared.record.Record.{Record}
+use Rattle.ll_trace.specs.declared.op.Record.{Record}
 use Rattle.ll_trace.specs.Entries.{Entry, is_start, process_count, process_named, trace_file}
 
 -- A start belongs to the process that it starts, every other entry to the process that its pid names.

@@ -10,7 +10,6 @@ mod owners;
 mod parts;
 mod path_text;
 mod reader;
-mod record;
 mod rows;
 mod tables;
 mod trace;
@@ -20,9 +19,8 @@ pub use laws::{
     processes_are_numbered, sets_are_their_names, traces_of_single_pids,
 };
 pub use located::Located;
-pub use op::{Mode, Op, RuleType, Sort};
+pub use op::{Mode, Op, ProcessId, Record, RuleType, Sort};
 pub use path_text::{PathText, SecondPath};
 pub use reader::{MOST_PROCESSES, MOST_RECORDS};
-pub use record::{ProcessId, Record};
 pub use rows::{calls_at_best_effort, faulty_traces, whole_traces};
 pub use trace::{Effort, Trace};

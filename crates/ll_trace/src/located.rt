@@ -4,7 +4,7 @@ ghost use Rattle.std.specs.Prelude.{◌≡◌, ◌≤◌, IfOk, map};
 ghost use Rattle.ll_trace.specs.BestEffort.{records_at_best_effort};
 ghost use Rattle.ll_trace.specs.FirstPlaces.{AreFirstPlaces, first_place};
 
-use crate::record::Record;
+use crate::op::Record;
 use crate::trace::Trace;
 use ll_rights::Abi;
 use ll_tree::{Place, Tree};

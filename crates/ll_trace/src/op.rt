@@ -1,14 +1,27 @@
-//! The operations of records.
+//! Records: what a process did, and the process that a record belongs to.
 
 ghost use Rattle.std.specs.Prelude.{◌≡◌, IfOk, None, Some, if◌then◌else◌};
 ghost use Rattle.ll_rights.specs.Supported.{supported_fs, supported_net};
 ghost use Rattle.ll_trace.specs.BestEffort.{at_best_effort, creates, adds_port, names_rights};
 
 use crate::path_text::{PathText, SecondPath};
-use crate::record::ProcessId;
 use ll_rights::{Abi, Fs, Kind, Net};
 use ll_tree::{Place, Tree};
 use std::alloc::{AllocError, Global};
+
+/// A process of the trace. Processes are numbered from 0, in the order of the records that start them.
+#[derive(Clone, Copy, Debug, PartialEq, Eq)]
+pub struct ProcessId(pub u32);
+
+/// One record of the trace: its line in the file, the process that it belongs to, the pid by which
+/// the file names that process, and what the process did.
+#[derive(Debug, Drop)]
+pub struct Record {
+    pub line: u64,
+    pub process: ProcessId,
+    pub pid: u64,
+    pub op: Op,
+}
 
 /// What a file is opened for.
 #[derive(Clone, Copy, Debug, PartialEq, Eq)]

@@ -4,7 +4,7 @@ ghost use Rattle.std.specs.Prelude.{◌≡◌, ◌==◌, ◌<◌, ◌%◌, ℕ, 
 ghost use Rattle.ll_trace.specs.declared.owners.RecentPid.{RecentPid as OneRecentPid};
 ghost use Rattle.std.specs.FinMap as finite;
 
-use crate::record::ProcessId;
+use crate::op::ProcessId;
 use ll_shared::SharedMap;
 use std::alloc::{AllocError, Global};
 use std::marker::Model;

@@ -4,8 +4,7 @@
 ghost use Rattle.std.specs.Prelude.{◌≡◌, ◌≢◌, ◌≤◌, ◌<◌, ◌++◌, ◌∷◌, [], ℕ, List, flat_map, OnOk, OnErr, IfOk, IfErr, vec_len};
 ghost use Rattle.std.specs.List.{AllZip};
 ghost use Rattle.ll_lines.specs.Lines.{Line, filled_lines};
-ghost use Rattle.ll_lines.specs.LineView.{line_view};
-ghost use Rattle.ll_lines.specs.LineByLine.{read_lines, reading, GivesReading, MeetsFault};
+ghost use Rattle.ll_lines.specs.LineByLine.{read_lines, reading, GivesReading, MeetsFault, line_view};
 ghost use Rattle.ll_lines.specs.Readers.{Fails};
 ghost use Rattle.ll_lines.specs.declared.fault.Cause.TheVariants.{Memory};
 ghost use Rattle.ll_trace.specs.Entries.{entry_at, trace_file};

@@ -1,17 +1,16 @@
 //! The reading of a trace file, record after record.
 
 ghost use Rattle.std.specs.Prelude.{◌≡◌, ◌+◌, ◌<◌, ◌∷◌, ◌++◌, [], List, OnOk, IfOk, IfErr, None, Ok, flat_map, unwrap_or};
-ghost use Rattle.ll_lines.specs.{declared.fault.Cause.TheVariants.Memory, Readers.Gives, Lines.Line, LineView.line_view};
-ghost use Rattle.ll_lines.specs.LineByLine.{with_entry, with_line, read_lines, reading, GivesReading, MeetsFault};
+ghost use Rattle.ll_lines.specs.{declared.fault.Cause.TheVariants.Memory, Readers.Gives, Lines.Line};
+ghost use Rattle.ll_lines.specs.LineByLine.{with_entry, with_line, read_lines, reading, GivesReading, MeetsFault, line_view};
 ghost use Rattle.ll_trace.specs.declared.reader.TheConstants.{MOST_PROCESSES};
 ghost use Rattle.ll_trace.specs.Entries.{Entry as Seen, entry_at, is_live as is_live_in, is_unknown as is_unknown_in, is_twice as is_twice_in, is_too_many, is_end_of, misplacement, process_count, started_pid, trace_file};
 ghost use Rattle.ll_trace.specs.Records.{process_of};
 ghost use Rattle.ll_trace.specs.Kept.{IsKept, IsNoted, Begins, Stops, entries, entry_view, number, owner_of, past, runs};
 
-use crate::op::Op;
+use crate::op::{Op, ProcessId, Record};
 use crate::operations::operation_of;
 use crate::owners::{Owner, Owners};
-use crate::record::{ProcessId, Record};
 use json::Scratch;
 use ll_lines::blocks::LineBlock;
 use ll_lines::lines::{FileLine, FilledLines};

@@ -1,9 +1,9 @@
 //! The processes of a trace, looked up by their numbers.
 
 ghost use Rattle.std.specs.Prelude.{◌≡◌, ◌+◌, ◌<◌, ◌^◌, [], ◌∷◌, ◌++◌, length, OnOk, IfOk, if◌then◌else◌};
-ghost use Rattle.ll_trace.specs.{RecordFacts.AreRecords, Indexed.Indexes};
+ghost use Rattle.ll_trace.specs.{Traces.AreRecords, Indexed.Indexes};
 
-use crate::record::{ProcessId, Record};
+use crate::op::{ProcessId, Record};
 use std::alloc::{AllocError, Global};
 
 /// The parent of each process, the places of its records, and the place of the record that starts it,

@@ -3,13 +3,13 @@
 ghost use Rattle.std.specs.Prelude.{◌≡◌, ◌≢◌, ◌<◌, ◌≤◌, length, option_map, All, IfOk, IfErr, IfSome};
 ghost use Rattle.ll_lines.specs.{declared.fault.Cause.TheVariants.Memory, Reading.IsBad};
 ghost use Rattle.ll_trace.specs.declared.reader.TheConstants.{MOST_PROCESSES, MOST_RECORDS};
-ghost use Rattle.ll_trace.specs.{Entries.trace_file, RecordFacts.AreRecords, Records.IsTrace};
+ghost use Rattle.ll_trace.specs.{Entries.trace_file, Traces.AreRecords, Records.IsTrace};
 ghost use Rattle.ll_trace.specs.BestEffort.{records_at_best_effort};
 ghost use Rattle.ll_trace.specs.Processes.{process_count, parent_of, own_records, started_at};
 
+use crate::op::{ProcessId, Record};
 use crate::parts::{no_memory, read_all_by, read_blocks_by};
 use crate::reader::{Reader, read_all, read_blocks};
-use crate::record::{ProcessId, Record};
 use crate::tables::{Tables, index};
 use ll_lines::blocks::LineBlocks;
 use ll_lines::{Cause, ReadFault};
@@ -38,7 +38,7 @@ pub struct Trace {
 
 impl Model for Trace {
     ghost use Rattle.std.specs.Prelude.{List};
-    ghost use Rattle.ll_trace.specs.declared.record.Record.{Record as OneRecord};
+    ghost use Rattle.ll_trace.specs.declared.op.Record.{Record as OneRecord};
 
     ghost Value = { List OneRecord };
 

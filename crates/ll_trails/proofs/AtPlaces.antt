@@ -4,7 +4,7 @@ use Rattle.std.specs.Prelude.{slice_get}
 use Rattle.std.proofs.lemmas.Option.{same_Some, slice_get_cases, slice_get_read}
 use Rattle.ll_rights.specs.declared.abi.Abi.{Abi}
 use Rattle.ll_tree.specs.Trees.{Entry}
-use Rattle.ll_trace.specs.declared.record.Record.{Record}
+use Rattle.ll_trace.specs.declared.op.Record.{Record}
 use Rattle.ll_trace.specs.Entries.{is_start}
 use Rattle.ll_trace.specs.Processes.{process_count, IsNumbered}
 use Rattle.ll_trace.proofs.Numbers.{count-more, no_count}

@@ -6,7 +6,7 @@ use Rattle.std.proofs.lemmas.List.{take_all}
 use Rattle.std.specs.FinMap.{FinMap, empty, get, get-empty}
 use Rattle.std.specs.Ordering.{nat_cmp}
 use Rattle.ll_trails.specs.declared.openings.Change.{Change}
-use Rattle.ll_trails.specs.Opened.{latest}
+use Rattle.ll_trails.specs.TraceOrigins.{latest}
 
 -- an empty map has nothing at any number
 pub nothing_there : (settled : FinMap nat_cmp ℕ) (fd : ℕ) → settled ≡ empty → get settled fd ≡ None

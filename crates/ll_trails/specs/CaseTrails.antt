@@ -1,19 +1,24 @@
--- What is kept of the origins of a case's processes, before one of its records.
--- Source: landlock_restrict_self(2); landlock(7), "Inheritance".
+-- What is kept of the origins of a case's processes, before one of its records, and that layers which are the same
+-- object to the same.
+-- Source: landlock_restrict_self(2); landlock(7), "Inheritance"; docs/FORMATS.md, "Explanations".
 use Rattle.std.specs.Prelude.{◌≡◌, ℕ, List, Option, Some, slice_get}
 use Rattle.std.specs.List.{AllZip}
+use Rattle.ll_tree.specs.Trees.{Entry}
 use Rattle.ll_rules.specs.declared.domain.LayerId.{LayerId}
+use Rattle.ll_rules.specs.declared.errno.Errno.{Errno}
 use Rattle.ll_rules.specs.KeptLayers.{SameRules, domain_of, IsDomainOf}
 use Rattle.ll_rules.specs.InTree.{all_in_tree}
+use Rattle.ll_trace.specs.declared.op.Op.{Op}
 use Rattle.ll_semantics.specs.declared.answer.Answer.{Answer}
 use Rattle.ll_semantics.specs.RulesetOutcomes.{IsFrozen}
 use Rattle.ll_semantics.specs.CallContexts.{world_at}
 use Rattle.ll_semantics.specs.Worlds.{judged}
+use Rattle.ll_semantics.specs.States.{Layer}
 use Rattle.ll_rulebook.specs.Settled.{met_by}
 use Rattle.ll_process.specs.Cases.{CaseValue}
-use Rattle.ll_reasons.specs.Explanations.{domain_at, origins_at}
+use Rattle.ll_reasons.specs.Explanations.{domain_at, objections_to, origins_at}
 use Rattle.ll_reasons.specs.Made.{enforced_at}
-use Rattle.ll_reasons.specs.Origins.{sources_at, no_sources}
+use Rattle.ll_reasons.specs.Origins.{sources_at, no_sources, Origins}
 use Rattle.ll_trails.specs.declared.trail.ProcessOrigins.{ProcessOrigins}
 use Rattle.ll_trails.specs.declared.trail.TraceOrigins.{TraceOrigins}
 use Rattle.ll_trails.specs.TraceOrigins.{Follows, AreTrails}
@@ -42,3 +47,9 @@ IsLayerBy case place id = (process : ℕ) → IsFrozen (met_by case.tree case.ab
 -- layers of a case that are those of each process which a trail follows
 abbrev pub AreLayersBy : CaseValue → ProcessOrigins → List LayerId → Type 0
 AreLayersBy case trail ids = (place process : ℕ) → Follows trail (origins_at case.tree case.abi case.records place process) → IsDomainAt case place process ids
+
+-- two domains whose layers are one by one the same object to the same in each call
+abbrev pub ObjectToTheSame : Type 0
+ObjectToTheSame =
+    (tree : List Entry) (xs ys : List Layer) → AllZip SameRules xs ys → (o : Origins) (op : Op) (error : Errno) (numbers : List ℕ) →
+    objections_to tree xs o op error numbers ≡ objections_to tree ys o op error numbers

@@ -1,4 +1,2 @@
-pub mod Opened
 pub mod TraceOrigins
 pub mod CaseTrails
-pub mod Objecting

@@ -3,11 +3,9 @@
 #![tactic(auto)]
 
 mod domain;
-mod laws;
 mod openings;
 mod trail;
 
 pub use domain::domain_of;
-pub use laws::{same_layers_object_to_the_same, trails_begin};
 pub use openings::Openings;
-pub use trail::{ProcessOrigins, TraceOrigins};
+pub use trail::{ProcessOrigins, TraceOrigins, same_layers_object_to_the_same, trails_begin};

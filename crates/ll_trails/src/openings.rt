@@ -2,7 +2,7 @@
 
 ghost use Rattle.std.specs.Prelude.{◌≡◌, ◌==◌, ℕ, [], Option, None, OnOk, IfOk, if◌then◌else◌};
 ghost use Rattle.std.specs.FinMap.{get};
-ghost use Rattle.ll_trails.specs.Opened.{latest, opened};
+ghost use Rattle.ll_trails.specs.TraceOrigins.{latest, opened};
 
 use ll_rules::NoMemory;
 use ll_shared::SharedMap;
@@ -50,7 +50,7 @@ fn settle_all(settled: &mut SharedMap<u32>, changes: &[Change]) -> Result<(), Al
 
 impl Openings {
     /// Nothing is open.
-    #[tactic(auto, using(crate::proofs::Waiting::nothing_there), unfolding(crate::specs::Opened::latest))]
+    #[tactic(auto, using(crate::proofs::Waiting::nothing_there), unfolding(crate::specs::TraceOrigins::latest))]
     pub(crate) fn new(alloc: Global) -> Openings
         ensures { (fd : ℕ) → opened result fd ≡ None }
     {
@@ -74,7 +74,7 @@ impl Openings {
     }
 
     /// The map takes all changes that wait.
-    #[tactic(auto, unfolding(crate::specs::Opened::latest))]
+    #[tactic(auto, unfolding(crate::specs::TraceOrigins::latest))]
     fn take_all(&mut self) -> Result<(), NoMemory>
         ensures same { OnOk result ((q : ℕ) → opened self.new q ≡ opened self.old q) }
         ensures none { OnOk result (self.new.waiting.items ≡ []) }
@@ -107,7 +107,7 @@ impl Openings {
     }
 
     /// The same once more, for a child. It shares with this one what neither of them changes.
-    #[tactic(auto, unfolding(crate::specs::Opened::latest))]
+    #[tactic(auto, unfolding(crate::specs::TraceOrigins::latest))]
     pub(crate) fn forked(&mut self) -> Result<Openings, NoMemory>
         ensures child { IfOk result (λ child. (q : ℕ) → opened child q ≡ opened self.old q) }
         ensures parent { OnOk result ((q : ℕ) → opened self.new q ≡ opened self.old q) }

@@ -3,7 +3,7 @@
 ghost use Rattle.std.specs.Prelude.{◌≡◌, ◌<◌, ◌+◌, ◌++◌, ◌∷◌, ℕ, [], Some, false, length, slice_get, IfOk, OnOk};
 ghost use Rattle.ll_trace.specs.Entries.{is_start};
 ghost use Rattle.ll_reasons.specs.Origins.{Origins, Sources, no_origins, no_sources, sources_by, traced, with_next};
-ghost use Rattle.ll_trails.specs.CaseTrails.{AreTrailsAt, IsAnswerAt};
+ghost use Rattle.ll_trails.specs.CaseTrails.{AreTrailsAt, IsAnswerAt, ObjectToTheSame, TrailsBegin};
 ghost use Rattle.ll_trails.specs.TraceOrigins.{AreTrails, Follows};
 
 use crate::openings::Openings;
@@ -173,3 +173,16 @@ impl TraceOrigins {
         Ok(())
     }
 }
+
+/// What is kept of no process is what is kept before the first record, whichever the case.
+#[tactic(auto, using(crate::proofs::AtPlaces::begins_at))]
+pub fn trails_begin()
+    ensures { TrailsBegin }
+{}
+
+/// Layers that are one by one the same object to the same in each call, so that a case's own layers of a process may
+/// be asked in place of those that the semantics gives it.
+#[tactic(auto, using(crate::proofs::SameObjections::same_layers_object_to_the_same))]
+pub fn same_layers_object_to_the_same()
+    ensures { ObjectToTheSame }
+{}

@@ -21,8 +21,7 @@ use Rattle.ll_rights.specs.declared.kind.Kind.{Kind}
 use Rattle.ll_rights.specs.declared.kind.Kind.TheVariants.{Dir}
 use Rattle.ll_tree.specs.declared.place.Place.TheVariants as places
 use Rattle.ll_lines.specs.declared.path.TheConstants.{LONGEST_PATH}
-use Rattle.ll_lines.specs.Paths.{Path, is_name, path_of, front, path_eq, after_slash, names_in}
-use Rattle.ll_lines.specs.PathTexts.{is_path, text_of}
+use Rattle.ll_lines.specs.Paths.{Path, is_name, path_of, front, path_eq, after_slash, names_in, is_path, text_of}
 use Rattle.ll_tree.proofs.Positions.{path_in, at_position, position_of-some, position_of-kept, is_dir_in-from_place, node, is_root, parent_of-root}
 use Rattle.ll_tree.proofs.Positions.{parent_of-other, parent_found, empty_or_not, is_dir-Dir, spelt_is, place_is, node_at-position, position_of-push}
 use Rattle.ll_tree.proofs.Positions.{root_tree, path_eq-root}
@@ -151,7 +150,7 @@ module _ (tree : List Entry) (new : Entry) (up : NodeId) (listed : IsTree tree) 
       let size = length_push tree new in
       record {
         begins = (let some = listed.begins.0 in omega arith, get_or_append_left tree (new ∷ []) root 0 listed.begins.0 ∙ listed.begins.1);
-        paths = λ here within. each_push (λ n e. IsTrue (Rattle.ll_lines.specs.PathTexts.is_path e.path)) tree new root
+        paths = λ here within. each_push (λ n e. IsTrue (Rattle.ll_lines.specs.Paths.is_path e.path)) tree new root
             (λ n inside. listed.paths (node n) inside) fits.is_path here.0 within;
         distinct = λ a b a_within b_within same. ap node (each_push (λ n e. (m : ℕ) → m < length both → e.path ≡ path_in both m → n ≡ m) tree new root
             (λ n inside. each_push (λ m e. path_in tree n ≡ e.path → n ≡ m) tree new root
@@ -217,7 +216,7 @@ length-join (name ∷ next ∷ names) =
 
 -- a path of at most 4,096 bytes has no more names
 pub depth_small : (tree : List Entry) (here : NodeId) → IsTree tree → IsNode tree here → depth_at tree here ≤ LONGEST_PATH
-unfolding depth_at Rattle.ll_lines.specs.PathTexts.is_path text_of
+unfolding depth_at Rattle.ll_lines.specs.Paths.is_path text_of
 depth_small tree here listed within =
     let path = path_at tree here in
     let fits = (and_parts (list_all is_name path) (leb (length (text_of path)) LONGEST_PATH) (listed.paths here within)).1 in

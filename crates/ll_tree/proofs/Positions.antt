@@ -6,8 +6,7 @@ use Rattle.std.proofs.lemmas.Bool.{cases_Bool, and_parts, false≢true, cases_lt
 use Rattle.std.proofs.lemmas.Option.{none-some, same_Some}
 use Rattle.std.proofs.lemmas.Slice.Eq.{slice_eq-Decides, bytes_eq-Decides}
 use Rattle.std.specs.Bool.{Decides}
-use Rattle.ll_lines.specs.Paths.{Path, path_eq, front, path_of, is_prefix}
-use Rattle.ll_lines.specs.PathTexts.{is_path, text_of}
+use Rattle.ll_lines.specs.Paths.{Path, path_eq, front, path_of, is_prefix, is_path, text_of}
 use Rattle.ll_tree.specs.Trees.{Entry, root, is_dir, is_dir_in, position_of, IsNode, path_at, kind_at, node_at, parent_of, parent_at, place_or_gap, place_of}
 use Rattle.ll_tree.specs.Trees.{place}
 use Rattle.std.proofs.lemmas.List.{get_or_default, length-take, get_or-take}

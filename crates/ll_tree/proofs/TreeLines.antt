@@ -15,9 +15,8 @@ use Rattle.ll_tree.specs.declared.place.Place.TheVariants as places
 use Rattle.ll_lines.specs.Paths.{Path, path_of, path_eq, front}
 use Rattle.ll_tree.specs.Trees.{Entry, root, is_dir, is_dir_in, kind_at, position_of, node_at, gap_in, place_or_gap, place_of, place}
 use Rattle.ll_tree.specs.TreeFacts.{spelt, named, IsTree}
-use Rattle.ll_lines.specs.LineByLine.{with_entry, add_unless, reading, GivesReading}
+use Rattle.ll_lines.specs.LineByLine.{with_entry, add_unless, reading, GivesReading, ReadsInOneWay}
 use Rattle.ll_lines.specs.Reading.{IsBad}
-use Rattle.ll_lines.specs.OneWay.{ReadsInOneWay}
 use Rattle.ll_tree.specs.TreeReading.{is_listed, fault_in, tree_format, IsTreeOf}
 use Rattle.ll_tree.specs.Kept.{below_root, IsRooted}
 use Rattle.ll_lines.proofs.ReadingLemmas.{good_from_reading, bad_from_fault, in_one_way as format_in_one_way}

@@ -8,8 +8,7 @@ use Rattle.std.proofs.lemmas.Bool.{cases_lt, and_parts, false≢true}
 use Rattle.std.proofs.lemmas.Bool.Decides.{Decides-eqb}
 use Rattle.std.proofs.lemmas.Slice.Eq.{bytes_eq-Decides}
 use Rattle.std.specs.Str.{bytes_eq}
-use Rattle.ll_lines.specs.Paths.{path_of}
-use Rattle.ll_lines.specs.PathTexts.{text_of}
+use Rattle.ll_lines.specs.Paths.{path_of, text_of}
 use Rattle.ll_lines.proofs.PathLaws.{text_of-path_of}
 use Rattle.ll_tree.specs.declared.tree.Object.{Object}
 use Rattle.ll_tree.specs.Chains.{text_mark, slot_in, head_in}

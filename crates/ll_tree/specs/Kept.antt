@@ -9,14 +9,13 @@ use Rattle.std.specs.Cmp.Lexicographic.{slice_cmp}
 use Rattle.std.specs.Ordering.{nat_cmp}
 use Rattle.ll_tree.specs.declared.tree.TheConstants.{MOST_NODES}
 use Rattle.ll_tree.specs.declared.tree.Object.{Object}
-use Rattle.ll_lines.specs.Paths.{Path}
-use Rattle.ll_lines.specs.PathTexts.{is_path, text_of}
+use Rattle.ll_lines.specs.Paths.{Path, is_path, text_of}
 use Rattle.ll_tree.specs.Trees.{Entry, position_of, parent_at, path_at, root}
 use Rattle.ll_tree.specs.Chains.{text_mark, slot_in, head_in}
 use Rattle.ll_tree.specs.TreeFacts.{IsTree, depth_at, named}
 use Rattle.serde_json.specs.Data.{Data}
 use Rattle.ll_lines.specs.declared.fault.Cause.{Cause}
-use Rattle.ll_lines.specs.Fault.{◌>>=◌}
+use Rattle.ll_lines.specs.Members.{◌>>=◌}
 use Rattle.ll_lines.specs.LineByLine.{with_entry}
 use Rattle.ll_tree.specs.TreeReading.{entry_in, tree_format}
 

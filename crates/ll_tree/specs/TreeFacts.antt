@@ -6,8 +6,7 @@ use Rattle.ll_rights.specs.declared.kind.Kind.TheVariants.{Dir}
 use Rattle.ll_tree.specs.declared.place.NodeId.{NodeId}
 use Rattle.ll_tree.specs.declared.place.Place.{Place}
 use Rattle.ll_tree.specs.declared.place.Place.TheVariants as places
-use Rattle.ll_lines.specs.Paths.{Path, front, path_of}
-use Rattle.ll_lines.specs.PathTexts.{is_path}
+use Rattle.ll_lines.specs.Paths.{Path, front, is_path, path_of}
 use Rattle.ll_tree.specs.Trees.{Entry, root, IsNode, path_at, kind_at, is_dir_in}
 
 -- The root is the first entry and no other. Paths are distinct, and what is above any other entry is a

@@ -8,8 +8,7 @@ use Rattle.ll_rights.specs.declared.kind.Kind.{Kind}
 use Rattle.ll_rights.specs.declared.kind.Kind.TheVariants.{Dir, Reg, Sym, Char, Block, Fifo, Sock}
 use Rattle.ll_lines.specs.declared.fault.Cause.{Cause}
 use Rattle.ll_lines.specs.declared.fault.Cause.TheVariants.{Field, BadPath, Twice, NoParent, TooMany}
-use Rattle.ll_lines.specs.Fault.{◌>>=◌}
-use Rattle.ll_lines.specs.Members.{value_at, text_at}
+use Rattle.ll_lines.specs.Members.{value_at, text_at, ◌>>=◌}
 use Rattle.ll_lines.specs.Reading.{Format, IsGood}
 use Rattle.ll_lines.specs.Paths.{Path, path_of, path_eq, front}
 use Rattle.ll_tree.specs.declared.tree.TheConstants.{MOST_NODES}

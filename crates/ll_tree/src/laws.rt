@@ -1,7 +1,7 @@
 //! Laws on the definitions: for every tree file, and for a small one.
 
 ghost use Rattle.std.specs.Prelude.{◌≡◌, [], ◌∷◌, ◌++◌, codes, Some, None};
-ghost use Rattle.ll_lines.specs.{Paths.path_of, OneWay.ReadsInOneWay};
+ghost use Rattle.ll_lines.specs.{Paths.path_of, LineByLine.ReadsInOneWay};
 ghost use Rattle.ll_tree.specs.Trees.{place};
 ghost use Rattle.ll_tree.specs.TreeReading.{IsTreeOf, tree_format};
 ghost use Rattle.ll_tree.specs.WorkedTree.{line, worked_file, worked_entries, worked_tree, ReadsAs, IsRefused};

@@ -5,13 +5,12 @@ ghost use Rattle.std.specs.{String.string_bytes, Str.bytes_eq};
 ghost use Rattle.serde_json.specs.Data.{Data};
 ghost use Rattle.ll_lines.specs.{declared.fault.Cause.TheVariants.Memory, Readers.Gives};
 ghost use Rattle.ll_members.specs.Slots.{Hold};
-ghost use Rattle.ll_lines.specs.{LineView.line_view, Reading.IsBad};
-ghost use Rattle.ll_lines.specs.LineByLine.{GivesReading, reading, with_line, with_entry};
+ghost use Rattle.ll_lines.specs.Reading.{IsBad};
+ghost use Rattle.ll_lines.specs.LineByLine.{GivesReading, reading, with_line, with_entry, line_view};
 ghost use Rattle.ll_tree.specs.declared.tree.TheConstants.{MOST_NODES};
 ghost use Rattle.ll_tree.specs.TreeReading.{IsTreeOf, tree_format};
 ghost use Rattle.ll_tree.specs.Kept.{IsRooted, below_root, with_value};
-ghost use Rattle.ll_lines.specs.Paths.{Path, path_of, is_prefix};
-ghost use Rattle.ll_lines.specs.PathTexts.{text_of};
+ghost use Rattle.ll_lines.specs.Paths.{Path, path_of, is_prefix, text_of};
 ghost use Rattle.ll_tree.specs.Trees.{Entry, root, IsNode, is_dir, path_at, kind_at, parent_at, node_at, gap_in, place};
 ghost use Rattle.ll_tree.specs.TreeFacts.{spelt, named, IsTree, IsPlace, StandsIn, depth_at};
 

@@ -1,8 +1,8 @@
 //! A hand that keeps jobs for its caller.
 
-ghost use Rattle.std.specs.Prelude.{◌≡◌, ◌<◌, ◌≤◌, [], ◌∷◌, All, IfNone, IfSome, length, slice_index_or};
+ghost use Rattle.std.specs.Prelude.{◌≡◌, ◌<◌, ◌≤◌, ◌%◌, ◌==◌, [], ◌∷◌, true, false, All, IfNone, IfSome, length, slice_index_or};
 ghost use Rattle.std.specs.List.Sorted.{IsPermutation};
-ghost use Rattle.ll_unit_tests.specs.Wanted.{is_wanted};
+ghost use Rattle.ll_unit_tests.specs.declared.keeper.Wanted.TheVariants.{Nothing, Every, Even};
 ghost use Rattle.ll_process.specs.declared.job.Job.{Job as OneJob};
 
 use ll_process::{Hand, Job};
@@ -22,7 +22,9 @@ pub enum Wanted {
 impl Wanted {
     /// Whether the job of a process is wanted.
     pub fn includes(self, process: ProcessId) -> bool
-        ensures { result ≡ is_wanted self process.0 }
+        ensures nothing { self ≡ Nothing → result ≡ false }
+        ensures every { self ≡ Every → result ≡ true }
+        ensures even { self ≡ Even → result ≡ (process.0 % 2 == 0) }
     {
         match self {
             Wanted::Nothing => false,

@@ -1,9 +1,8 @@
 -- Where the trace doesn't read, the number of workers is one that may judge, and the tree reads.
 use Rattle.std.proofs.Common.{rules, ℕ, List, Result, Ok, Err, sym, subst, inl, inr}
 use Rattle.std.specs.Prelude.{IfErr}
-use Rattle.ll_pool.specs.Crews.{IsCrew}
 use Rattle.ll_audit.specs.declared.fault.Fault.{Fault}
-use Rattle.ll_audit.specs.Audits.{IsFaultOf, ReadsAsTree, ReadsAsTrace}
+use Rattle.ll_audit.specs.Audits.{IsFaultOf, ReadsAsTree, ReadsAsTrace, IsCrew}
 use Rattle.ll_audit.specs.Causes.{IsWant}
 use Rattle.ll_audit.specs.Inputs.{trace_bytes, tree_bytes}
 use Rattle.ll_audit.proofs.auditing.audit_inputs.Goals as goal

@@ -3,7 +3,7 @@ use Rattle.ll_rights.specs.declared.abi.Abi.{Abi}
 use Rattle.ll_explain.specs.Explained.{text_at}
 use Rattle.ll_semantics.specs.Worlds.{judged}
 use Rattle.ll_report.specs.declared.report.Report.{Report}
-use Rattle.ll_report.specs.Told.{told_by}
+use Rattle.ll_report.specs.Shown.{told_by}
 use Rattle.ll_report.specs.Lines.{lines_of}
 use Rattle.ll_report.proofs.BlocksMade.{is_report_text}
 use Rattle.ll_audit.specs.Audits.{IsReport}

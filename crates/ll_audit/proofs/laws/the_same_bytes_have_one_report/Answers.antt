@@ -2,7 +2,7 @@ use Rattle.std.proofs.Common.{◌≡◌, ◌∙◌, ℕ, List, sym, ap₂}
 use Rattle.ll_rights.specs.declared.abi.Abi.{Abi}
 use Rattle.ll_tree.specs.Trees.{Entry}
 use Rattle.ll_tree.proofs.TreeLines.{in_one_way}
-use Rattle.ll_trace.specs.declared.record.Record.{Record}
+use Rattle.ll_trace.specs.declared.op.Record.{Record}
 use Rattle.ll_trace.proofs.LawLemmas.{one_trace}
 use Rattle.ll_semantics.specs.Worlds.{judged}
 use Rattle.ll_report.specs.declared.report.Report.{Report}

@@ -3,7 +3,7 @@ use Rattle.ll_audit.specs.declared.lines.Failure.{Failure}
 use Rattle.ll_audit.specs.declared.outcome.Ending.{Ending}
 use Rattle.ll_command.specs.Command.{Text}
 use Rattle.ll_audit.specs.FaultLines.{failure_line, failure_status}
-use Rattle.ll_audit.specs.Files.{Files}
+use Rattle.ll_audit.specs.Inputs.{Files}
 use Rattle.ll_audit.specs.Fronts.{HasReason, IsWhy, TellsWhy}
 use Rattle.ll_audit.specs.Outcomes.{AppendsBeginning, Complains}
 use Rattle.ll_audit.proofs.program.front.Goals as goal

@@ -1,7 +1,7 @@
 use Rattle.std.proofs.Common.{refl, lit<}
 use Rattle.std.proofs.lemmas.Fmt.{decimal_digit}
 use Rattle.json.specs.Print.{escape_byte}
-use Rattle.ll_lines.specs.PathTexts.{text_of}
+use Rattle.ll_lines.specs.Paths.{text_of}
 use Rattle.ll_explain.specs.Words.{behind, condition_text, unknown_text, explanation_text, joined, layer_head, layer_text, listed, objection_text, path_text}
 use Rattle.ll_explain.proofs.laws.worked_words.Goals as goal
 

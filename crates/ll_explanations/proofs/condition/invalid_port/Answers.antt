@@ -1,7 +1,6 @@
 use Rattle.ll_rights.specs.NetRights as network
 use Rattle.ll_reasons.specs.Conditions.{no_port, unhandled_on_ports}
-use Rattle.ll_explanations.specs.Meanings.{condition_in}
-use Rattle.ll_explanations.specs.Sets.{port_rights_in}
+use Rattle.ll_explanations.specs.Meanings.{condition_in, port_rights_in}
 use Rattle.ll_explanations.proofs.Beyond.{all_within, some_beyond}
 use Rattle.ll_explanations.proofs.condition.invalid_port.Goals as goal
 

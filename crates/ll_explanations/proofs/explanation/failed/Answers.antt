@@ -1,7 +1,7 @@
 -- The condition that is worked out by the trail is that of the record there.
 use Rattle.std.proofs.Common.{◌∙◌, List, ap₂}
 use Rattle.ll_rights.specs.declared.abi.Abi.{Abi}
-use Rattle.ll_trace.specs.declared.record.Record.{Record}
+use Rattle.ll_trace.specs.declared.op.Record.{Record}
 use Rattle.ll_reasons.specs.Conditions.{condition}
 use Rattle.ll_reasons.specs.Explanations.{origins_at}
 use Rattle.ll_explanations.proofs.Explaining.{fails}

@@ -1,6 +1,6 @@
 use Rattle.std.proofs.Common.{◌≡◌, ◌∙◌, ◌<◌, ◌≤◌, List, length, Some, arith, slice_get, subst, sym}
 use Rattle.ll_trace.specs.declared.reader.TheConstants.{MOST_RECORDS}
-use Rattle.ll_trace.specs.declared.record.Record.{Record}
+use Rattle.ll_trace.specs.declared.op.Record.{Record}
 use Rattle.ll_process.specs.Cases.{CaseValue}
 use Rattle.ll_reasons.specs.Explanations.{origins_at}
 use Rattle.ll_trails.proofs.AtPlaces.{read_there, process_there}

@@ -5,7 +5,7 @@ use Rattle.ll_rules.specs.declared.domain.LayerId.{LayerId}
 use Rattle.ll_rules.specs.Layers.{RulesOn}
 use Rattle.ll_rules.specs.InTree.{AreInTree, all_in_tree}
 use Rattle.ll_rules.specs.KeptLayers.{IsDomainOf, domain_of}
-use Rattle.ll_trace.specs.declared.record.Record.{Record}
+use Rattle.ll_trace.specs.declared.op.Record.{Record}
 use Rattle.ll_process.specs.Cases.{CaseValue}
 use Rattle.ll_reasons.specs.Explanations.{domain_at, objections, objections_to, origins_at}
 use Rattle.ll_reasons.specs.Objections.{Objection}

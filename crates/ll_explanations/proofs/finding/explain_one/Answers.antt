@@ -1,6 +1,6 @@
 use Rattle.std.proofs.Common.{◌≡◌, ◌∙◌, Some, slice_get, sym, ap}
 use Rattle.std.proofs.lemmas.Option.{same_Some}
-use Rattle.ll_trace.specs.declared.record.Record.{Record}
+use Rattle.ll_trace.specs.declared.op.Record.{Record}
 use Rattle.ll_process.specs.Cases.{CaseValue}
 use Rattle.ll_trails.proofs.AtPlaces.{read_there}
 use Rattle.ll_explanations.specs.Kept.{kept_of}

@@ -1,7 +1,7 @@
 use Rattle.std.proofs.Common.{◌∷◌, ap, append-nil, codes, map, sym}
 use Rattle.json.specs.Token as token
 use Rattle.json.specs.Tree.{json_tokens}
-use Rattle.ll_report.specs.Names.{error_name}
+use Rattle.ll_report.specs.Lines.{error_name}
 use Rattle.ll_json.specs.Parts.{array_of}
 use Rattle.ll_json.specs.Records.{answer_members, bare_layer, layers_json, why_members}
 use Rattle.ll_json.proofs.Writing.{wrote_3, wrote_as}

@@ -1,7 +1,7 @@
 use Rattle.std.proofs.Common.{refl, lit<}
 use Rattle.std.proofs.lemmas.Fmt.{decimal_digit}
 use Rattle.json.specs.Print.{escape_byte, print_from}
-use Rattle.ll_lines.specs.PathTexts.{text_of}
+use Rattle.ll_lines.specs.Paths.{text_of}
 use Rattle.ll_json.specs.Records.{answer_members, layers_json, why_members}
 use Rattle.ll_json.specs.Why.{layer_json, objection_json, reason_json}
 use Rattle.ll_json.proofs.laws.worked_answers.Goals as goal

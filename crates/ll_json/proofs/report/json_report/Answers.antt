@@ -2,10 +2,10 @@ use Rattle.std.proofs.Common.{◌≡◌, ◌∙◌, ℕ, List, ap, ap₂, length
 use Rattle.std.specs.Prelude.{count_by}
 use Rattle.std.specs.List.{range_with_len}
 use Rattle.std.proofs.lemmas.Result.{IfOk-weaker}
-use Rattle.ll_trace.specs.declared.record.Record.{Record}
-use Rattle.ll_explanations.specs.FindingValues.{FindingValue}
+use Rattle.ll_trace.specs.declared.op.Record.{Record}
+use Rattle.ll_explanations.specs.Findings.{FindingValue}
 use Rattle.ll_report.specs.Made.{Made, text_of}
-use Rattle.ll_report.specs.Told.{Told}
+use Rattle.ll_report.specs.Shown.{Told}
 use Rattle.ll_report.specs.Versions.{some_refuses}
 use Rattle.ll_json.specs.Reports.{IsJsonReport}
 use Rattle.ll_json.specs.Rows.{json_made}

@@ -1,6 +1,6 @@
 use Rattle.std.proofs.Common.{◌∙◌, Bool, ap, subst, sym}
 use Rattle.ll_explain.specs.Buffers.{adding}
-use Rattle.ll_report.specs.Sayings.{said_by}
+use Rattle.ll_report.specs.Scratches.{said_by}
 use Rattle.ll_json.specs.Rows.{line_of}
 use Rattle.ll_json.specs.Telling.{AreComparable, members_told}
 use Rattle.ll_json.proofs.SaidAlike.{comparable}

@@ -2,7 +2,7 @@ use Rattle.std.proofs.Common.{rules, ◌≡◌, ◌∙◌, ◌+◌, ◌<◌, ◌
 use Rattle.std.specs.Prelude.{bytes_eq}
 use Rattle.ll_explain.specs.Buffers.{adding}
 use Rattle.ll_explain.proofs.Buffering.{goes_on}
-use Rattle.ll_report.specs.Sayings.{said_by}
+use Rattle.ll_report.specs.Scratches.{said_by}
 use Rattle.ll_report.proofs.Holding.{each_told}
 use Rattle.ll_json.proofs.SpansSaid.{left, left_last, left_other, left_same, no_answer, span_of}
 use Rattle.ll_json.proofs.spans.push_answers.Goals as goal

@@ -1,7 +1,7 @@
 -- what is written, with the span that goes on and those behind it, is the whole
 use Rattle.std.proofs.Common.{◌≡◌, ◌<◌, ◌+◌, false, length}
 use Rattle.ll_explain.specs.Buffers.{adding}
-use Rattle.ll_report.specs.Sayings.{said_by}
+use Rattle.ll_report.specs.Scratches.{said_by}
 use Rattle.ll_report.specs.Spans.{spans_of}
 use Rattle.ll_json.specs.Rows.{separated}
 use Rattle.ll_json.proofs.SpansSaid.{left}

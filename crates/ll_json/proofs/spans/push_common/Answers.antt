@@ -1,6 +1,6 @@
 use Rattle.std.proofs.Common.{◌∙◌, List, ℕ, ap, arith}
 use Rattle.ll_explain.specs.Buffers.{adding}
-use Rattle.ll_report.specs.Sayings.{said_by}
+use Rattle.ll_report.specs.Scratches.{said_by}
 use Rattle.ll_report.proofs.Holding.{each_told}
 use Rattle.ll_json.proofs.SpansSaid.{one_answer}
 use Rattle.ll_json.proofs.spans.push_common.Goals as goal

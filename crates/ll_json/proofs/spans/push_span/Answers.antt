@@ -1,6 +1,6 @@
 use Rattle.std.proofs.Common.{List, ℕ, [], get_or}
 use Rattle.std.specs.Prelude.{nat_lt}
-use Rattle.ll_report.specs.Sayings.{said_by}
+use Rattle.ll_report.specs.Scratches.{said_by}
 use Rattle.ll_json.proofs.SpansSaid.{span_added}
 use Rattle.ll_json.proofs.spans.push_span.Goals as goal
 

@@ -2,7 +2,7 @@
 use Rattle.std.proofs.Common.{cond, eqb, length, ap, ◌∙◌, arith}
 use Rattle.std.proofs.lemmas.List.{length-take-le}
 use Rattle.std.proofs.lemmas.List.Sums.{sum_by-take-drop}
-use Rattle.ll_lines.specs.Lines.{line_feeds}
+use Rattle.ll_lines.specs.LineByLine.{line_feeds}
 use Rattle.ll_lines.proofs.lines.count_line_feeds.Goals as goal
 
 pub count_in_lanes-requires : goal.count_in_lanes-requires

@@ -1,6 +1,6 @@
 -- Those counted and those that are left are all.
 use Rattle.std.proofs.Common.{◌≡◌, ◌+◌, length}
-use Rattle.ll_lines.specs.Lines.{line_feeds}
+use Rattle.ll_lines.specs.LineByLine.{line_feeds}
 use Rattle.ll_lines.proofs.lines.count_line_feeds.Given as goal
 
 abbrev pub invariant-loop-lanes : goal.invariant-loop-lanes

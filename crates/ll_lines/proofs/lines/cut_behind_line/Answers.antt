@@ -1,5 +1,5 @@
 use Rattle.std.proofs.Common.{◌+◌, arith}
-use Rattle.ll_lines.specs.Lines.{line_feeds}
+use Rattle.ll_lines.specs.LineByLine.{line_feeds}
 use Rattle.ll_lines.proofs.LinesLemmas.{filled-cut, filled-uncut}
 use Rattle.ll_lines.proofs.lines.cut_behind_line.Goals as goal
 

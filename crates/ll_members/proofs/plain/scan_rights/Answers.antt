@@ -1,6 +1,6 @@
 use Rattle.std.proofs.Common.{rules, ◌∷◌, true, false, ◌∙◌, ap}
 use Rattle.json.specs.Print.{quoted}
-use Rattle.ll_members.specs.BothSets.{no_rights}
+use Rattle.ll_members.specs.Slots.{no_rights}
 use Rattle.ll_members.proofs.PlainLemmas.{rest_unescaped, unescaped_behind, none_named, one_more_named, all_named}
 use Rattle.ll_members.proofs.plain.scan_rights.Goals as goal
 

@@ -2,7 +2,7 @@
 use Rattle.std.proofs.Common.{◌≡◌, ◌<◌, length, get_or, refl, arith}
 use Rattle.std.proofs.lemmas.List.{get_or_read}
 use Rattle.std.proofs.lemmas.Option.{slice_get-get_or}
-use Rattle.ll_trace.specs.declared.record.ProcessId.{ProcessId}
+use Rattle.ll_trace.specs.declared.op.ProcessId.{ProcessId}
 use Rattle.ll_pool.proofs.Counts.{counted_none, counted_more}
 use Rattle.ll_pool.proofs.gather.count.Goals as goal
 

@@ -3,8 +3,8 @@ use Rattle.std.proofs.Common.{◌≡◌, ◌<◌, ◌+◌, min, ℕ, List, lengt
 use Rattle.std.specs.Prelude.{slice_index, All, vec_len, Some}
 use Rattle.std.proofs.lemmas.Option.{slice_get-get_or}
 use Rattle.std.proofs.lemmas.List.{length-replicate}
-use Rattle.ll_trace.specs.declared.record.ProcessId.{ProcessId}
-use Rattle.ll_trace.specs.declared.record.Record.{Record}
+use Rattle.ll_trace.specs.declared.op.ProcessId.{ProcessId}
+use Rattle.ll_trace.specs.declared.op.Record.{Record}
 use Rattle.ll_process.specs.declared.piece.Piece.{Piece}
 use Rattle.ll_trace.specs.Processes.{process_count, numbers, times}
 use Rattle.ll_pool.proofs.Counts.{tally_none, tally_more, all_there, piece_at, zeros}

@@ -1,7 +1,7 @@
 -- A start is answered here, any other record in the state that it meets.
 use Rattle.std.proofs.Common.{ap, sym, ◌∙◌}
 use Rattle.std.proofs.lemmas.Option.{same_Some}
-use Rattle.ll_trace.specs.declared.record.Record.{Record}
+use Rattle.ll_trace.specs.declared.op.Record.{Record}
 use Rattle.ll_trace.specs.Processes.{is_start}
 use Rattle.ll_trace.proofs.Numbers.{is_start-from, is_start-not}
 use Rattle.ll_process.proofs.OwnSteps.{own_process, start_answer, start_leaves, met_answers, met_leaving, outcome_fits, is_met}

@@ -1,11 +1,11 @@
 use Rattle.std.proofs.Common.{◌∙◌, ◌++◌, List, ℕ, length, ap, ap₂, count_by}
 use Rattle.std.specs.List.{range_with_len}
-use Rattle.ll_trace.specs.declared.record.Record.{Record}
-use Rattle.ll_explanations.specs.FindingValues.{FindingValue}
+use Rattle.ll_trace.specs.declared.op.Record.{Record}
+use Rattle.ll_explanations.specs.Findings.{FindingValue}
 use Rattle.ll_report.specs.Found.{Found}
 use Rattle.ll_report.specs.Made.{Made, text_of}
 use Rattle.ll_report.specs.Rows.{totals_from}
-use Rattle.ll_report.specs.Told.{Told}
+use Rattle.ll_report.specs.Shown.{Told}
 use Rattle.ll_report.specs.Versions.{founds_in, some_refuses}
 use Rattle.ll_report.proofs.Making.{rows_are}
 use Rattle.ll_report.proofs.RowsSaid.{same_refused}

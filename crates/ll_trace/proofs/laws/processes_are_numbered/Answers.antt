@@ -1,6 +1,6 @@
 use Rattle.std.proofs.Common.{Some, ap, sym, ◌∙◌}
 use Rattle.std.proofs.lemmas.Option.{same_Some}
-use Rattle.ll_trace.specs.declared.record.Record.{Record}
+use Rattle.ll_trace.specs.declared.op.Record.{Record}
 use Rattle.ll_trace.specs.Processes.{forked_by, only}
 use Rattle.ll_trace.proofs.Numbering.{are_numbered}
 use Rattle.ll_trace.proofs.Numbers.{parent_at, parent_below, start_of, started_at-from, started_at-is, started_once}

@@ -1,5 +1,5 @@
 use Rattle.std.proofs.Common.{ℕ, List, map}
-use Rattle.ll_trace.specs.declared.record.Record.{Record}
+use Rattle.ll_trace.specs.declared.op.Record.{Record}
 use Rattle.ll_trace.specs.Records.{entry_of, IsTrace}
 use Rattle.ll_trace.specs.SingleUse.{IsStrictTrace}
 use Rattle.ll_trace.proofs.LawLemmas.{strict_is_good}

@@ -1,8 +1,7 @@
 -- A line that is not admitted is the fault of the lines, and one that is goes before the lines that are left.
 use Rattle.std.proofs.Common.{◌++◌, ap, sym, ◌∙◌, List}
 use Rattle.ll_lines.specs.Lines.{Line}
-use Rattle.ll_lines.specs.LineByLine.{read_lines}
-use Rattle.ll_lines.specs.LineView.{line_view}
+use Rattle.ll_lines.specs.LineByLine.{line_view, read_lines}
 use Rattle.ll_lines.proofs.ReadingLemmas.{meets_fault, read_lines_next}
 use Rattle.ll_trace.specs.Entries.{trace_file}
 use Rattle.ll_trace.specs.Kept.{entries}

@@ -1,5 +1,5 @@
 use Rattle.std.proofs.Common.{◌∙◌, Some, ap}
-use Rattle.ll_semantics.specs.declared.ruleset_outcome.RulesetOutcome.TheVariants.{Answered, Frozen, ByState}
+use Rattle.ll_semantics.specs.declared.answer.RulesetOutcome.TheVariants.{Answered, Frozen, ByState}
 use Rattle.ll_trails.proofs.Frozen.{layer_in, noted_at, none_past}
 use Rattle.ll_trails.proofs.domain.layer_by.Goals as goal
 

@@ -4,7 +4,7 @@ use Rattle.ll_trails.proofs.Waiting.{found_all, found_next}
 use Rattle.ll_trails.proofs.openings.settle_all.Goals as goal
 
 pub loop-change-init : goal.loop-change-init
-unfolding Rattle.ll_trails.specs.Opened.latest
+unfolding Rattle.ll_trails.specs.TraceOrigins.latest
 loop-change-init c = λ q. refl
 
 pub loop-change-preserved : goal.loop-change-preserved

@@ -1,6 +1,6 @@
 use Rattle.std.proofs.Common.{◌≡◌, ℕ, take}
 use Rattle.std.specs.FinMap.{get}
-use Rattle.ll_trails.specs.Opened.{latest}
+use Rattle.ll_trails.specs.TraceOrigins.{latest}
 use Rattle.ll_trails.proofs.openings.settle_all.Given as goal
 
 -- the map is told of the changes before the next one

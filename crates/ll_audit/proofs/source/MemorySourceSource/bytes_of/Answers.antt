@@ -3,7 +3,7 @@ use Rattle.std.specs.Borrow.{Bor}
 use Rattle.std.specs.FinMap.{get-from_entries}
 use Rattle.std.specs.Str.{bytes_eq}
 use Rattle.std.proofs.lemmas.Cmp.{nat_list_cmp_total}
-use Rattle.ll_audit.specs.Files.{bytes_of, files_of}
+use Rattle.ll_audit.specs.Inputs.{bytes_of, files_of}
 use Rattle.ll_audit.proofs.FilesByName.{found}
 use Rattle.ll_audit.proofs.source.MemorySourceSource.bytes_of.Goals as goal
 

@@ -1,5 +1,5 @@
 use Rattle.std.proofs.Common.{◌∙◌, List, ap, length, sym}
-use Rattle.ll_trace.specs.declared.record.Record.{Record}
+use Rattle.ll_trace.specs.declared.op.Record.{Record}
 use Rattle.ll_report.specs.Made.{Made}
 use Rattle.ll_report.proofs.Making.{length-rows}
 use Rattle.ll_json.specs.Rows.{row_text}

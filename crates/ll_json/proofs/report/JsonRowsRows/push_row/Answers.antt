@@ -1,12 +1,11 @@
 use Rattle.std.proofs.Common.{◌≡◌, ◌∙◌, ◌<◌, ◌≤◌, List, ℕ, ap, ap₂, arith, false, length, map, subst, sym, true}
 use Rattle.ll_trace.specs.declared.reader.TheConstants.{MOST_RECORDS}
-use Rattle.ll_trace.specs.declared.record.Record.{Record}
+use Rattle.ll_trace.specs.declared.op.Record.{Record}
 use Rattle.ll_trails.proofs.AtPlaces.{read_there}
 use Rattle.ll_explain.specs.Buffers.{adding}
-use Rattle.ll_explanations.specs.FindingValues.{FindingValue}
-use Rattle.ll_report.specs.Alike.{AreAlike}
+use Rattle.ll_explanations.specs.Findings.{FindingValue}
+use Rattle.ll_report.specs.Scratches.{AreAlike, FitIn, ScratchValue, is_apart, told_under}
 use Rattle.ll_report.specs.Rows.{is_row_left_out}
-use Rattle.ll_report.specs.Scratches.{FitIn, ScratchValue, is_apart, told_under}
 use Rattle.ll_report.specs.Versions.{answers_in}
 use Rattle.ll_report.proofs.RowsSaid.{weaker}
 use Rattle.ll_json.specs.Rows.{line_of, said_of}

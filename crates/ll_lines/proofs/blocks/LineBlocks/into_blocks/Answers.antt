@@ -1,8 +1,9 @@
 use Rattle.std.proofs.Common.{◌∙◌, ap, ◌≤◌, ◌≡◌, length, arith}
 use Rattle.std.specs.Vec.Iter.{into_iter_items}
-use Rattle.ll_lines.specs.Lines.{filled_from, line_feeds}
+use Rattle.ll_lines.specs.Lines.{filled_from}
 use Rattle.ll_lines.proofs.BlockLemmas.{left_next, lines_next}
 use Rattle.ll_lines.proofs.blocks.LineBlocks.into_blocks.Goals as goal
+use Rattle.ll_lines.specs.LineByLine.{line_feeds}
 
 pub loop-bytes-init : goal.loop-bytes-init
 loop-bytes-init c = record {

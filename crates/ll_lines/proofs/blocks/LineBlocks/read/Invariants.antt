@@ -2,7 +2,7 @@
 -- blocks and those that the reader has left are all of its bytes.
 use Rattle.std.proofs.Common.{◌≡◌, ◌++◌, ◌+◌, ◌<◌, All, flat_map, length}
 use Rattle.std.specs.Io.KnownBytes.{Consumes}
-use Rattle.ll_lines.specs.Blocks.{EndsLine}
+use Rattle.ll_lines.specs.LineByLine.{EndsLine}
 use Rattle.ll_lines.proofs.blocks.LineBlocks.read.Given as goal
 
 abbrev pub invariant-loop-block : goal.invariant-loop-block

@@ -1,6 +1,6 @@
 -- The trace's processes are numbered, and the rulebook is that of the trace.
 use Rattle.std.proofs.Common.{List, subst}
-use Rattle.ll_trace.specs.declared.record.Record.{Record}
+use Rattle.ll_trace.specs.declared.op.Record.{Record}
 use Rattle.ll_trace.specs.Processes.{IsNumbered}
 use Rattle.ll_process.proofs.case.Case.of_located.Goals as goal
 

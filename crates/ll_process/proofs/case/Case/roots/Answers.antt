@@ -2,7 +2,7 @@
 use Rattle.std.proofs.Common.{◌≡◌, ◌<◌, ◌≤◌, ◌+◌, List, Option, length, sym, ap, ◌∙◌, subst}
 use Rattle.std.specs.Prelude.{IfSome}
 use Rattle.std.specs.Option.{option_map}
-use Rattle.ll_trace.specs.declared.record.Record.{Record}
+use Rattle.ll_trace.specs.declared.op.Record.{Record}
 use Rattle.ll_process.specs.declared.job.Job.{Job}
 use Rattle.ll_process.proofs.Roots.{Rooted, rooted_none, rooted_other, rooted_more, rooted_all}
 use Rattle.ll_process.proofs.case.Case.roots.Goals as goal

@@ -1,5 +1,5 @@
 use Rattle.std.proofs.Common.{◌∙◌, List, length, ap, sym}
-use Rattle.ll_trace.specs.declared.record.Record.{Record}
+use Rattle.ll_trace.specs.declared.op.Record.{Record}
 use Rattle.ll_report.specs.Blocks.{block_of}
 use Rattle.ll_report.proofs.Making.{length-rows}
 use Rattle.ll_report.proofs.blocks.BlocksRows.count.Goals as goal

@@ -1,6 +1,6 @@
 use Rattle.std.proofs.Common.{◌∙◌, List, ap, ap₂, sym}
 use Rattle.ll_tree.specs.Trees.{Entry}
-use Rattle.ll_trace.specs.declared.record.Record.{Record}
+use Rattle.ll_trace.specs.declared.op.Record.{Record}
 use Rattle.ll_explain.specs.Buffers.{adding}
 use Rattle.ll_explain.proofs.Buffering.{adding_nothing}
 use Rattle.ll_report.specs.Blocks.{block_of, total_of}

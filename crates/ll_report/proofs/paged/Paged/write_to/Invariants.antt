@@ -1,7 +1,7 @@
 -- What is written, what the page holds, and what is left make the whole.
 use Rattle.std.proofs.Common.{◌≡◌, ◌++◌}
 use Rattle.ll_report.specs.Made.{text_of}
-use Rattle.ll_report.specs.Pages.{IsPage, Sends}
+use Rattle.ll_report.specs.Writing.{IsPage, Sends}
 use Rattle.ll_report.proofs.Making.{left}
 use Rattle.ll_report.proofs.paged.Paged.write_to.Given as goal
 

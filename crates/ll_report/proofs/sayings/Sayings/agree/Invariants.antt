@@ -1,6 +1,6 @@
 -- all agree just where those that are left agree
 use Rattle.std.proofs.Common.{◌≡◌}
-use Rattle.ll_report.specs.Sayings.{said_by}
+use Rattle.ll_report.specs.Scratches.{said_by}
 use Rattle.ll_report.specs.Spans.{agree}
 use Rattle.ll_report.proofs.SpansSaid.{rest_agrees}
 use Rattle.ll_report.proofs.sayings.Sayings.agree.Given as goal

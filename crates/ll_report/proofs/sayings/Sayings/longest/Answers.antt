@@ -1,5 +1,5 @@
 use Rattle.std.proofs.Common.{◌∙◌, List, ℕ, arith}
-use Rattle.ll_explanations.specs.FindingValues.{FindingValue}
+use Rattle.ll_explanations.specs.Findings.{FindingValue}
 use Rattle.ll_report.proofs.Holding.{all_fit, measured, one_longer, room_kept}
 use Rattle.ll_report.proofs.sayings.Sayings.longest.Goals as goal
 

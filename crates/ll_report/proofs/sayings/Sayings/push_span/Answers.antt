@@ -1,7 +1,7 @@
 use Rattle.std.proofs.Common.{◌∙◌, List, ℕ, [], get_or, ap, sym}
 use Rattle.ll_explain.specs.Buffers.{adding}
 use Rattle.ll_explain.proofs.Buffering.{adding_nothing}
-use Rattle.ll_report.specs.Sayings.{said_by}
+use Rattle.ll_report.specs.Scratches.{said_by}
 use Rattle.ll_report.proofs.SpansTold.{silent_span}
 use Rattle.ll_report.proofs.sayings.Sayings.push_span.Goals as goal
 

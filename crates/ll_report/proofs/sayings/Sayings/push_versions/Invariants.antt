@@ -2,7 +2,7 @@
 use Rattle.std.proofs.Common.{◌≡◌, ◌<◌, ◌+◌, length}
 use Rattle.std.specs.List.{flat_map}
 use Rattle.ll_explain.specs.Buffers.{adding}
-use Rattle.ll_report.specs.Sayings.{said_by}
+use Rattle.ll_report.specs.Scratches.{said_by}
 use Rattle.ll_report.specs.Spans.{span_text, spans_of}
 use Rattle.ll_report.proofs.SpansSaid.{left}
 use Rattle.ll_report.proofs.sayings.Sayings.push_versions.Given as goal

@@ -1,5 +1,5 @@
 use Rattle.std.proofs.Common.{◌∙◌, List, length, ap, sym}
-use Rattle.ll_trace.specs.declared.record.Record.{Record}
+use Rattle.ll_trace.specs.declared.op.Record.{Record}
 use Rattle.ll_report.specs.Made.{Made}
 use Rattle.ll_report.specs.Rows.{row_text, told_of}
 use Rattle.ll_report.specs.Versions.{founds_in}

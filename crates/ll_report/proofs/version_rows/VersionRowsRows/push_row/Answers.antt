@@ -1,8 +1,8 @@
 use Rattle.std.proofs.Common.{◌∙◌, List, ap, ap₂, sym}
 use Rattle.ll_explain.specs.Buffers.{adding}
 use Rattle.ll_explain.proofs.Buffering.{adding_nothing}
-use Rattle.ll_trace.specs.declared.record.Record.{Record}
-use Rattle.ll_explanations.specs.FindingValues.{FindingValue}
+use Rattle.ll_trace.specs.declared.op.Record.{Record}
+use Rattle.ll_explanations.specs.Findings.{FindingValue}
 use Rattle.ll_report.specs.Found.{Found}
 use Rattle.ll_report.specs.Made.{Made, row_at}
 use Rattle.ll_report.specs.Rows.{row_text, told_of, totals_from}

@@ -1,7 +1,7 @@
 use Rattle.std.proofs.Common.{None, refl, sym, ◌∙◌}
 use Rattle.ll_trace.specs.declared.op.Op.TheVariants as calls
 use Rattle.ll_semantics.specs.declared.answer.Answer.TheVariants.{Allowed, Moot}
-use Rattle.ll_semantics.specs.declared.ruleset_outcome.RulesetOutcome.TheVariants.{Answered}
+use Rattle.ll_semantics.specs.declared.answer.RulesetOutcome.TheVariants.{Answered}
 use Rattle.ll_semantics.specs.Answers.{answer}
 use Rattle.ll_semantics.specs.Effects.{effect, with_held}
 use Rattle.ll_semantics.specs.CallContexts.{answer_to}

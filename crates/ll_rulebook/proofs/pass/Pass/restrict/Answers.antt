@@ -1,6 +1,6 @@
 use Rattle.std.proofs.Common.{◌∙◌, sym, refl}
 use Rattle.ll_trace.specs.declared.op.Op.TheVariants as calls
-use Rattle.ll_semantics.specs.declared.ruleset_outcome.RulesetOutcome.TheVariants.{ByState}
+use Rattle.ll_semantics.specs.declared.answer.RulesetOutcome.TheVariants.{ByState}
 use Rattle.ll_semantics.specs.Effects.{effect}
 use Rattle.ll_semantics.specs.RulesetOutcomes.{OutcomeFits, is_on_rulesets, enforced}
 use Rattle.ll_rulebook.proofs.Frozen.{extends_same}

@@ -1,6 +1,6 @@
 use Rattle.std.proofs.Common.{ℕ, ◌+◌, refl, ap}
 use Rattle.ll_trace.specs.declared.op.Op.TheVariants as calls
-use Rattle.ll_semantics.specs.declared.ruleset_outcome.RulesetOutcome.TheVariants.{ByState}
+use Rattle.ll_semantics.specs.declared.answer.RulesetOutcome.TheVariants.{ByState}
 use Rattle.ll_semantics.specs.States.{fresh}
 use Rattle.ll_semantics.specs.Answers.{answer}
 use Rattle.ll_semantics.specs.Effects.{effect}

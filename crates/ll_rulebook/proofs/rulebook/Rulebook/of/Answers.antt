@@ -1,7 +1,7 @@
 use Rattle.std.proofs.Common.{◌≡◌, List, [], None, refl, arith}
 use Rattle.ll_rights.specs.declared.abi.Abi.{Abi}
 use Rattle.ll_tree.specs.Trees.{Entry}
-use Rattle.ll_trace.specs.declared.record.Record.{Record}
+use Rattle.ll_trace.specs.declared.op.Record.{Record}
 use Rattle.ll_semantics.specs.States.{fresh}
 use Rattle.ll_semantics.specs.CallContexts.{world_after, world_at}
 use Rattle.ll_rulebook.specs.declared.pass.Pass.{Pass}

@@ -1,8 +1,7 @@
 use Rattle.std.proofs.Common.{◌∙◌, ◌&&◌, ap, refl, Bool}
 use Rattle.ll_rights.specs.Rights.{has, only}
 use Rattle.ll_rules.specs.InTree.{in_tree}
-use Rattle.ll_rules.specs.Lanes.{lane}
-use Rattle.ll_rules.specs.Stacks.{stacked}
+use Rattle.ll_rules.specs.Lanes.{lane, stacked}
 use Rattle.ll_rules.specs.Moves.{source_of, destination_of}
 use Rattle.ll_rules.proofs.DomainLanes.{stacked-within}
 use Rattle.ll_rules.proofs.MoveLanes.{either_some, kept_some, gained_some, held_numbers}

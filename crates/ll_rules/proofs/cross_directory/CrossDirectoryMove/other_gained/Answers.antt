@@ -1,6 +1,5 @@
 use Rattle.ll_rules.specs.InTree.{in_tree}
-use Rattle.ll_rules.specs.Lanes.{lane}
-use Rattle.ll_rules.specs.Stacks.{stacked}
+use Rattle.ll_rules.specs.Lanes.{lane, stacked}
 use Rattle.ll_rules.proofs.DomainLanes.{stacked-within}
 use Rattle.ll_rules.proofs.MoveLanes.{other_some, other_none, other_still}
 use Rattle.ll_rules.proofs.cross_directory.CrossDirectoryMove.other_gained.Goals as goal

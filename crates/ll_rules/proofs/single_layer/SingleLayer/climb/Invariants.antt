@@ -4,9 +4,8 @@ use Rattle.ll_rights.specs.Rights.{FsRight, has}
 use Rattle.ll_tree.specs.Trees.{IsNode, path_at}
 use Rattle.ll_tree.specs.TreeFacts.{depth_at}
 use Rattle.ll_rules.specs.Layers.{granted}
-use Rattle.ll_rules.specs.InTree.{in_tree}
+use Rattle.ll_rules.specs.InTree.{in_tree, nodes_up}
 use Rattle.ll_rules.specs.Lanes.{set_of}
-use Rattle.ll_rules.specs.WaysUp.{nodes_up}
 use Rattle.ll_rules.proofs.DomainLanes.{left_above}
 use Rattle.ll_rules.proofs.single_layer.SingleLayer.climb.Given as goal
 

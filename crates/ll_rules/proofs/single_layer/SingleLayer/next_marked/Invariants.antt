@@ -3,7 +3,7 @@ use Rattle.std.specs.Prelude.{IfSome}
 use Rattle.std.specs.Option.{option_map_or}
 use Rattle.ll_rights.specs.Rights.{FsRight}
 use Rattle.ll_tree.specs.Trees.{IsNode}
-use Rattle.ll_rules.specs.WaysUp.{nodes_up, granted_above}
+use Rattle.ll_rules.specs.InTree.{nodes_up, granted_above}
 use Rattle.ll_rules.proofs.single_layer.SingleLayer.next_marked.Given as goal
 
 -- nothing is granted on what was passed

@@ -1,6 +1,6 @@
 -- The outcome's answer, and the layer of a ruleset.
 use Rattle.std.proofs.Common.{subst}
-use Rattle.ll_semantics.specs.declared.ruleset_outcome.RulesetOutcome.{RulesetOutcome}
+use Rattle.ll_semantics.specs.declared.answer.RulesetOutcome.{RulesetOutcome}
 use Rattle.ll_semantics.specs.RulesetOutcomes.{OutcomeFits}
 use Rattle.ll_state.proofs.Judging.{Agrees-on_rulesets, frozen_is_there, frozen_judged}
 use Rattle.ll_state.proofs.own_state.OwnState.answer_call.Goals as goal

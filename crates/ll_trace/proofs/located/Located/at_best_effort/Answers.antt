@@ -1,6 +1,6 @@
 -- Best effort leaves the places that records name first.
 use Rattle.std.proofs.Common.{List, sym, subst}
-use Rattle.ll_trace.specs.declared.record.Record.{Record}
+use Rattle.ll_trace.specs.declared.op.Record.{Record}
 use Rattle.ll_trace.specs.FirstPlaces.{AreFirstPlaces}
 use Rattle.ll_trace.proofs.BestEffort.{first_places-kept}
 use Rattle.ll_trace.proofs.located.Located.at_best_effort.Goals as goal

@@ -1,5 +1,5 @@
 use Rattle.std.proofs.Common.{ℕ, refl, sym, ◌∙◌, ap}
-use Rattle.ll_trace.specs.declared.record.Record.{Record}
+use Rattle.ll_trace.specs.declared.op.Record.{Record}
 use Rattle.ll_trace.specs.Kept.{entry_view}
 use Rattle.ll_trace.proofs.RecordLemmas.{kept_admitted}
 use Rattle.ll_trace.proofs.reader.Reader.admit.Goals as goal

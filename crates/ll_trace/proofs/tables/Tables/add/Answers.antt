@@ -1,7 +1,7 @@
 use Rattle.std.proofs.Common.{◌≡◌, ℕ, ◌+◌, ◌<◌, cond, List, [], ◌∷◌, ◌++◌, length, get_or, refl, sym, ap, ◌∙◌, set, Vec, eqb}
 use Rattle.std.proofs.lemmas.List.{length-set}
 use Rattle.std.specs.declared.alloc.Global.{Global}
-use Rattle.ll_trace.specs.declared.record.Record.{Record}
+use Rattle.ll_trace.specs.declared.op.Record.{Record}
 use Rattle.ll_trace.specs.Processes.{is_starting, forked_by}
 use Rattle.ll_trace.specs.Indexed.{Adds, lists}
 use Rattle.ll_trace.specs.declared.tables.Tables.{Tables}

@@ -3,8 +3,8 @@ use Rattle.std.specs.Vec.{with_items}
 use Rattle.std.proofs.lemmas.List.{length-map, with_items_is}
 use Rattle.std.proofs.lemmas.List.Edits.{map_over_more}
 use Rattle.ll_trace.specs.declared.op.Op.{Op}
-use Rattle.ll_trace.specs.declared.record.Record.{Record}
-use Rattle.ll_trace.specs.RecordFacts.{AreRecords}
+use Rattle.ll_trace.specs.declared.op.Record.{Record}
+use Rattle.ll_trace.specs.Traces.{AreRecords}
 use Rattle.ll_trace.specs.Indexed.{Indexes}
 use Rattle.ll_trace.specs.BestEffort.{record_at_best_effort, records_at_best_effort}
 use Rattle.ll_trace.proofs.BestEffort.{are_records-kept, indexes-kept, all_done}

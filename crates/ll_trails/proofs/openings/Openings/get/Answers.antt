@@ -6,7 +6,7 @@ use Rattle.ll_trails.proofs.openings.Openings.get.Goals.{then-change-fd, else-ch
 use Rattle.ll_trails.proofs.openings.Openings.get.Goals as goal
 
 pub loop-change-init : goal.loop-change-init
-unfolding Rattle.ll_trails.specs.Opened.latest
+unfolding Rattle.ll_trails.specs.TraceOrigins.latest
 loop-change-init c = c.copied-found.ensures ∙ c.get.ensures
 
 pub loop-change-preserved : goal.loop-change-preserved

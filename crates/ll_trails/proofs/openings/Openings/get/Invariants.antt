@@ -1,6 +1,6 @@
 use Rattle.std.proofs.Common.{◌≡◌, take}
 use Rattle.std.specs.FinMap.{get}
-use Rattle.ll_trails.specs.Opened.{latest}
+use Rattle.ll_trails.specs.TraceOrigins.{latest}
 use Rattle.ll_trails.proofs.openings.Openings.get.Given as goal
 
 -- what is found is what is there after the changes before the next one

@@ -1,6 +1,5 @@
 -- A fault that a line has is the file's.
-use Rattle.ll_lines.specs.LineView.{line_view}
-use Rattle.ll_lines.specs.LineByLine.{reading}
+use Rattle.ll_lines.specs.LineByLine.{line_view, reading}
 use Rattle.ll_tree.specs.TreeReading.{tree_format}
 use Rattle.ll_tree.specs.Kept.{below_root}
 use Rattle.ll_lines.proofs.ReadingLemmas.{meets_fault}
