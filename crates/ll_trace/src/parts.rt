@@ -209,8 +209,8 @@ fn admit_beside<R: Threads + Sync>(
     Ok((reader, read))
 }
 
-/// Reads blocks of lines, which are given back, by at most this many threads. Another one admits the records of the
-/// blocks before at the same time, so that few entries are kept.
+/// Reads blocks of lines, which are given back, by at most this many threads. The calling thread admits the records of
+/// the blocks before at the same time, so that few entries are kept.
 pub(crate) fn read_blocks_by<R: Threads + Sync>(
     rt: &R,
     alloc: Global,
