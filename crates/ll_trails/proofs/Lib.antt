@@ -1,5 +1,6 @@
-pub mod Waiting
+pub mod Leaves
 pub mod Trailing
 pub mod AtPlaces
 pub mod Frozen
 pub mod SameObjections
+pub mod Crossing

@@ -1,8 +1,10 @@
 -- The trails of processes after one record more.
-use Rattle.std.proofs.Common.{◌≡◌, ℕ, ◌<◌, List, length, Bool, Some, refl, sym, subst, ◌∙◌, inl, inr, length-set}
+use Rattle.std.proofs.Common.{◌≡◌, ℕ, ◌+◌, ◌<◌, List, [], ◌∷◌, ◌++◌, length, Bool, Some, refl, sym, ap, subst, ◌∙◌, inl, inr, length-append, length-set}
 use Rattle.std.proofs.Math.ListN.{set}
 use Rattle.std.specs.List.{slice_get}
 use Rattle.std.proofs.lemmas.Bool.{cases_eq, eq-eqb, ne_eqb}
+use Rattle.std.proofs.lemmas.Option.{same_Some}
+use Rattle.ll_trace.proofs.Numbers.{slice_get-push}
 use Rattle.ll_trace.specs.declared.op.Op.{Op}
 use Rattle.ll_trace.specs.declared.op.Op.TheVariants as calls
 use Rattle.ll_semantics.specs.declared.answer.Answer.{Answer}
@@ -31,15 +33,37 @@ trails_changed trails process trail sources o there are follows = record {
   ];
 }
 
--- another trail of one process that follows the same origins
-pub trails_kept : (trails : List ProcessOrigins) (process : ℕ) (trail : ProcessOrigins) (sources : Sources) → process < length trails → AreTrails trails sources
-    → Follows trail (sources.processes process) → AreTrails (set trails process trail) sources
-trails_kept trails process trail sources there are follows =
-    let changed = trails_changed trails process trail sources (sources.processes process) there are follows in
-    record { count = changed.count; each = λ other one eq. subst (λ (o : Origins). Follows one o) (same other) (changed.each other one eq) }
-  where
-    same : (other : ℕ) → with_origins sources.processes process (sources.processes process) other ≡ sources.processes other
-    same other = elim (cases_eq other process) [ inl own ↦ rw (eq-eqb other process own, own) refl | inr differs ↦ rw (ne_eqb other process differs) refl ]
+-- each of some trails follows what the one at its place among others does
+pub record FollowAlike (trails others : List ProcessOrigins) (count : ℕ) : Type 0 where
+  pub as_many : length others ≡ count
+  pub each : (process : ℕ) (other : ProcessOrigins) → slice_get others process ≡ Some other → (trail : ProcessOrigins)
+      × (slice_get trails process ≡ Some trail) × ((o : Origins) → Follows trail o → Follows other o)
+
+pub trail_alike : (trails others new : List ProcessOrigins) (count : ℕ) (trail other : ProcessOrigins) → FollowAlike trails others count
+    → new ≡ others ++ other ∷ [] → slice_get trails count ≡ Some trail → ((o : Origins) → Follows trail o → Follows other o)
+    → FollowAlike trails new (count + 1)
+trail_alike trails others new count trail other alike pushed there follows = record {
+  as_many = ap length pushed ∙ length-append others (other ∷ []) ∙ ap (λ n. n + 1) alike.as_many;
+  each = λ process one eq. elim (cases_eq process (length others)) [
+    | inl last ↦
+        let here : slice_get (others ++ other ∷ []) process ≡ Some other = rw (slice_get-push others process other, eq-eqb process (length others) last) refl in
+        let it : other ≡ one = same_Some other one (sym here ∙ sym (ap (λ all. slice_get all process) pushed) ∙ eq) in
+        (trail, ap (slice_get trails) (last ∙ alike.as_many) ∙ there, λ o own. subst (λ t. Follows t o) it (follows o own))
+    | inr earlier ↦
+        let before : slice_get (others ++ other ∷ []) process ≡ slice_get others process =
+        rw (slice_get-push others process other, ne_eqb process (length others) earlier) refl in
+        alike.each process one (sym before ∙ sym (ap (λ all. slice_get all process) pushed) ∙ eq)
+  ];
+}
+
+pub all_alike : (trails others : List ProcessOrigins) (sources : Sources) → FollowAlike trails others (length trails) → AreTrails trails sources
+    → AreTrails others sources
+all_alike trails others sources alike are = record {
+  count = alike.as_many ∙ are.count;
+  each = λ process other eq.
+      let one = alike.each process other eq in
+      one.2 (sources.processes process) (are.each process one.0 one.1);
+}
 
 -- a call that starts no process
 pub sources_by_other : (place : ℕ) (op : Op) (process : ℕ) (answer : Answer) (sources : Sources) →

@@ -1,22 +1,28 @@
 -- What is kept of where each process's layers, descriptors and rulesets come from, and when it agrees with the origins.
 -- Source: landlock_restrict_self(2); landlock(7), "Inheritance"; open(2), close(2), dup(2).
-use Rattle.std.specs.Prelude.{◌≡◌, ℕ, ◌==◌, List, [], ◌∷◌, Option, length, Some, slice_get, if◌then◌else◌}
+use Rattle.std.specs.Prelude.{◌≡◌, ℕ, ◌/◌, ◌%◌, List, Option, Some, None, get_or, length, option_map, slice_get, ltb, if◌then◌else◌}
 use Rattle.std.specs.FinMap.{get}
 use Rattle.ll_reasons.specs.Origins.{Origins, Sources}
 use Rattle.ll_trails.specs.declared.trail.ProcessOrigins.{ProcessOrigins}
-use Rattle.ll_trails.specs.declared.openings.Change.{Change}
+use Rattle.ll_trails.specs.declared.leaf.Leaf.{Leaf}
+use Rattle.ll_trails.specs.declared.leaf.TheConstants.{WIDTH}
+use Rattle.ll_trails.specs.declared.openings.TheConstants.{LOW}
 use Rattle.ll_trails.specs.declared.openings.Openings.{Openings}
 
--- ---- by which record each open number was opened; the latest changes wait in a list behind a map
+-- ---- by which record each open descriptor was opened; the lowest descriptors are in leaves, sixteen in each
 
--- what is at a number after changes, the oldest first, of what was there before
-unfoldable pub latest : List Change → ℕ → Option ℕ → Option ℕ
-latest [] fd before = before
-latest (change ∷ later) fd before = latest later fd (if change.fd == fd then change.opening else before)
+-- the leaf at an index, if there is one
+abbrev pub leaf_at : Openings → ℕ → Option Leaf
+leaf_at openings index = option_map (λ shared. shared.value) (slice_get openings.low.items index)
 
--- the record that opened a number, if it is open
+-- what is at an index of a leaf, if there is one
+abbrev pub in_leaf : Option Leaf → ℕ → Option ℕ
+in_leaf None index = None
+in_leaf (Some leaf) index = get_or leaf.openings index None
+
+-- the record that opened a descriptor, if it is open
 abbrev pub opened : Openings → ℕ → Option ℕ
-opened openings fd = latest openings.waiting.items fd (get openings.settled fd)
+opened openings fd = if ltb fd LOW then in_leaf (leaf_at openings (fd / WIDTH)) (fd % WIDTH) else get openings.high fd
 
 -- ---- the origins of processes
 

@@ -3,6 +3,7 @@
 #![tactic(auto)]
 
 mod domain;
+mod leaf;
 mod openings;
 mod trail;
 

@@ -1,121 +1,129 @@
 //! Which record opened each descriptor of a process.
 
-ghost use Rattle.std.specs.Prelude.{◌≡◌, ◌==◌, ℕ, [], Option, None, OnOk, IfOk, if◌then◌else◌};
-ghost use Rattle.std.specs.FinMap.{get};
-ghost use Rattle.ll_trails.specs.TraceOrigins.{latest, opened};
+ghost use Rattle.std.specs.Prelude.{◌≡◌, ◌==◌, ◌+◌, ◌<◌, ◌≤◌, ℕ, None, OnOk, IfOk, if◌then◌else◌, get_or, length};
+ghost use Rattle.ll_trails.specs.TraceOrigins.{opened};
 
-use ll_rules::NoMemory;
+use crate::leaf::{Leaf, WIDTH};
 use ll_shared::SharedMap;
 use std::alloc::{AllocError, Global};
+use std::sync::Arc;
 
-/// How many changes wait before the map takes them.
-const WAITING: usize = 256;
+/// How many of the lowest descriptors are in leaves.
+const LOW: u64 = 512;
 
-/// What a record leaves at a descriptor's number: the opening of what is there now, if something is.
-#[derive(Clone, Copy)]
-pub(crate) struct Change {
-    fd: u64,
-    opening: Option<u32>,
-}
-
-/// By which record each open number of a process was opened, by its place in the trace. The latest changes wait in a
-/// list, whose end is cheap to reach when the records of many processes alternate, until the map takes them all.
+/// By which record each open descriptor of a process was opened, by its place in the trace. The lowest descriptors are
+/// in leaves, since a kernel gives the lowest that are free; the others are in a map. Processes share the leaves and
+/// the parts of the map that none of them has changed.
 #[derive(Drop)]
 pub struct Openings {
-    settled: SharedMap<u32>,
-    waiting: Vec<Change>,
+    low: Vec<Arc<Leaf>>,
+    high: SharedMap<u32>,
 }
 
-/// Tells a map of a change.
-fn settle(settled: &mut SharedMap<u32>, change: &Change) -> Result<(), AllocError>
-    ensures { OnOk result ((q : ℕ) → get settled.new q
-        ≡ (if change.now.fd == q then change.now.opening else get settled.old q)) }
+/// Gives the descriptor at an index of a leaf the record that opened it, or none. A leaf with other owners is copied
+/// first.
+fn put_in(leaf: &mut Arc<Leaf>, index: usize, opening: Option<u32>) -> Result<(), AllocError>
+    requires { index < 16 }
+    ensures { OnOk result ((i : ℕ) → get_or leaf.new.value.openings i None
+        ≡ (if i == index then opening else get_or leaf.old.value.openings i None)) }
 {
-    match change.opening {
-        Some(place) => settled.insert(change.fd, place)?,
-        None => settled.remove(change.fd)?,
-    };
-    Ok(())
-}
-
-/// Tells a map of changes, the oldest first.
-fn settle_all(settled: &mut SharedMap<u32>, changes: &[Change]) -> Result<(), AllocError>
-    ensures { OnOk result ((q : ℕ) → get settled.new q ≡ latest changes.now q (get settled.old q)) }
-{
-    for change in changes {
-        settle(settled, change)?;
-    }
+    Arc::make_mut(leaf)?.openings[index] = opening;
     Ok(())
 }
 
 impl Openings {
     /// Nothing is open.
-    #[tactic(auto, using(crate::proofs::Waiting::nothing_there), unfolding(crate::specs::TraceOrigins::latest))]
     pub(crate) fn new(alloc: Global) -> Openings
         ensures { (fd : ℕ) → opened result fd ≡ None }
     {
         Openings {
-            settled: SharedMap::new(alloc),
-            waiting: Vec::new(alloc),
+            low: Vec::new(alloc),
+            high: SharedMap::new(alloc),
         }
     }
 
-    /// The record that opened a number, if it is open.
+    /// The record that opened a descriptor, if it is open.
     pub fn get(&self, fd: u64) -> Option<u32>
         ensures { result ≡ opened self.now fd }
     {
-        let mut found = self.settled.get(fd).copied();
-        for change in &self.waiting {
-            if change.fd == fd {
-                found = change.opening;
-            }
+        if fd >= LOW {
+            return self.high.get(fd).copied();
         }
-        found
+        match self.low.get(fd as usize / WIDTH) {
+            Some(leaf) => leaf.openings[fd as usize % WIDTH],
+            None => None,
+        }
     }
 
-    /// The map takes all changes that wait.
-    #[tactic(auto, unfolding(crate::specs::TraceOrigins::latest))]
-    fn take_all(&mut self) -> Result<(), NoMemory>
-        ensures same { OnOk result ((q : ℕ) → opened self.new q ≡ opened self.old q) }
-        ensures none { OnOk result (self.new.waiting.items ≡ []) }
+    /// Adds a leaf in which nothing is open.
+    fn push_leaf(&mut self, leaf: Arc<Leaf>) -> Result<(), AllocError>
+        requires { (index : ℕ) → get_or leaf.value.openings index None ≡ None }
+        ensures same { OnOk result ((fd : ℕ) → opened self.new fd ≡ opened self.old fd) }
+        ensures more { OnOk result (length self.new.low.items ≡ length self.old.low.items + 1) }
     {
-        settle_all(&mut self.settled, self.waiting.as_slice())?;
-        self.waiting.clear();
+        self.low.push(leaf)?;
         Ok(())
     }
 
-    /// Lets a change wait.
-    #[tactic(auto, using(crate::proofs::Waiting::latest_push))]
-    fn wait(&mut self, change: Change) -> Result<(), AllocError>
-        ensures { OnOk result ((q : ℕ)
-            → opened self.new q ≡ (if change.fd == q then change.opening else opened self.old q)) }
+    /// Adds leaves up to that at an index, if it isn't there.
+    fn widen(&mut self, index: usize) -> Result<(), AllocError>
+        ensures same { OnOk result ((fd : ℕ) → opened self.new fd ≡ opened self.old fd) }
+        ensures there { OnOk result (index < length self.new.low.items) }
     {
-        self.waiting.push(change)?;
+        if index < self.low.len() {
+            return Ok(());
+        }
+        let bare = Arc::new(*self.low.allocator(), Leaf::new())?;
+        while self.low.len() <= index {
+            self.push_leaf(Arc::try_clone(&bare)?)?;
+        }
         Ok(())
     }
 
-    /// Gives a number the record that opened it, or closes it.
-    pub(crate) fn put(&mut self, fd: u64, opening: Option<u32>) -> Result<(), NoMemory>
+    /// Gives a low descriptor the record that opened it, or closes it.
+    fn put_low(&mut self, fd: u64, opening: Option<u32>) -> Result<(), AllocError>
+        requires { fd < 512 }
         ensures { OnOk result ((q : ℕ)
             → opened self.new q ≡ (if fd == q then opening else opened self.old q)) }
     {
-        if self.waiting.len() >= WAITING {
-            self.take_all()?;
-        }
-        self.wait(Change { fd, opening })?;
+        let index = fd as usize / WIDTH;
+        self.widen(index)?;
+        put_in(&mut self.low[index], fd as usize % WIDTH, opening)?;
         Ok(())
     }
 
-    /// The same once more, for a child. It shares with this one what neither of them changes.
-    #[tactic(auto, unfolding(crate::specs::TraceOrigins::latest))]
-    pub(crate) fn forked(&mut self) -> Result<Openings, NoMemory>
-        ensures child { IfOk result (λ child. (q : ℕ) → opened child q ≡ opened self.old q) }
-        ensures parent { OnOk result ((q : ℕ) → opened self.new q ≡ opened self.old q) }
+    /// Gives a high descriptor the record that opened it, or closes it.
+    fn put_high(&mut self, fd: u64, opening: Option<u32>) -> Result<(), AllocError>
+        requires { 512 ≤ fd }
+        ensures { OnOk result ((q : ℕ)
+            → opened self.new q ≡ (if fd == q then opening else opened self.old q)) }
     {
-        self.take_all()?;
+        match opening {
+            Some(place) => self.high.insert(fd, place)?,
+            None => self.high.remove(fd)?,
+        };
+        Ok(())
+    }
+
+    /// Gives a descriptor the record that opened it, or closes it.
+    pub(crate) fn put(&mut self, fd: u64, opening: Option<u32>) -> Result<(), AllocError>
+        ensures { OnOk result ((q : ℕ)
+            → opened self.new q ≡ (if fd == q then opening else opened self.old q)) }
+    {
+        if fd < LOW {
+            self.put_low(fd, opening)
+        } else {
+            self.put_high(fd, opening)
+        }
+    }
+
+    /// The same once more. It shares with this one what neither of them changes.
+    pub(crate) fn again(&self) -> Result<Openings, AllocError>
+        ensures { IfOk result (λ again. (fd : ℕ) → opened again fd ≡ opened self.now fd) }
+    {
         Ok(Openings {
-            settled: self.settled.clone()?,
-            waiting: Vec::new(*self.waiting.allocator()),
+            low: self.low.clone()?,
+            high: self.high.clone()?,
         })
     }
 }

@@ -36,15 +36,13 @@ impl ProcessOrigins {
         }
     }
 
-    /// That of a child, which begins with all that its parent has.
-    fn forked(&mut self) -> Result<ProcessOrigins, NoMemory>
-        ensures child { IfOk result (λ child. (o : Origins)
-            → Follows self.old o → Follows child o) }
-        ensures parent { OnOk result ((o : Origins) → Follows self.old o → Follows self.new o) }
+    /// The same once more, as a child has it at first. It shares with this one what neither of them changes.
+    fn again(&self) -> Result<ProcessOrigins, NoMemory>
+        ensures { IfOk result (λ again. (o : Origins) → Follows self.now o → Follows again o) }
     {
         Ok(ProcessOrigins {
             layers: self.layers.clone()?,
-            openings: self.openings.forked()?,
+            openings: self.openings.again()?,
             rulesets: self.rulesets.clone()?,
         })
     }
@@ -117,6 +115,19 @@ impl TraceOrigins {
         Ok(())
     }
 
+    /// The same once more. It shares with this one what neither of them changes.
+    pub fn again(&self) -> Result<TraceOrigins, NoMemory>
+        ensures { IfOk result (λ again. (sources : Sources)
+            → AreTrails self.now.trails.items sources → AreTrails again.trails.items sources) }
+    {
+        let mut trails = Vec::with_capacity(*self.trails.allocator(), self.trails.len())?;
+        for trail in &self.trails {
+            trails.reserve(1)?;
+            trails.push_reserved(trail.again()?);
+        }
+        Ok(TraceOrigins { trails })
+    }
+
     /// What is kept of a process.
     pub fn of(&self, process: ProcessId) -> &ProcessOrigins
         requires { process.0 < length self.now.trails.items }
@@ -162,7 +173,7 @@ impl TraceOrigins {
         match record.op {
             Op::Start { .. } => self.begin(ProcessOrigins::new(alloc))?,
             Op::Fork { .. } => {
-                let child = self.trails[process].forked()?;
+                let child = self.trails[process].again()?;
                 self.begin(child)?;
             }
             _ => match answer {

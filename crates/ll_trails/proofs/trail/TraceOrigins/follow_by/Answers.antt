@@ -2,18 +2,18 @@ use Rattle.std.proofs.Common.{◌<◌, length, refl, rules}
 use Rattle.ll_reasons.specs.Origins.{Origins, no_origins, traced}
 use Rattle.std.proofs.lemmas.Option.{slice_get_read}
 use Rattle.ll_trace.proofs.Numbers.{is_start-not}
-use Rattle.ll_trails.proofs.Trailing.{trails_changed, trails_kept, sources_by_other}
+use Rattle.ll_trails.proofs.Trailing.{trails_changed, sources_by_other}
 use Rattle.ll_trails.specs.TraceOrigins.{Follows}
 use Rattle.ll_trails.proofs.trail.TraceOrigins.follow_by.Goals as goal
 
-pub index_mut-requires : goal.index_mut-requires
+pub index-requires : goal.index-requires
 unfolding Rattle.ll_trace.specs.Entries.is_start
-index_mut-requires c =
+index-requires c =
     let there : c.args.record.now.process.0 < length c.args.self.now.trails.items = c.requires (rw c.in-Fork.is refl) in
     search rules
 
-pub index_mut-requires-in-Allowed : goal.index_mut-requires-in-Allowed
-index_mut-requires-in-Allowed c =
+pub index_mut-requires : goal.index_mut-requires
+index_mut-requires c =
     let there : c.args.record.now.process.0 < length c.args.self.now.trails.items = c.requires (is_start-not c.args.record.now.op c.in_default.not-Start) in
     search rules
 
@@ -27,12 +27,10 @@ returns-in_ok-begin-in-Fork c = λ sources are.
     let there : c.args.record.now.process.0 < length c.args.self.now.trails.items = c.requires (rw c.in-Fork.is refl) in
     let number = c.args.record.now.process.0 in
     let parent : Origins = sources.processes number in
-    let own : Follows c.index_mut.result.now parent =
-    are.each number c.index_mut.result.now
-    (slice_get_read c.args.self.now.trails.items _ number c.index_mut.result.now refl there c.index_mut.ensures.value) in
-    rw c.in-Fork.is (c.in_ok-begin-in-Fork.ensures sources parent
-    (trails_kept c.args.self.now.trails.items number c.forked.new.self sources there are (c.in_ok-child-in-Fork.ensures.parent parent own))
-    (c.in_ok-child-in-Fork.ensures.child parent own))
+    let own : Follows c.index.result.now parent =
+    are.each number c.index.result.now
+    (slice_get_read c.args.self.now.trails.items _ number c.index.result.now refl there c.index.ensures) in
+    rw c.in-Fork.is (c.in_ok-begin-in-Fork.ensures sources parent are (c.in_ok-child-in-Fork.ensures parent own))
 
 pub returns-in_ok-follow-in-Allowed : goal.returns-in_ok-follow-in-Allowed
 returns-in_ok-follow-in-Allowed c = λ sources are.
@@ -42,6 +40,6 @@ returns-in_ok-follow-in-Allowed c = λ sources are.
     rw (other c.in_default.not-Fork, c.in-Allowed.is)
     (trails_changed c.args.self.now.trails.items c.args.record.now.process.0 c.follow.new.self sources (traced c.args.place c.args.record.now.op own) there are
     (c.in_ok-follow-in-Allowed.ensures own
-    (are.each c.args.record.now.process.0 c.index_mut-in-Allowed.result.now
-    (slice_get_read c.args.self.now.trails.items _ c.args.record.now.process.0 c.index_mut-in-Allowed.result.now refl there
-    c.index_mut-in-Allowed.ensures.value))))
+    (are.each c.args.record.now.process.0 c.index_mut.result.now
+    (slice_get_read c.args.self.now.trails.items _ c.args.record.now.process.0 c.index_mut.result.now refl there
+    c.index_mut.ensures.value))))
