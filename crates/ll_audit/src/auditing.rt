@@ -242,8 +242,11 @@ fn text_under<R: Threads + Wait + Sync, G: Gate + Sync>(
 {
     let alloc = audit.workers.alloc;
     let case = Case::of_located(alloc, audit.workers.located(tree, trace)?, abi)?;
-    let answers = audit.workers.answers(&case, audit.cuts)?;
-    let report = text_report(alloc, case, answers, audit.options.shown)?;
+    let shown = audit.options.shown;
+    let finding = audit
+        .workers
+        .finding(&case, audit.cuts, shown.explanations, None)?;
+    let report = text_report(alloc, case, finding, shown)?;
     Ok(ReportText::new(Form::Text(report)))
 }
 

@@ -65,9 +65,9 @@ impl Audited {
         let alloc = audit.workers.alloc;
         let located = as_taken(located, audit.options.effort, abi);
         let case = Case::of_located(alloc, located, abi)?;
-        let answers = audit.workers.answers(&case, audit.cuts)?;
         let explains = audit.options.shown.explanations;
-        let finding = Finding::of(alloc, &case, answers, explains, findings.first())?;
+        let newer = findings.first();
+        let finding = audit.workers.finding(&case, audit.cuts, explains, newer)?;
         Ok(Audited {
             located: case.into_located(),
             findings: in_front(finding, findings)?,

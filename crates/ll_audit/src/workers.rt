@@ -2,10 +2,12 @@
 
 ghost use Rattle.std.specs.Prelude.{◌≡◌, IfOk, IfErr};
 ghost use Rattle.ll_semantics.specs.Worlds.{judged};
+ghost use Rattle.ll_explanations.specs.Findings.{Finds};
 ghost use Rattle.ll_audit.specs.Causes.{IsWant};
 ghost use Rattle.ll_audit.specs.Audits.{IsCrew};
 
 use crate::fault::Fault;
+use ll_explanations::Finding;
 use ll_pool::{Gate, collect_whole, run};
 use ll_process::{Answer, Case};
 use ll_trace::{Located, ProcessId, Trace};
@@ -34,7 +36,7 @@ impl<'a, R: Threads + Wait + Sync, G: Gate + Sync> Workers<'a, R, G> {
     }
 
     /// The answers to all records of a case, whose work is cut at these processes.
-    pub(crate) fn answers(&self, case: &Case, cuts: &[bool]) -> Result<Vec<Answer>, Fault>
+    fn answers(&self, case: &Case, cuts: &[bool]) -> Result<Vec<Answer>, Fault>
         requires { IsCrew self.now.count }
         ensures answers { IfOk result
             (λ answers. answers.items ≡ judged case.now.tree case.now.abi case.now.records) }
@@ -43,6 +45,26 @@ impl<'a, R: Threads + Wait + Sync, G: Gate + Sync> Workers<'a, R, G> {
         let count = self.count as usize;
         let pieces = run(self.rt, self.alloc, case, count, cuts, self.gate)?;
         Ok(collect_whole(self.alloc, case, pieces)?)
+    }
+
+    /// What is found of the records of a case, whose work is cut at these processes: the answers, and the explanations
+    /// if these are asked for. What is found alike under a newer version is kept once.
+    pub(crate) fn finding(
+        &self,
+        case: &Case,
+        cuts: &[bool],
+        explains: bool,
+        newer: Option<&Finding>,
+    ) -> Result<Finding, Fault>
+        requires { IsCrew self.now.count }
+        ensures finding { IfOk result
+            (Finds explains case.now.tree case.now.abi case.now.records) }
+        ensures fault { IfErr result IsWant }
+    {
+        let answers = self.answers(case, cuts)?;
+        let count = self.count as usize;
+        let finding = Finding::of(self.rt, self.alloc, case, answers, explains, newer, count)?;
+        Ok(finding)
     }
 }
 

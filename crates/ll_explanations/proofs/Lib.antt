@@ -13,3 +13,5 @@ pub mod TakenLater
 pub mod FindingTells
 pub mod KeepingAll
 pub mod Grouping
+pub mod Stretching
+pub mod Crossing

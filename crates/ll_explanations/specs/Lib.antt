@@ -8,3 +8,4 @@ pub mod Explained
 pub mod TakenLater
 pub mod Kept
 pub mod Findings
+pub mod Stretches

@@ -16,6 +16,8 @@ mod moved;
 mod objection;
 mod ports;
 mod same;
+mod stretch;
+mod stretches;
 
 pub use condition::Condition;
 pub use explanation::{Explanation, explain};

@@ -9,8 +9,8 @@ use ll_report::{ALL_LINES, Report, Shown};
 use ll_rights::Abi;
 use ll_trace::{Located, Trace};
 use ll_tree::Tree;
-use std::alloc::Global;
 use std::test::Fail;
+use std::thread::Threads;
 
 /// A process with a layer, which has a rule for `/b`, and calls that are refused or moot.
 const TRACE: &str = "\
@@ -72,24 +72,25 @@ const REFUSED_LINES: Shown = Shown {
 };
 
 /// The report on the trace under ABI 4.
-fn report_on_trace(alloc: Global, shown: Shown) -> Result<Report, Fail> {
+fn report_on_trace<R: Threads + AllocGlobal + Sync>(rt: &R, shown: Shown) -> Result<Report, Fail> {
+    let alloc = rt.alloc();
     let tree = Tree::read(alloc, TREE.as_bytes())?;
     let trace = Trace::read(alloc, TRACE.as_bytes())?;
     let located = Located::of(alloc, tree, trace)?;
     let case = Case::of_located(alloc, located, Abi::V4)?;
     let answers = judge_alone(alloc, &case)?;
     let mut findings = Vec::new(alloc);
-    findings.push(Finding::of(alloc, &case, answers, shown.explanations, None)?)?;
+    findings.push(Finding::of(rt, alloc, &case, answers, shown.explanations, None, 1)?)?;
     let report = json_report(alloc, case.into_located(), findings, shown, 4, "7.8.9")?;
     Ok(report.into_report(alloc)?)
 }
 
 #[test]
 fn whole_reports(rt: HostRuntime) -> Result<(), Fail> {
-    let explained = report_on_trace(rt.alloc(), EXPLANATIONS)?;
+    let explained = report_on_trace(&rt, EXPLANATIONS)?;
     assert_eq!(rt; str::from_utf8(&explained.bytes)?, EXPLAINED);
     assert_eq!(rt; explained.refused, 5);
-    let refused = report_on_trace(rt.alloc(), REFUSED_LINES)?;
+    let refused = report_on_trace(&rt, REFUSED_LINES)?;
     assert_eq!(rt; str::from_utf8(&refused.bytes)?, REFUSED);
     assert_eq!(rt; refused.refused, 5);
     Ok(())

@@ -2,7 +2,7 @@
 
 ghost use Rattle.std.specs.Prelude.{◌≡◌, IfOk, OnOk};
 ghost use Rattle.std.specs.Io.KnownBytes.{Appends};
-ghost use Rattle.ll_semantics.specs.Worlds.{judged};
+ghost use Rattle.ll_explanations.specs.Findings.{Finds};
 ghost use Rattle.ll_report.specs.{Made.text_of, Report.report_status};
 ghost use Rattle.ll_report.specs.Shown.{told_by, told_of};
 ghost use Rattle.ll_report.specs.Writing.{AppendsBeginning};
@@ -13,8 +13,7 @@ use crate::options::Shown;
 use crate::paged::Paged;
 use crate::report::{Report, Totals};
 use ll_explanations::Finding;
-use ll_process::{Answer, Case};
-use ll_rules::NoMemory;
+use ll_process::Case;
 use std::alloc::{AllocError, Global};
 use std::io;
 use std::io::Write;
@@ -73,22 +72,22 @@ impl<R: Rows + Drop> RowReport<R> {
     }
 }
 
-/// The report on the answers to the records of a case, under its version, as much as is shown of it.
+/// The report on what was found of the records of a case, under its version, as much as is shown of it.
 pub fn text_report(
     alloc: Global,
     case: Case,
-    answers: Vec<Answer>,
+    finding: Finding,
     shown: Shown,
-) -> Result<RowReport<Blocks>, NoMemory>
-    requires { answers.items ≡ judged case.tree case.abi case.records }
+) -> Result<RowReport<Blocks>, AllocError>
+    requires { Finds shown.explanations case.tree case.abi case.records finding }
     ensures { IfOk result (λ report. report ≡ told_of shown case.tree case.abi case.records) }
 {
-    let refused = Totals::of(&answers).refused;
-    let finding = Finding::of(alloc, &case, answers, shown.explanations, None)?;
+    let refused = Totals::of(finding.answers()).refused;
     let blocks = Blocks {
         case,
         finding,
         shown,
     };
-    Ok(RowReport::of(alloc, blocks, refused)?)
+    let report = RowReport::of(alloc, blocks, refused)?;
+    Ok(report)
 }

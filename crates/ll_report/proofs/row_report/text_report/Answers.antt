@@ -14,12 +14,12 @@ use Rattle.ll_report.proofs.row_report.text_report.Goals as goal
 pub returns : goal.returns
 returns c =
     let cv : CaseValue = c.args.case in
-    let finding : FindingValue = c.in_ok-finding.finding in
-    let counted : List Answer = c.deref.result.now in
-    let are : counted ≡ judged cv.tree cv.abi cv.records = c.deref.ensures.value ∙ c.requires in
+    let finding : FindingValue = c.args.finding in
+    let counted : List Answer = c.answers.result.now in
+    let are : counted ≡ judged cv.tree cv.abi cv.records = c.answers.ensures ∙ c.requires.answers in
     let refused : c.of-refused.result.refused ≡ refused_among cv.records (judged cv.tree cv.abi cv.records) =
     refused_count cv.records counted c.of-refused.result.refused (ap length are ∙ length-judged cv.tree cv.abi cv.records) c.of-refused.ensures.refused
     ∙ ap (refused_among cv.records) are in
-    let text = is_told c.args.shown cv.tree cv.abi cv.records finding c.in_ok-finding.ensures.answers
-    (said_as_judged c.args.shown.explanations cv.tree cv.abi cv.records cv.records finding c.in_ok-finding.ensures (taken_as_they_are cv.records)) in
-    c.in_ok-of.ensures ∙ ap₂ (λ (t : List ℕ) (n : ℕ). record { text = t; refused = n }) text refused
+    let text = is_told c.args.shown cv.tree cv.abi cv.records finding c.requires.answers
+    (said_as_judged c.args.shown.explanations cv.tree cv.abi cv.records cv.records finding c.requires (taken_as_they_are cv.records)) in
+    c.in_ok-report.ensures ∙ ap₂ (λ (t : List ℕ) (n : ℕ). record { text = t; refused = n }) text refused

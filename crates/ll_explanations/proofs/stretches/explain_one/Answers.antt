@@ -4,7 +4,7 @@ use Rattle.ll_trace.specs.declared.op.Record.{Record}
 use Rattle.ll_process.specs.Cases.{CaseValue}
 use Rattle.ll_trails.proofs.AtPlaces.{read_there}
 use Rattle.ll_explanations.specs.Kept.{kept_of}
-use Rattle.ll_explanations.proofs.finding.explain_one.Goals as goal
+use Rattle.ll_explanations.proofs.stretches.explain_one.Goals as goal
 
 pub returns : goal.returns
 returns c r read =

@@ -1,12 +1,10 @@
 -- Each record before the place has an explanation, which is kept, and the trails are those before the record at the place.
-use Rattle.std.proofs.Common.{◌≡◌, length}
 use Rattle.ll_trails.specs.CaseTrails.{AreTrailsAt}
-use Rattle.ll_explanations.specs.Findings.{AreKept}
-use Rattle.ll_explanations.proofs.finding.explain_all.Given as goal
+use Rattle.ll_explanations.specs.Stretches.{Extends}
+use Rattle.ll_explanations.proofs.stretches.explain_from.Given as goal
 
 abbrev pub invariant-loop-place : goal.invariant-loop-place
 invariant-loop-place l = record {
-  as_many : length l.all.items ≡ l.place;
-  kept : AreKept l.case.tree l.case.abi l.case.records l.all.items;
+  kept : Extends l.case l.from l.place l.all.items;
   trails : AreTrailsAt l.case l.place l.trails;
 }

@@ -1,0 +1,10 @@
+-- The answer is that of the one fold, since all answers are.
+use Rattle.ll_explanations.proofs.KeepingAll.{among, given_at}
+use Rattle.ll_explanations.proofs.stretches.answer_at.Goals as goal
+
+pub returns-clause-answer : goal.returns-clause-answer
+returns-clause-answer c =
+    given_at c.args.case.now c.args.answers.now c.args.place c.index-answers-place.result c.requires.judged c.requires.within c.index-answers-place.is
+
+pub returns-clause-place : goal.returns-clause-place
+returns-clause-place c = among c.args.case.now c.args.answers.now c.args.place c.requires.judged c.requires.within

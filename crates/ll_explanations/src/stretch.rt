@@ -1,0 +1,51 @@
+//! Records of a case that stand side by side.
+
+ghost use Rattle.std.specs.Prelude.{◌≡◌, ◌≤◌, length};
+ghost use Rattle.ll_semantics.specs.Worlds.{judged};
+ghost use Rattle.ll_trails.specs.CaseTrails.{AreTrailsAt};
+
+use crate::finding::Finding;
+use ll_process::Case;
+use ll_semantics::Answer;
+use ll_trails::TraceOrigins;
+use std::alloc::Global;
+
+/// Records of a case that stand side by side, with the answers to all its records, and where all that its processes
+/// have before the first of these records comes from.
+#[derive(Drop)]
+pub(crate) struct Stretch<'a> {
+    pub(crate) case: &'a Case,
+    pub(crate) answers: &'a [Answer],
+    pub(crate) newer: Option<&'a Finding>,
+    pub(crate) trails: TraceOrigins,
+    pub(crate) from: usize,
+    pub(crate) end: usize,
+    ghost judged: { answers.now ≡ judged case.now.tree case.now.abi case.now.records },
+    ghost rises: { from ≤ end },
+    ghost within: { end ≤ length answers.now },
+    ghost begins: { AreTrailsAt case.now from trails },
+}
+
+impl<'a> Stretch<'a> {
+    /// All records of a case.
+    pub(crate) fn whole(
+        alloc: Global,
+        case: &'a Case,
+        answers: &'a [Answer],
+        newer: Option<&'a Finding>,
+    ) -> Stretch<'a>
+        requires { answers.now ≡ judged case.now.tree case.now.abi case.now.records }
+        ensures case { result.case.now ≡ case.now }
+        ensures from { result.from ≡ 0 }
+        ensures end { result.end ≡ length answers.now }
+    {
+        Stretch {
+            case,
+            answers,
+            newer,
+            trails: TraceOrigins::new(alloc),
+            from: 0,
+            end: answers.len(),
+        }
+    }
+}
