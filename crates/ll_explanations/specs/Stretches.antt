@@ -1,4 +1,4 @@
--- Records of a case that stand side by side, and what is kept of their explanations.
+-- Consecutive records of a case, and what is kept of their explanations.
 -- Source: docs/FORMATS.md, "Explanations"; the cutting of a trace into stretches is the code's own.
 use Rattle.std.specs.Prelude.{◌≡◌, ℕ, ◌+◌, List, [], ◌∷◌, ◌++◌, Option, Result, Vec, IfOk, length}
 use Rattle.std.specs.declared.alloc.Global.{Global}
@@ -12,24 +12,25 @@ use Rattle.ll_explanations.specs.declared.stretch.Stretch.{Stretch}
 abbrev pub AreFirstKept : CaseValue → List (Option Explained) → Type 0
 AreFirstKept case all = AreKept case.tree case.abi case.records all
 
--- behind what is kept of the explanations of the records before a place, these are what is kept of those from it on, up to another
+-- what is kept of the explanations of the records from one index to another: appended to what is kept of all records before
+-- them, it gives what is kept of all records up to the second index
 pub record Extends (case : CaseValue) (from end : ℕ) (own : List (Option Explained)) : Type 0 where
   pub as_many : length own + from ≡ end
   pub kept : (before : List (Option Explained)) → length before ≡ from → AreFirstKept case before → AreFirstKept case (before ++ own)
 
--- what is kept of the explanations of records that stand side by side, unless memory ran out
+-- what is kept of the explanations of consecutive records, unless memory ran out
 abbrev pub IsExplainedFrom : CaseValue → ℕ → ℕ → Result (Vec (Option Explained) Global) NoMemory → Type 0
 IsExplainedFrom case from end result = IfOk result (λ own. Extends case from end own.items)
 
 abbrev pub IsExplained : Stretch → Result (Vec (Option Explained) Global) NoMemory → Type 0
 IsExplained stretch result = IsExplainedFrom stretch.case.now stretch.from stretch.end result
 
--- stretches of a case, one behind the other from a place on, up to another
+-- stretches of a case that follow each other, from one index to another
 abbrev pub AreStretches : CaseValue → ℕ → ℕ → List Stretch → Type 0
 AreStretches case from end [] = from ≡ end
 AreStretches case from end (stretch ∷ others) = (stretch.case.now ≡ case) × (stretch.from ≡ from) × AreStretches case stretch.end end others
 
--- what is kept of the explanations of all records of a case, which are so many
+-- what is kept of the explanations of a case's records, where there are so many records
 pub record AreAllKept (case : CaseValue) (count : ℕ) (all : List (Option Explained)) : Type 0 where
   pub as_many : length all ≡ count
   pub kept : AreFirstKept case all

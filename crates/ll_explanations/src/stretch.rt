@@ -1,4 +1,4 @@
-//! Records of a case that stand side by side.
+//! Consecutive records of a case.
 
 ghost use Rattle.std.specs.Prelude.{◌≡◌, ◌≤◌, length};
 ghost use Rattle.ll_semantics.specs.Worlds.{judged};
@@ -10,8 +10,8 @@ use ll_semantics::Answer;
 use ll_trails::TraceOrigins;
 use std::alloc::Global;
 
-/// Records of a case that stand side by side, with the answers to all its records, and where all that its processes
-/// have before the first of these records comes from.
+/// Consecutive records of a case, with the answers to all records of the case, and the origins of everything that its
+/// processes have before the first of these records.
 #[derive(Drop)]
 pub(crate) struct Stretch<'a> {
     pub(crate) case: &'a Case,

@@ -1,4 +1,4 @@
-//! What is kept of the explanations of all records, of which several threads work out stretches.
+//! The explanations of all records of a case: several threads work them out, each for a stretch of the records.
 
 ghost use Rattle.std.specs.Prelude.{◌≡◌, ◌<◌, ◌≤◌, ℕ, IfOk, List, OnOk, length};
 ghost use Rattle.std.specs.List.{AllZip};
@@ -27,7 +27,7 @@ const MOST_STRETCHES: usize = 4;
 /// How many records each process has in a stretch at least, on average.
 const RECORDS_EACH: usize = 8;
 
-/// What is kept of the explanations of records that stand side by side, or that memory ran out.
+/// What is kept of the explanations of consecutive records, or that memory ran out.
 pub(crate) type Explaining = Result<Vec<SharedExplanation>, NoMemory>;
 
 /// What is kept of the explanation of the record at a place of a case.
@@ -114,7 +114,7 @@ fn explain_from(
 }
 
 impl<'a> Stretch<'a> {
-    /// So many of the first records, and the others.
+    /// Splits this stretch into one of its first records, of which there are so many, and one of the others.
     fn cut(self, alloc: Global, size: usize) -> Result<(Stretch<'a>, Stretch<'a>), NoMemory>
         ensures cases { IfOk result (λ both. (both.0.case.now ≡ self.entry.case.now)
             × (both.1.case.now ≡ self.entry.case.now)) }
@@ -209,7 +209,7 @@ fn explain_each<'a, R: Threads + Sync>(
         .collect(rt, alloc)
 }
 
-/// What is kept of the explanations of stretches, one behind the other.
+/// Appends what is kept of the explanations of one stretch after the other.
 fn join_parts(alloc: Global, parts: Vec<Explaining>) -> Result<Vec<SharedExplanation>, NoMemory>
     ensures { IfOk result (λ all. (case : CaseValue) (stretches : List OneStretch) (end : ℕ)
         → AllZip IsExplained stretches parts.items → AreStretches case 0 end stretches
@@ -223,7 +223,8 @@ fn join_parts(alloc: Global, parts: Vec<Explaining>) -> Result<Vec<SharedExplana
     Ok(all)
 }
 
-/// In how many stretches the records of a case are explained. Each takes a copy of what is known of all processes.
+/// The number of stretches in which the records of a case are explained. Each takes a copy of what is known of all
+/// processes.
 fn stretches_of(case: &Case, workers: usize) -> usize {
     let processes = case.trace().processes().max(1) as usize;
     let worth = case.trace().records().len() / processes / RECORDS_EACH;

@@ -20,8 +20,8 @@ pub struct Openings {
     high: SharedMap<u32>,
 }
 
-/// Gives the descriptor at an index of a leaf the record that opened it, or none. A leaf with other owners is copied
-/// first.
+/// Sets the record that opened the descriptor at an index of a leaf, or none if it is closed. A leaf with other owners
+/// is copied first.
 fn put_in(leaf: &mut Arc<Leaf>, index: usize, opening: Option<u32>) -> Result<(), AllocError>
     requires { index < 16 }
     ensures { OnOk result ((i : ℕ) → get_or leaf.new.value.openings i None
@@ -65,7 +65,7 @@ impl Openings {
         Ok(())
     }
 
-    /// Adds leaves up to that at an index, if it isn't there.
+    /// Adds leaves until there is one at an index.
     fn widen(&mut self, index: usize) -> Result<(), AllocError>
         ensures same { OnOk result ((fd : ℕ) → opened self.new fd ≡ opened self.old fd) }
         ensures there { OnOk result (index < length self.new.low.items) }
@@ -80,7 +80,7 @@ impl Openings {
         Ok(())
     }
 
-    /// Gives a low descriptor the record that opened it, or closes it.
+    /// Sets the record that opened a low descriptor, or none if it is closed.
     fn put_low(&mut self, fd: u64, opening: Option<u32>) -> Result<(), AllocError>
         requires { fd < 512 }
         ensures { OnOk result ((q : ℕ)
@@ -92,7 +92,7 @@ impl Openings {
         Ok(())
     }
 
-    /// Gives a high descriptor the record that opened it, or closes it.
+    /// Sets the record that opened a high descriptor, or none if it is closed.
     fn put_high(&mut self, fd: u64, opening: Option<u32>) -> Result<(), AllocError>
         requires { 512 ≤ fd }
         ensures { OnOk result ((q : ℕ)
@@ -105,7 +105,7 @@ impl Openings {
         Ok(())
     }
 
-    /// Gives a descriptor the record that opened it, or closes it.
+    /// Sets the record that opened a descriptor, or none if it is closed.
     pub(crate) fn put(&mut self, fd: u64, opening: Option<u32>) -> Result<(), AllocError>
         ensures { OnOk result ((q : ℕ)
             → opened self.new q ≡ (if fd == q then opening else opened self.old q)) }
