@@ -31,7 +31,8 @@ class Cost:
 
 
 def audit(program: Path, options: Sequence[str], files: Path, report: Path) -> Cost:
-    """Audits the trace of a folder once, with these options, and writes the report."""
+    """Audits the trace of a folder once, with these options, and writes the report. The system takes the memory of this
+    process for the program's until the program begins, so a peak says nothing if this process has more."""
     words = [str(program), *options, str(files / "tree.jsonl"), str(files / "trace.jsonl")]
     with open(report, "wb") as out:
         began = time.monotonic()

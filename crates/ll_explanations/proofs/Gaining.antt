@@ -11,16 +11,15 @@ use Rattle.ll_semantics.specs.States.{Layer}
 use Rattle.ll_explanations.specs.Lacked.{gainable}
 use Rattle.ll_explanations.proofs.Lacking.{lacks-only}
 
--- lacking on the object, counting, and not lacking in the directory: by whether it is handled, granted on the object and granted in the directory
-won : (handled on counted there : Bool) → ((handled && not on) && counted && not (handled && not there)) ≡ (there && (handled && counted) && not on)
+-- counting, lacking on the object, and not lacking in the directory: by whether it is handled, granted on the object and granted in the directory
+won : (handled on counted there : Bool) → (counted && ((handled && not on) && not (handled && not there))) ≡ (there && (handled && counted) && not on)
 won handled on counted there = grind arith
 
-module _ (layer : Layer) (kind : Kind) (object directory : Path) where
-  pub gainable-by : (one : files.FsRight) (lacking holder file_right lacking_there : Bool) →
-      lacking ≡ lacks layer object (files.only one) → holder ≡ is_dir kind → file_right ≡ files.is_file_right one
-      → lacking_there ≡ lacks layer directory (files.only one) →
-      (lacking && (holder || file_right) && not lacking_there) ≡ gainable layer kind object directory one
+module _ (layer : Layer) (kind : Kind) (object directory : Path) (one : files.FsRight) where
+  pub gainable-by : (counts lacking lacking_there : Bool) → counts ≡ (is_dir kind || files.is_file_right one)
+      → lacking ≡ lacks layer object (files.only one) → lacking_there ≡ lacks layer directory (files.only one)
+      → (counts && (lacking && not lacking_there)) ≡ gainable layer kind object directory one
   unfolding gainable
-  gainable-by one lacking holder file_right lacking_there here is counts there =
-      rw (here ∙ lacks-only layer object one, is, counts, there ∙ lacks-only layer directory one)
+  gainable-by counts lacking lacking_there counted here there =
+      rw (counted, here ∙ lacks-only layer object one, there ∙ lacks-only layer directory one)
       (won (handles layer one) (granted layer object one) (is_dir kind || files.is_file_right one) (granted layer directory one))

@@ -149,7 +149,8 @@ pub(crate) fn objections_of(
         ≡ objecting (objected ctx.now.tree.now asked.now) (stacked ctx.now)) }
     ensures made { IfOk result (λ all. All (IsMade ctx.now.trail.now.layers.items) all.items) }
 {
-    let mut all = Vec::new(alloc);
+    // Most refusals have one objection, and explanations are kept until the report is written.
+    let mut all = Vec::with_capacity(alloc, 1)?;
     for (index, id) in ctx.domain.iter().enumerate() {
         let layer = OneLayer {
             ctx: *ctx,

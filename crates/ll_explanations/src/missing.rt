@@ -4,7 +4,7 @@
 ghost use Rattle.std.specs.Prelude.{◌≡◌, ◌&&◌, ◌||◌, ◌∷◌, [], not};
 ghost use Rattle.ll_rights.specs.CodeRights.{fs_right};
 ghost use Rattle.ll_rights.specs.Rights as files;
-ghost use Rattle.ll_tree.specs.Trees.{IsNode, kind_at, path_at};
+ghost use Rattle.ll_tree.specs.Trees.{IsNode, is_dir, kind_at, path_at};
 ghost use Rattle.ll_rules.specs.Checks.{lacks as is_lacking_on};
 ghost use Rattle.ll_explanations.specs.Confined.{rules_of};
 ghost use Rattle.ll_explanations.specs.Lacked.{IsTest, gainable, lacked, passes};
@@ -12,7 +12,7 @@ ghost use Rattle.ll_explanations.specs.Lacked.{IsTest, gainable, lacked, passes}
 use crate::confinement::OneLayer;
 use ll_rights::{Fs, FsRight};
 use ll_rules::{Domain, LayerId, check_path};
-use ll_tree::NodeId;
+use ll_tree::{NodeId, Tree};
 
 /// A test that rights pass or don't.
 #[derive(Clone, Copy)]
@@ -78,12 +78,13 @@ fn is_file_right(right: FsRight) -> bool
     Fs::FILE.has(right)
 }
 
-/// Whether a right is gained that is lacking on an object, counts for a directory or is one that files have, and isn't
-/// lacking where the object goes.
-fn is_won(lacking: bool, directory: bool, file_right: bool, lacking_there: bool) -> bool
-    ensures { result ≡ (lacking && (directory || file_right) && not lacking_there) }
+/// Whether a right counts for an object: each does for a directory, and those that files have for any other object.
+fn counts_for(tree: &Tree, object: NodeId, right: FsRight) -> bool
+    requires { IsNode tree.now object }
+    ensures { result
+        ≡ (is_dir (kind_at tree.now object) || files.is_file_right (fs_right right)) }
 {
-    lacking && (directory || file_right) && !lacking_there
+    tree.is_directory(object) || is_file_right(right)
 }
 
 /// Whether an object would gain a right in a directory, under a layer.
@@ -94,11 +95,14 @@ fn is_gained(layer: &OneLayer, object: NodeId, directory: NodeId, right: FsRight
         (path_at layer.now.ctx.tree.now object)
         (path_at layer.now.ctx.tree.now directory) (fs_right right) }
 {
+    if !counts_for(layer.ctx.tree, object, right) {
+        return false;
+    }
     let set = right.set();
-    let lacking = lacks(layer, object, set);
-    let lacking_there = lacks(layer, directory, set);
-    let holder = layer.ctx.tree.is_directory(object);
-    is_won(lacking, holder, is_file_right(right), lacking_there)
+    if !lacks(layer, object, set) {
+        return false;
+    }
+    !lacks(layer, directory, set)
 }
 
 /// Whether a set has a right, and another hasn't.

@@ -1,10 +1,6 @@
 -- Texts that are measured, and held in buffers that have room for them.
-use Rattle.std.proofs.Common.{◌≡◌, ◌∙◌, ℕ, ◌+◌, ◌<◌, ◌≤◌, ◌^◌, max, List, [], length, get_or, ap, arith}
-use Rattle.std.specs.List.{AllWithin, All}
-use Rattle.std.proofs.Common.{inl, inr, map}
-use Rattle.std.proofs.lemmas.Bool.{cases_lt}
-use Rattle.std.proofs.lemmas.List.{get_or_default, length-map, take_all}
-use Rattle.std.proofs.lemmas.List.Elements.{All-map}
+use Rattle.std.proofs.Common.{◌≡◌, ◌∙◌, ℕ, ◌<◌, ◌≤◌, List, [], length, ap, arith}
+use Rattle.std.proofs.lemmas.List.{length-map, take_all}
 use Rattle.ll_tree.specs.Trees.{Entry}
 use Rattle.ll_trace.specs.declared.op.Record.{Record}
 use Rattle.ll_explanations.specs.Findings.{FindingValue}
@@ -35,24 +31,3 @@ pub measured : (text : List ℕ) (count : ℕ) (room : ℕ) (empty after : Buffe
     → count < most_counted → length text ≤ count
 measured text count room empty after is_empty is counts small =
     omega (arith, counts, ap (λ (b : Buffered). b.count) (is ∙ ap (λ b. adding b text) is_empty), counted room 0 text (omega arith), small)
-
--- one more text is no longer than the longest
-pub one_longer : {X : Type 0} (told : X → List ℕ) (xs : List X) (k longest count next : ℕ) (x : X)
-    → (longest < 2 ^ 63 → AllWithin (λ (y : X). length (told y) ≤ longest) xs 0 k) → k < length xs → x ≡ get_or xs k x
-    → (count < most_counted → length (told x) ≤ count) → next ≡ max longest count
-    → next < 2 ^ 63 → AllWithin (λ (y : X). length (told y) ≤ next) xs 0 (k + 1)
-one_longer told xs k longest count next x so_far below is counted greatest small j d low within = elim (cases_lt j k) [
-  | inl before ↦
-      let old : length (told (get_or xs j d)) ≤ longest = so_far (grind (arith, greatest, small)) j d low before in
-      grind (arith, old, greatest)
-  | inr here ↦
-      let same : k ≡ j = omega (arith, here, within) in
-      let found : x ≡ get_or xs j d = is ∙ get_or_default xs k x d below ∙ ap (λ n. get_or xs n d) same in
-      let new : length (told x) ≤ count = counted (grind (arith, greatest, small)) in
-      grind (arith, new, greatest, ap (λ y. length (told y)) found)
-]
-
--- all texts fit, if those of all elements do
-pub all_fit : {X : Type 0} (told : X → List ℕ) (xs : List X) (room end : ℕ) → length xs ≤ end → AllWithin (λ (y : X). length (told y) ≤ room) xs 0 end
-    → All (λ text. length text ≤ room) (map told xs)
-all_fit told xs room end past all = All-map (λ text. length text ≤ room) told xs (λ k d below. all k d (omega arith) (omega (arith, below, past)))

@@ -1,8 +1,8 @@
 //! What versions say of a record.
 
-ghost use Rattle.std.specs.Prelude.{◌≡◌, ◌<◌, ◌≤◌, ◌^◌, [], false, get_or, length, true};
+ghost use Rattle.std.specs.Prelude.{◌≡◌, ◌<◌, ◌≤◌, ◌-◌, ◌^◌, [], false, get_or, length, true};
 ghost use Rattle.ll_explain.specs.Buffers.{adding};
-ghost use Rattle.ll_report.specs.Scratches.{AreAlike, FitIn, told_under, verdict_told};
+ghost use Rattle.ll_report.specs.Scratches.{AreAlike, FitIn, said_by, told_under, verdict_told};
 
 use crate::alike::are_alike;
 use crate::telling::{Saying, Telling, Verdicts};
@@ -59,20 +59,37 @@ impl<'f> Sayings<'f> {
             && first.explains_as(second, self.place)
     }
 
+    /// The length of what a version says, or `least`, or another length, if that is greater. A version that finds the
+    /// same as the one before is not measured again. A length from 2 ^ 63 on says nothing.
+    fn longer<T: Telling>(&self, measure: &mut TextBuffer, version: usize, least: usize) -> usize
+        requires within { version < length self.now.findings.now }
+        requires room { measure.old.room ≡ 0 }
+        requires before { 0 < version → least < 2 ^ 63
+            → length (get_or (said_by T.told self.now) (version - 1) []) ≤ least }
+        ensures least { least ≤ result }
+        ensures fit { result < 2 ^ 63
+            → length (get_or (said_by T.told self.now) version []) ≤ result }
+        ensures room { measure.new.room ≡ 0 }
+    {
+        if version > 0 && self.find_alike::<T>(version - 1, version) {
+            return least;
+        }
+        measure.clear();
+        self.push::<T>(measure, version);
+        least.max(measure.count())
+    }
+
     /// The length of the longest text that a version says, or another length that is greater. A length from 2 ^ 63 on
     /// says nothing.
     fn longest<T: Telling>(&self, measure: &mut TextBuffer, least: usize) -> usize
         requires { measure.old.room ≡ 0 }
         ensures least { least ≤ result }
-        ensures fit { result < 2 ^ 63 → FitIn result (told_under T.told self.now.tree.now
-            self.now.records.now self.now.findings.now self.now.place) }
+        ensures fit { result < 2 ^ 63 → FitIn result (said_by T.told self.now) }
         ensures room { measure.new.room ≡ 0 }
     {
         let mut longest = least;
-        for finding in self.findings {
-            measure.clear();
-            self.push_of::<T>(measure, finding);
-            longest = longest.max(measure.count());
+        for version in 0..self.findings.len() {
+            longest = self.longer::<T>(measure, version, longest);
         }
         longest
     }

@@ -7,7 +7,7 @@ use Rattle.ll_explanations.proofs.asked.objections_of.Goals as goal
 
 pub loop-index-init : goal.loop-index-init
 unfolding objecting_from
-loop-index-init c = none_yet c.args.ctx.now.tree.now c.args.ctx.now.trail.now.layers.items _ _ c.new-all.ensures.items refl
+loop-index-init c = none_yet c.args.ctx.now.tree.now c.args.ctx.now.trail.now.layers.items _ _ c.in_ok-all.ensures.items refl
 
 pub loop-index-preserved : goal.loop-index-preserved
 loop-index-preserved c =

@@ -1,26 +1,31 @@
-use Rattle.std.proofs.Common.{◌∙◌, List, ℕ, arith}
-use Rattle.ll_explanations.specs.Findings.{FindingValue}
-use Rattle.ll_report.proofs.Holding.{all_fit, measured, one_longer, room_kept}
+use Rattle.std.proofs.Common.{◌≡◌, ◌≤◌, List, ℕ, [], get_or, length, ap, arith, inl, inr}
+use Rattle.std.proofs.lemmas.Bool.{cases_lt}
+use Rattle.std.proofs.lemmas.List.Elements.{All-from_get_or}
+use Rattle.ll_report.specs.Scratches.{said_by}
+use Rattle.ll_report.proofs.Holding.{each_told}
 use Rattle.ll_report.proofs.sayings.Sayings.longest.Goals as goal
 
-pub loop-finding-preserved : goal.loop-finding-preserved
-loop-finding-preserved g c =
-    let s = c.args.self.now in
-    let findings : List FindingValue = s.findings.now in
-    let told : FindingValue → List ℕ = λ (f : FindingValue). g.T.Telling.told s.tree.now s.records.now f s.place in
-    let room = c.loop-finding.measure.room in (
-      room_kept room (told c.finding-item.result) c.clear.new.self c.push_of.new.text c.clear.ensures c.push_of.ensures ∙ c.loop-finding.invariant.0,
-      grind (arith, c.loop-finding.invariant.1, c.max-longest.ensures),
-      one_longer told findings c.loop-finding.finding-index c.loop-finding.longest c.count.result c.max-longest.result c.finding-item.result
-          c.loop-finding.invariant.2 c.loop-finding-test.true c.finding-item.is
-          (λ small. measured (told c.finding-item.result) c.count.result room c.clear.new.self c.push_of.new.text c.clear.ensures c.push_of.ensures
-          c.count.ensures small)
-          c.max-longest.ensures,
+pub loop-version-preserved : goal.loop-version-preserved
+loop-version-preserved g c =
+    let l = c.loop-version in
+    let texts : List (List ℕ) = said_by g.T.Telling.told c.args.self.now in (
+      c.longer-longest.ensures.room,
+      omega (arith, l.invariant.1, c.longer-longest.ensures.least),
+      λ small k below. elim (cases_lt k l.version) [
+        | inl before ↦
+            let old : length (get_or texts k []) ≤ l.longest = l.invariant.2 (omega (arith, small, c.longer-longest.ensures.least)) k before in
+            omega (arith, old, c.longer-longest.ensures.least)
+        | inr here ↦
+            let same : k ≡ l.version = omega (arith, here, below) in
+            omega (arith, c.longer-longest.ensures.fit small, ap (λ n. length (get_or texts n [])) same)
+      ],
     )
+
+pub longer-longest-requires-clause-before : goal.longer-longest-requires-clause-before
+longer-longest-requires-clause-before g c = λ positive small. c.loop-version.invariant.2 small _ (omega (arith, positive))
 
 pub returns-clause-fit : goal.returns-clause-fit
 returns-clause-fit g c = λ small.
-    let s = c.args.self.now in
-    let findings : List FindingValue = s.findings.now in
-    let told : FindingValue → List ℕ = λ (f : FindingValue). g.T.Telling.told s.tree.now s.records.now f s.place in
-    all_fit told findings c.loop-finding.longest c.loop-finding.finding-index c.loop-finding-test.false (c.loop-finding.invariant.2 small)
+    let texts : List (List ℕ) = said_by g.T.Telling.told c.args.self.now in
+    All-from_get_or (λ (text : List ℕ). length text ≤ c.loop-version.longest) texts []
+    (λ k within. c.loop-version.invariant.2 small k (omega (arith, within, each_told g.T.Telling.told c.args.self.now, c.loop-version-test.false)))

@@ -1,10 +1,9 @@
 -- the texts of the versions so far are no longer
-use Rattle.std.proofs.Common.{◌≡◌, ◌<◌, ◌≤◌, ◌^◌, length}
-use Rattle.std.specs.List.{AllWithin}
+use Rattle.std.proofs.Common.{◌≡◌, ◌<◌, ◌≤◌, ◌^◌, ℕ, [], get_or, length}
+use Rattle.ll_report.specs.Scratches.{said_by}
 use Rattle.ll_report.proofs.sayings.Sayings.longest.Given as goal
 
-abbrev pub invariant-loop-finding : goal.invariant-loop-finding
-invariant-loop-finding g l =
+abbrev pub invariant-loop-version : goal.invariant-loop-version
+invariant-loop-version g l =
     (l.measure.room ≡ 0) × (l.fn.least ≤ l.longest)
-    × (l.longest < 2 ^ 63 → AllWithin (λ f. length (g.T.Telling.told l.self.tree.now l.self.records.now f l.self.place) ≤ l.longest) l.self.findings.now 0
-    l.finding-index)
+    × (l.longest < 2 ^ 63 → (k : ℕ) → k < l.version → length (get_or (said_by g.T.Telling.told l.self) k []) ≤ l.longest)
