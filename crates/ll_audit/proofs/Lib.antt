@@ -5,3 +5,4 @@ pub mod Totals
 pub mod VersionByVersion
 pub mod FoundAtHand
 pub mod AsJson
+pub mod GoingOn

@@ -21,12 +21,15 @@ use Rattle.ll_report.specs.Rows.{told_of}
 use Rattle.ll_trace.specs.declared.trace.Effort.{Effort}
 use Rattle.ll_trace.specs.declared.trace.Effort.TheVariants.{AsRecorded, Best}
 use Rattle.ll_report.specs.declared.options.Options.{Options}
-use Rattle.ll_audit.specs.declared.ranging.Audited.{Audited}
+use Rattle.ll_trace.specs.declared.located.Located.{Located}
+use Rattle.ll_audit.specs.declared.ranging.Progress.{Progress}
+use Rattle.ll_audit.specs.declared.ranging.Progress.TheVariants as progress
 use Rattle.ll_explanations.specs.Findings.{FindingValue, Finds}
-use Rattle.ll_explanations.specs.TakenLater.{AreTakenLater}
-use Rattle.ll_explanations.proofs.TakenLater.{taken_as_they_are, taken_again, taken_at_best_effort}
+use Rattle.ll_process.specs.TakenLater.{AreTakenLater}
+use Rattle.ll_process.proofs.TakenLater.{taken_as_they_are, taken_again, taken_at_best_effort}
 use Rattle.ll_json.specs.Judged.{AreFound, Version}
-use Rattle.ll_audit.specs.ShownReports.{Adds, taken, version_at, versions_by}
+use Rattle.ll_audit.specs.Ranging.{Adds, ComesTo, GoesOn, IsThrough, taken_if_asked}
+use Rattle.ll_audit.specs.ShownReports.{taken, version_at}
 use Rattle.ll_rights.specs.AbiRanges.{is_in, versions_in}
 use Rattle.ll_rights.proofs.AbiRanges.{few_versions}
 use Rattle.std.proofs.Math.Seq.{drop-cons}
@@ -127,7 +130,7 @@ unfolding all_versions
 before_newer place other small = before_those_behind all_versions place other refl small
 
 -- records are taken under a version
-later_taken : (effort : Effort) (abi : Abi) (records : List Record) → AreTakenLater (taken effort abi records) records
+pub later_taken : (effort : Effort) (abi : Abi) (records : List Record) → AreTakenLater (taken effort abi records) records
 later_taken AsRecorded abi records = taken_as_they_are records
 later_taken Best abi records = taken_at_best_effort abi records
 
@@ -137,11 +140,11 @@ module _ (options : Options) (tree : List Entry) (records : List Record) where
   versions abis = map (version_at options records) abis
 
   -- All versions of the range among some are gone over; those that are left are older.
-  pub record IsDownTo (done : List Abi) (audited : Audited) : Type 0 where
-    pub same_tree : audited.located.tree ≡ tree
-    pub again : (abi : Abi) → IsBefore done abi → taken options.effort abi audited.located.trace ≡ taken options.effort abi records
-    pub told : map about audited.located.trace ≡ map about records
-    pub found : AreFound options.shown.explanations tree audited.located.trace (versions (filter (is_in options.abis) done)) audited.findings.items
+  pub record IsDownTo (done : List Abi) (entries : List Entry) (hand : List Record) (findings : List FindingValue) : Type 0 where
+    pub same_tree : entries ≡ tree
+    pub again : (abi : Abi) → IsBefore done abi → taken options.effort abi hand ≡ taken options.effort abi records
+    pub told : map about hand ≡ map about records
+    pub found : AreFound options.shown.explanations tree hand (versions (filter (is_in options.abis) done)) findings
 
   -- what was found stays so when the records at hand are taken under an older version
   still_found : (hand later : List Record) → AreTakenLater later hand → (found : List Version) (findings : List FindingValue)
@@ -155,83 +158,85 @@ module _ (options : Options) (tree : List Entry) (records : List Record) where
   )
 
   -- one more version
-  pub one_down : (done : List Abi) (abi : Abi) (audited next : Audited) → IsBefore done abi → IsDownTo done audited
-      → next.located.tree ≡ audited.located.tree
-      → next.located.trace ≡ (if is_in options.abis abi then taken options.effort abi audited.located.trace else audited.located.trace)
-      → Adds options abi audited next
-      → IsDownTo (abi ∷ done) next
-  one_down done abi audited next before is kept trace adds =
+  one_down : (done : List Abi) (abi : Abi) (entries : List Entry) (hand later : List Record) (before after : List FindingValue) → IsBefore done abi
+      → IsDownTo done entries hand before → later ≡ taken_if_asked options abi hand → Adds options abi entries hand before after
+      → IsDownTo (abi ∷ done) entries later after
+  one_down done abi entries hand later before after newer is trace adds =
       let more = go (is_in options.abis abi) refl trace in
-      record { same_tree = kept ∙ is.same_tree; again = more.0; told = more.1; found = more.2 }
+      record { same_tree = is.same_tree; again = more.0; told = more.1; found = more.2 }
     where
-      hand : List Record
-      hand = audited.located.trace
-
-      go : (b : Bool) → is_in options.abis abi ≡ b → next.located.trace ≡ (if b then taken options.effort abi hand else hand)
-          → ((older : Abi) → IsBefore (abi ∷ done) older → taken options.effort older next.located.trace ≡ taken options.effort older records)
-          × (map about next.located.trace ≡ map about records)
-          × AreFound options.shown.explanations tree next.located.trace
-          (versions (cond b (abi ∷ filter (is_in options.abis) done) (filter (is_in options.abis) done))) next.findings.items
+      go : (b : Bool) → is_in options.abis abi ≡ b → later ≡ (if b then taken options.effort abi hand else hand)
+          → ((older : Abi) → IsBefore (abi ∷ done) older → taken options.effort older later ≡ taken options.effort older records)
+          × (map about later ≡ map about records)
+          × AreFound options.shown.explanations tree later
+          (versions (cond b (abi ∷ filter (is_in options.abis) done) (filter (is_in options.abis) done))) after
       go true asked trace =
           let own = adds.one asked in
-          let same : next.located.trace ≡ taken options.effort abi records = trace ∙ is.again abi before in (
+          let same : later ≡ taken options.effort abi records = trace ∙ is.again abi newer in (
             λ older le. ap (taken options.effort older) trace ∙ taken-older options.effort older abi hand le.0 ∙ is.again older le.1,
             ap (map about) trace ∙ about-taken options.effort abi hand ∙ is.told,
-            subst (AreFound options.shown.explanations tree next.located.trace (versions (abi ∷ filter (is_in options.abis) done))) (sym own.1) (
+            subst (AreFound options.shown.explanations tree later (versions (abi ∷ filter (is_in options.abis) done))) (sym own.1) (
               record {
                 finds = subst (λ (t : List Entry). Finds options.shown.explanations t abi (taken options.effort abi records) own.0) is.same_tree
-                    (subst (λ (rs : List Record). Finds options.shown.explanations audited.located.tree abi rs own.0) (is.again abi before) own.2);
+                    (subst (λ (rs : List Record). Finds options.shown.explanations entries abi rs own.0) (is.again abi newer) own.2);
                 taken = subst (λ (rs : List Record). AreTakenLater rs (taken options.effort abi records)) (sym same)
                     (taken_as_they_are (taken options.effort abi records));
               },
-              still_found hand next.located.trace
-                  (subst (λ (rs : List Record). AreTakenLater rs hand) (sym trace) (later_taken options.effort abi hand))
-                  (versions (filter (is_in options.abis) done)) audited.findings.items is.found,
+              still_found hand later (subst (λ (rs : List Record). AreTakenLater rs hand) (sym trace) (later_taken options.effort abi hand))
+                  (versions (filter (is_in options.abis) done)) before is.found,
             ),
           )
       go false asked trace = (
         λ older le. ap (taken options.effort older) trace ∙ is.again older le.1,
         ap (map about) trace ∙ is.told,
-        subst (AreFound options.shown.explanations tree next.located.trace (versions (filter (is_in options.abis) done))) (sym (adds.none asked))
-            (subst (λ (rs : List Record). AreFound options.shown.explanations tree rs (versions (filter (is_in options.abis) done)) audited.findings.items)
+        subst (AreFound options.shown.explanations tree later (versions (filter (is_in options.abis) done))) (sym (adds.none asked))
+            (subst (λ (rs : List Record). AreFound options.shown.explanations tree rs (versions (filter (is_in options.abis) done)) before)
             (sym trace) is.found),
       )
 
+  -- what an audit comes to that has gone over the versions among some
+  abbrev pub IsReached : List Abi → Progress → Type 0
+  IsReached done reached =
+      (entries : List Entry) (hand : List Record) (findings : List FindingValue) → ComesTo options reached entries hand findings
+      → IsDownTo done entries hand findings
+
   -- before the newest version
-  pub none_yet : (audited : Audited) → audited.located.tree ≡ tree → audited.located.trace ≡ records → audited.findings.items ≡ [] → IsDownTo [] audited
-  none_yet audited kept same_trace none = record {
-    same_tree = kept;
-    again = λ abi none. ap (taken options.effort abi) same_trace;
-    told = ap (map about) same_trace;
-    found = subst (AreFound options.shown.explanations tree audited.located.trace []) (sym none) tt;
+  pub none_yet : (located : Located) → located.tree ≡ tree → located.trace ≡ records → IsReached [] (progress.Begun located)
+  none_yet located kept same_trace = λ entries hand findings comes. record {
+    same_tree = sym comes.0 ∙ kept;
+    again = λ abi none. ap (taken options.effort abi) (sym comes.1 ∙ same_trace);
+    told = ap (map about) (sym comes.1 ∙ same_trace);
+    found = subst (AreFound options.shown.explanations tree hand []) (sym comes.2) tt;
   }
 
   -- the version below a place
-  pub next_down : (all : List Abi) (place : ℕ) (other : Abi) (audited next : Audited) → all ≡ all_versions → 0 < place → place ≤ length all
-      → IsDownTo (drop place all) audited
-      → next.located.tree ≡ audited.located.tree
-      → next.located.trace
-      ≡ (if is_in options.abis (get_or all (place - 1) other) then taken options.effort (get_or all (place - 1) other) audited.located.trace
-      else audited.located.trace)
-      → Adds options (get_or all (place - 1) other) audited next
-      → IsDownTo (drop (place - 1) all) next
-  next_down all place other audited next same some within is kept trace adds =
+  pub next_down : (all : List Abi) (place : ℕ) (other : Abi) (before next : Progress) → all ≡ all_versions → 0 < place → place ≤ length all
+      → IsReached (drop place all) before → GoesOn options (get_or all (place - 1) other) before next → IsReached (drop (place - 1) all) next
+  next_down all place other before next same some within is goes =
       let abi : Abi = get_or all (place - 1) other in
       let below : place ≡ suc (place - 1) = omega (arith, some) in
-      let before : IsBefore (drop (suc (place - 1)) all) abi =
+      let newer : IsBefore (drop (suc (place - 1)) all) abi =
       subst (λ (vs : List Abi). place - 1 < length vs
       → IsBefore (drop (suc (place - 1)) vs) (get_or vs (place - 1) other)) (sym same) (before_newer (place - 1) other)
       (omega (arith, some, within)) in
-      subst (λ (done : List Abi). IsDownTo done next) (sym (drop-cons all (place - 1) other (omega (arith, some, within))))
-      (one_down (drop (suc (place - 1)) all) abi audited next before (subst (λ (k : ℕ). IsDownTo (drop k all) audited) below is) kept trace adds)
+      subst (λ (done : List Abi). IsReached done next) (sym (drop-cons all (place - 1) other (omega (arith, some, within))))
+      (λ entries later after comes.
+      let from = goes entries later after comes in
+      one_down (drop (suc (place - 1)) all) abi entries from.records later from.findings after newer
+      (subst (λ (k : ℕ). IsReached (drop k all) before) below is entries from.records from.findings from.came) from.later_is from.adds)
 
   -- behind the oldest
-  pub all_versions_found : (all : List Abi) (place : ℕ) (audited : Audited) → all ≡ all_versions → place ≡ 0 → IsDownTo (drop place all) audited
-      → AreFound options.shown.explanations tree audited.located.trace (versions_by options records) audited.findings.items
+  pub all_versions_found : (all : List Abi) (place : ℕ) (reached : Progress) → all ≡ all_versions → place ≡ 0 → IsReached (drop place all) reached
+      → IsThrough options tree records reached
   unfolding versions_in
-  all_versions_found all place audited same none is =
-      subst (λ (abis : List Abi). AreFound options.shown.explanations tree audited.located.trace (versions abis) audited.findings.items)
-      (ap₂ (λ (k : ℕ) (vs : List Abi). filter (is_in options.abis) (drop k vs)) none same) is.found
+  all_versions_found all place reached same none is = λ entries later findings comes.
+      let down = is entries later findings comes in
+      record {
+        same_tree = down.same_tree;
+        told = down.told;
+        found = subst (λ (abis : List Abi). AreFound options.shown.explanations tree later (versions abis) findings)
+            (ap₂ (λ (k : ℕ) (vs : List Abi). filter (is_in options.abis) (drop k vs)) none same) down.found;
+      }
 
 -- there are few versions
 pub few_asked : (options : Options) → length (versions_in options.abis) ≤ 64

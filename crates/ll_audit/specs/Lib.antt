@@ -5,3 +5,5 @@ pub mod Audits
 pub mod Causes
 pub mod Fronts
 pub mod ShownReports
+pub mod Ranging
+pub mod Cases

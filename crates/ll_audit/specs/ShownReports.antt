@@ -1,15 +1,14 @@
 -- What `audit_with` answers: the report on the answers of one fold over the records as they are taken, under each
--- version that is asked for, of which as much is shown as is asked for; what is kept of the versions until the report is
--- written; and what a report that is ready to be written tells.
+-- version that is asked for, of which as much is shown as is asked for; and what a report that is ready to be written
+-- tells.
 -- Source: docs/FORMATS.md, "The report", "Explanations", "Several versions" and "The report as JSON"; the forms of a
 -- report that is ready are the code's own.
-use Rattle.std.specs.Prelude.{◌≡◌, ◌≢◌, ℕ, List, ◌∷◌, true, false, map}
+use Rattle.std.specs.Prelude.{◌≡◌, ◌≢◌, ℕ, List, map}
 use Rattle.ll_rights.specs.declared.abi.Abi.{Abi}
 use Rattle.ll_rights.specs.Abis.{number_of}
 use Rattle.ll_tree.specs.Trees.{Entry}
 use Rattle.ll_trace.specs.declared.op.Record.{Record}
 use Rattle.ll_trace.specs.BestEffort.{records_at_best_effort}
-use Rattle.ll_explanations.specs.Findings.{FindingValue, Finds}
 use Rattle.ll_report.specs.Shown.{IsShownReportOn, Told}
 use Rattle.ll_report.specs.Found.{Found, found_under}
 use Rattle.ll_report.specs.Rows.{refused_under_some, rows_text, total_under_text}
@@ -22,9 +21,8 @@ use Rattle.ll_trace.specs.declared.trace.Effort.{Effort}
 use Rattle.ll_trace.specs.declared.trace.Effort.TheVariants.{AsRecorded, Best}
 use Rattle.ll_report.specs.declared.options.Options.{Options}
 use Rattle.ll_report.specs.declared.options.TheConstants.{ALL_LINES}
-use Rattle.ll_rights.specs.AbiRanges.{is_in, versions_in}
+use Rattle.ll_rights.specs.AbiRanges.{versions_in}
 use Rattle.ll_audit.specs.Audits.{BothRead}
-use Rattle.ll_audit.specs.declared.ranging.Audited.{Audited}
 use Rattle.ll_audit.specs.declared.report_text.Form.{Form}
 use Rattle.ll_audit.specs.declared.report_text.Form.TheVariants as form
 
@@ -88,14 +86,6 @@ IsReportWith options tree_bytes trace_bytes report = BothRead tree_bytes trace_b
 -- the options of the plain report: one version, rulesets as they were recorded, all lines, no explanations, as text
 abbrev pub plain_options : Abi → Options
 plain_options abi = record { abis = record { oldest = abi; newest = abi }; effort = AsRecorded; shown = ALL_LINES; format = Text }
-
--- ---- what is found under several versions, and kept until the report is written
-
--- what is found under a version, if it is asked for, stands in front of what was found before
-pub record Adds (options : Options) (abi : Abi) (before after : Audited) : Type 0 where
-  pub one : is_in options.abis abi ≡ true → (finding : FindingValue) × (after.findings.items ≡ finding ∷ before.findings.items)
-      × Finds options.shown.explanations before.located.tree abi (taken options.effort abi before.located.trace) finding
-  pub none : is_in options.abis abi ≡ false → after.findings.items ≡ before.findings.items
 
 -- ---- what a report that is ready to be written tells
 

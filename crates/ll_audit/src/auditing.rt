@@ -245,7 +245,7 @@ fn text_under<R: Threads + Wait + Sync, G: Gate + Sync>(
     let shown = audit.options.shown;
     let finding = audit
         .workers
-        .finding(&case, audit.cuts, shown.explanations, None)?;
+        .finding(&case, audit.cuts, shown.explanations)?;
     let report = text_report(alloc, case, finding, shown)?;
     Ok(ReportText::new(Form::Text(report)))
 }

@@ -5,6 +5,7 @@ mod auditing;
 mod cut;
 mod fault;
 mod inputs;
+mod judged;
 mod laws;
 mod lines;
 mod outcome;

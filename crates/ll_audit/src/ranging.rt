@@ -1,17 +1,19 @@
 //! An audit over several versions.
 
-ghost use Rattle.std.specs.Prelude.{◌≡◌, ◌+◌, ◌∷◌, ◌<◌, ◌^◌, [], IfOk, IfErr, List, if◌then◌else◌, length, map};
-ghost use Rattle.ll_rights.specs.{Abis.number_of, AbiRanges.is_in};
+ghost use Rattle.std.specs.Prelude.{◌≡◌, ◌+◌, ◌∷◌, ◌<◌, ◌^◌, [], IfOk, IfErr, List, length, map};
+ghost use Rattle.ll_rights.specs.{Abis.number_of};
 ghost use Rattle.ll_json.specs.{Records.about, Reports.IsJsonReport};
 ghost use Rattle.ll_report.specs.Rows.{refused_under_some, rows_text};
 ghost use Rattle.ll_report.specs.Versions.{founds_in};
 ghost use Rattle.ll_command.specs.declared.command.TheConstants.{VERSION};
 ghost use Rattle.ll_json.specs.Judged.{AreFound, Version};
 ghost use Rattle.ll_audit.specs.Causes.{IsWant};
-ghost use Rattle.ll_audit.specs.ShownReports.{Adds, taken, versions_by};
+ghost use Rattle.ll_audit.specs.ShownReports.{taken, versions_by};
+ghost use Rattle.ll_audit.specs.Ranging.{ComesTo, GoesOn, IsThrough};
 ghost use Rattle.ll_audit.specs.Audits.{IsCrew};
 
 use crate::fault::Fault;
+use crate::judged::Judged;
 use crate::workers::Workers;
 use ll_command::VERSION;
 use ll_explanations::Finding;
@@ -20,6 +22,7 @@ use ll_pool::Gate;
 use ll_process::Case;
 use ll_report::{Options, RowReport, VersionRows, report_over};
 use ll_rights::Abi;
+use ll_rules::NoMemory;
 use ll_trace::{Effort, Located, Trace};
 use ll_tree::Tree;
 use std::alloc::{AllocError, Global};
@@ -42,38 +45,75 @@ pub(crate) struct Audited {
     pub(crate) findings: Vec<Finding>,
 }
 
-impl Audited {
-    /// Audits under a version too, which is older than those before, if it is asked for.
+/// How far an audit under several versions is, the newest first.
+#[derive(Drop)]
+pub(crate) enum Progress {
+    /// No version has judged yet.
+    Begun(Located),
+    /// Some have; the oldest of them isn't explained yet.
+    Judged(Judged),
+}
+
+impl Progress {
+    /// Judges under a version too, which is older than those before, if it is asked for.
     fn under<R: Threads + Wait + Sync, G: Gate + Sync>(
         self,
         audit: &Audit<'_, R, G>,
         abi: Abi,
-    ) -> Result<Audited, Fault>
+    ) -> Result<Progress, Fault>
         requires { IsCrew audit.now.workers.now.count }
-        ensures tree { IfOk result (λ next. next.located.tree ≡ self.located.tree) }
-        ensures trace { IfOk result (λ next. next.located.trace
-            ≡ (if is_in audit.now.options.now.abis abi
-            then taken audit.now.options.now.effort abi self.located.trace
-            else self.located.trace)) }
-        ensures findings { IfOk result (Adds audit.now.options.now abi self) }
+        ensures further { IfOk result (GoesOn audit.now.options.now abi self) }
         ensures fault { IfErr result IsWant }
     {
         if !audit.options.abis.has(abi) {
             return Ok(self);
         }
-        let Audited { located, findings } = self;
-        let alloc = audit.workers.alloc;
-        let located = as_taken(located, audit.options.effort, abi);
-        let case = Case::of_located(alloc, located, abi)?;
-        let explains = audit.options.shown.explanations;
-        let newer = findings.first();
-        let finding = audit.workers.finding(&case, audit.cuts, explains, newer)?;
-        Ok(Audited {
-            located: case.into_located(),
-            findings: in_front(finding, findings)?,
-        })
+        let judged = match self {
+            Progress::Begun(located) => Judged::first(audit, located, abi)?,
+            Progress::Judged(newer) => newer.next(audit, abi)?,
+        };
+        Ok(Progress::Judged(judged))
     }
 
+    /// What was found under all versions so far.
+    fn finish<R: Threads + Wait + Sync, G: Gate + Sync>(
+        self,
+        audit: &Audit<'_, R, G>,
+    ) -> Result<Audited, Fault>
+        ensures found { IfOk result (λ all. ComesTo audit.now.options.now self all.located.tree
+            all.located.trace all.findings.items) }
+        ensures fault { IfErr result IsWant }
+    {
+        match self {
+            Progress::Begun(located) => Ok(Audited {
+                located,
+                findings: Vec::new(audit.workers.alloc),
+            }),
+            Progress::Judged(judged) => judged.finish(audit),
+        }
+    }
+
+    /// Judges a trace under all versions that are asked for, the newest first.
+    fn through<R: Threads + Wait + Sync, G: Gate + Sync>(
+        audit: &Audit<'_, R, G>,
+        located: Located,
+    ) -> Result<Progress, Fault>
+        requires { IsCrew audit.now.workers.now.count }
+        ensures through { IfOk result
+            (IsThrough audit.now.options.now located.tree located.trace) }
+        ensures fault { IfErr result IsWant }
+    {
+        let versions = Abi::all();
+        let mut progress = Progress::Begun(located);
+        for place in (0..versions.len()).rev() {
+            let abi = versions[place];
+            progress = progress.under(audit, abi)?;
+        }
+        Ok(progress)
+    }
+}
+
+impl Audited {
     /// Audits a tree and a trace under all versions that are asked for.
     pub(crate) fn of<R: Threads + Wait + Sync, G: Gate + Sync>(
         audit: &Audit<'_, R, G>,
@@ -90,36 +130,9 @@ impl Audited {
         ensures records { IfOk result (λ all. map about all.located.trace ≡ map about trace) }
         ensures fault { IfErr result IsWant }
     {
-        let none = Audited {
-            located: audit.workers.located(tree, trace)?,
-            findings: Vec::new(audit.workers.alloc),
-        };
-        none.under_all(audit)
-    }
-
-    /// Audits under all versions that are asked for, the newest first.
-    fn under_all<R: Threads + Wait + Sync, G: Gate + Sync>(
-        self,
-        audit: &Audit<'_, R, G>,
-    ) -> Result<Audited, Fault>
-        requires crew { IsCrew audit.now.workers.now.count }
-        requires none_yet { self.findings.items ≡ [] }
-        ensures tree { IfOk result (λ all. all.located.tree ≡ self.located.tree) }
-        ensures findings { IfOk result
-            (λ all. AreFound audit.now.options.now.shown.explanations self.located.tree
-            all.located.trace (versions_by audit.now.options.now self.located.trace)
-            all.findings.items) }
-        ensures records { IfOk result
-            (λ all. map about all.located.trace ≡ map about self.located.trace) }
-        ensures fault { IfErr result IsWant }
-    {
-        let versions = Abi::all();
-        let mut audited = self;
-        for place in (0..versions.len()).rev() {
-            let abi = versions[place];
-            audited = audited.under(audit, abi)?;
-        }
-        Ok(audited)
+        let located = audit.workers.located(tree, trace)?;
+        let progress = Progress::through(audit, located)?;
+        progress.finish(audit)
     }
 }
 
@@ -180,8 +193,26 @@ fn as_taken(located: Located, effort: Effort, abi: Abi) -> Located
     }
 }
 
+/// A case of a trace under a version, as its rulesets are to be taken.
+pub(crate) fn case_under<R: Threads + Wait + Sync, G: Gate + Sync>(
+    audit: &Audit<'_, R, G>,
+    located: Located,
+    abi: Abi,
+) -> Result<Case, NoMemory>
+    ensures tree { IfOk result (λ case. case.tree ≡ located.tree) }
+    ensures records { IfOk result (λ case. case.records
+        ≡ taken audit.now.options.now.effort abi located.trace) }
+    ensures abi { IfOk result (λ case. case.abi ≡ abi) }
+{
+    let located = as_taken(located, audit.options.effort, abi);
+    Case::of_located(audit.workers.alloc, located, abi)
+}
+
 /// What was found under a version, in front of what was found under newer ones.
-fn in_front(finding: Finding, mut newer: Vec<Finding>) -> Result<Vec<Finding>, AllocError>
+pub(crate) fn in_front(
+    finding: Finding,
+    mut newer: Vec<Finding>,
+) -> Result<Vec<Finding>, AllocError>
     ensures { IfOk result (λ all. all.items ≡ finding ∷ newer.items) }
 {
     newer.insert(0, finding)?;

@@ -5,11 +5,13 @@ ghost use Rattle.ll_semantics.specs.Worlds.{judged};
 ghost use Rattle.ll_explanations.specs.Findings.{Finds};
 ghost use Rattle.ll_audit.specs.Causes.{IsWant};
 ghost use Rattle.ll_audit.specs.Audits.{IsCrew};
+ghost use Rattle.ll_audit.specs.Cases.{judged_in};
 
 use crate::fault::Fault;
 use ll_explanations::Finding;
 use ll_pool::{Gate, collect_whole, run};
-use ll_process::{Answer, Case};
+use ll_process::{Answer, Case, CaseView};
+use ll_rules::NoMemory;
 use ll_trace::{Located, ProcessId, Trace};
 use ll_tree::Tree;
 use std::alloc::{AllocError, Global};
@@ -36,7 +38,7 @@ impl<'a, R: Threads + Wait + Sync, G: Gate + Sync> Workers<'a, R, G> {
     }
 
     /// The answers to all records of a case, whose work is cut at these processes.
-    fn answers(&self, case: &Case, cuts: &[bool]) -> Result<Vec<Answer>, Fault>
+    pub(crate) fn answers(&self, case: &Case, cuts: &[bool]) -> Result<Vec<Answer>, Fault>
         requires { IsCrew self.now.count }
         ensures answers { IfOk result
             (λ answers. answers.items ≡ judged case.now.tree case.now.abi case.now.records) }
@@ -47,14 +49,29 @@ impl<'a, R: Threads + Wait + Sync, G: Gate + Sync> Workers<'a, R, G> {
         Ok(collect_whole(self.alloc, case, pieces)?)
     }
 
+    /// What is found of the records of a case, by the answers to them: the explanations too, if these are asked for. What
+    /// is found alike under a newer version is kept once.
+    pub(crate) fn explained(
+        &self,
+        case: &CaseView<'_>,
+        answers: Vec<Answer>,
+        explains: bool,
+        newer: Option<&Finding>,
+    ) -> Result<Finding, NoMemory>
+        requires { answers.items ≡ judged case.now.tree case.now.abi case.now.records }
+        ensures { IfOk result (Finds explains case.now.tree case.now.abi case.now.records) }
+    {
+        let count = self.count as usize;
+        Finding::of(self.rt, self.alloc, case, answers, explains, newer, count)
+    }
+
     /// What is found of the records of a case, whose work is cut at these processes: the answers, and the explanations
-    /// if these are asked for. What is found alike under a newer version is kept once.
+    /// if these are asked for.
     pub(crate) fn finding(
         &self,
         case: &Case,
         cuts: &[bool],
         explains: bool,
-        newer: Option<&Finding>,
     ) -> Result<Finding, Fault>
         requires { IsCrew self.now.count }
         ensures finding { IfOk result
@@ -62,10 +79,24 @@ impl<'a, R: Threads + Wait + Sync, G: Gate + Sync> Workers<'a, R, G> {
         ensures fault { IfErr result IsWant }
     {
         let answers = self.answers(case, cuts)?;
-        let count = self.count as usize;
-        let finding = Finding::of(self.rt, self.alloc, case, answers, explains, newer, count)?;
-        Ok(finding)
+        let view = CaseView::of(case);
+        Ok(self.explained(&view, answers, explains, None)?)
     }
+}
+
+/// The answers to all records of a case, whose work is cut at these processes, by one worker.
+pub(crate) fn answers_by_one<R: Threads + Wait + Sync, G: Gate + Sync>(
+    rt: &R,
+    alloc: Global,
+    case: &Case,
+    cuts: &[bool],
+    gate: &G,
+) -> Result<Vec<Answer>, Fault>
+    ensures answers { IfOk result (λ answers. answers.items ≡ judged_in case.now) }
+    ensures fault { IfErr result IsWant }
+{
+    let pieces = run(rt, alloc, case, 1, cuts, gate)?;
+    Ok(collect_whole(alloc, case, pieces)?)
 }
 
 /// A gate that lets every job through at once.

@@ -24,11 +24,11 @@ use Rattle.ll_explanations.specs.Explained.{IsExplanationOf}
 use Rattle.ll_explanations.specs.Findings.{FindingValue, Finds, Tells, kept_at, said_by, said_in}
 use Rattle.ll_explanations.specs.Kept.{if_said}
 use Rattle.ll_explanations.specs.Meanings.{AreMade, explanation_in}
-use Rattle.ll_explanations.specs.TakenLater.{AreTakenLater, IsTakenLater, is_of_rights}
+use Rattle.ll_process.specs.TakenLater.{AreTakenLater, IsTakenLater, is_of_rights}
 use Rattle.ll_explanations.specs.declared.explanation.Explanation.{Explanation}
 use Rattle.ll_explanations.specs.declared.explanation.Explanation.TheVariants.{Nothing, Objections, Failure, Mootness}
 use Rattle.ll_explanations.proofs.FindingTells.{tells, tells_nothing}
-use Rattle.ll_explanations.proofs.TakenLater.{of_rights}
+use Rattle.ll_process.proofs.TakenLater.{of_rights}
 use Rattle.ll_explain.specs.Explained.{text_at, text_of_both}
 use Rattle.ll_explain.specs.Told.{said_text, text_told, value_text}
 use Rattle.ll_explain.specs.Words.{explanation_text, layer_head, layer_text, line_of, objection_text, path_of_call, path_opened, word_for}

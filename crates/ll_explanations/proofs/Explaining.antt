@@ -1,15 +1,18 @@
 -- The explanation of a record by its answer.
 use Rattle.std.proofs.Common.{◌≡◌, ◌≢◌, ◌∙◌, ◌<◌, ℕ, true, false, List, [], ◌∷◌, Option, Some, suc, ap, arith, inl, inr, refl, subst, sym}
-use Rattle.std.specs.Prelude.{◌==◌, length, option_map, slice_get}
+use Rattle.std.specs.Prelude.{◌==◌, IfSome, length, option_map, slice_get}
+use Rattle.std.proofs.lemmas.Option.{IfSome_then}
 use Rattle.std.proofs.lemmas.Bool.{cases_Bool, ne_eqb, true≢false}
 use Rattle.std.proofs.lemmas.Option.{same_Some, slice_get_within}
 use Rattle.ll_rights.specs.declared.abi.Abi.{Abi}
 use Rattle.ll_rules.specs.declared.errno.Errno.{Errno}
 use Rattle.ll_tree.specs.Trees.{Entry}
+use Rattle.ll_tree.specs.declared.place.Place.{Place}
 use Rattle.ll_trace.specs.declared.op.Record.{Record}
 use Rattle.ll_trace.specs.declared.op.Op.{Op}
 use Rattle.ll_trace.specs.declared.op.Op.TheVariants as calls
 use Rattle.ll_trace.specs.Entries.{is_start}
+use Rattle.ll_trace.specs.FirstPlaces.{first_place}
 use Rattle.ll_semantics.specs.declared.answer.Answer.{Answer}
 use Rattle.ll_semantics.specs.declared.answer.Answer.TheVariants.{Allowed, Moot, Refused}
 use Rattle.ll_semantics.specs.Answers.{answer}
@@ -22,8 +25,9 @@ use Rattle.ll_reasons.specs.Conditions.{condition}
 use Rattle.ll_reasons.specs.Explanations.{domain_at, explained, explained_at, failure, mootness, objections, objections_to, origins_at}
 use Rattle.ll_reasons.specs.Meant.{reason_in}
 use Rattle.ll_reasons.specs.Reasons.{reason}
-use Rattle.ll_explanations.specs.Explained.{Explains, IsExplanation, IsExplanationOf}
+use Rattle.ll_explanations.specs.Explained.{Explains, IsExplanation, IsExplanationOf, IsFoundAt}
 use Rattle.ll_explanations.specs.Meanings.{condition_in, explanation_in}
+use Rattle.ll_trails.specs.declared.trail.ProcessOrigins.{ProcessOrigins}
 use Rattle.ll_explanations.specs.declared.condition.Condition.{Condition}
 use Rattle.ll_explanations.specs.declared.explanation.Explanation.{Explanation}
 use Rattle.ll_explanations.specs.declared.explanation.Explanation.TheVariants.{Failure, Mootness}
@@ -64,6 +68,14 @@ pub explains : (case : CaseValue) (place : ℕ) (answer : Answer) (found : Recor
     → IsExplanation case place answer found e → Explains case place answer e
 explains case place answer found e read is r eq =
     subst (λ (one : Record). IsExplanation case place answer one e) (same_Some found r (sym read ∙ eq)) is
+
+-- the first place of the call there, if it is known
+pub known_there : (case : CaseValue) (place : ℕ) (tree : List Entry) (op : Op) (trail : ProcessOrigins) → IsFoundAt case place op trail
+    → (known : Option Place) → tree ≡ case.tree
+    → IfSome known (λ one. (r : Record) → slice_get case.records place ≡ Some r → one ≡ first_place case.tree r.op)
+    → IfSome known (λ one. one ≡ first_place tree op)
+known_there case place tree op trail found known same is =
+    IfSome_then known is (λ one first. rw (same, found.call) (first found.r found.there))
 
 -- what explains the record there that no layer refuses, and one that is moot
 module _ (tree : List Entry) (abi : Abi) (records : List Record) (place : ℕ) (found r : Record) (read : slice_get records place ≡ Some found)

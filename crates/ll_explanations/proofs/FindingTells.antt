@@ -12,10 +12,10 @@ use Rattle.ll_semantics.specs.declared.answer.Answer.{Answer}
 use Rattle.ll_semantics.specs.Worlds.{judged}
 use Rattle.ll_explanations.specs.Findings.{FindingValue, Finds, Tells, kept_at, said_by, said_in}
 use Rattle.ll_explanations.specs.Kept.{call_kept, if_said, is_silent, kept_of}
-use Rattle.ll_explanations.specs.TakenLater.{AreTakenLater, IsTakenLater}
+use Rattle.ll_process.specs.TakenLater.{AreTakenLater, IsTakenLater}
 use Rattle.ll_explanations.specs.declared.explained.Explained.{Explained}
 use Rattle.ll_explanations.specs.declared.explanation.Explanation.{Explanation}
-use Rattle.ll_explanations.proofs.TakenLater.{later_there}
+use Rattle.ll_process.proofs.TakenLater.{later_there}
 
 -- the call that was kept, or that of the record as it is taken later, is the record's
 call_is : (l r : Record) → IsTakenLater l r → unwrap_or (call_kept r.op) l.op ≡ r.op

@@ -9,7 +9,6 @@ pub mod Following
 pub mod Beyond
 pub mod Wanting
 pub mod Explaining
-pub mod TakenLater
 pub mod FindingTells
 pub mod KeepingAll
 pub mod Grouping

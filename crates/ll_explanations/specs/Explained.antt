@@ -3,10 +3,13 @@
 use Rattle.std.specs.Prelude.{◌≡◌, ℕ, List, Some, slice_get}
 use Rattle.ll_rights.specs.declared.abi.Abi.{Abi}
 use Rattle.ll_tree.specs.Trees.{Entry}
+use Rattle.ll_trace.specs.declared.op.Op.{Op}
 use Rattle.ll_trace.specs.declared.op.Record.{Record}
 use Rattle.ll_semantics.specs.declared.answer.Answer.{Answer}
 use Rattle.ll_process.specs.Cases.{CaseValue}
 use Rattle.ll_reasons.specs.Explanations.{explained_at, origins_at}
+use Rattle.ll_trails.specs.TraceOrigins.{Follows}
+use Rattle.ll_trails.specs.declared.trail.ProcessOrigins.{ProcessOrigins}
 use Rattle.ll_explanations.specs.Meanings.{AreMade, explanation_in}
 use Rattle.ll_explanations.specs.declared.explanation.Explanation.{Explanation}
 
@@ -21,3 +24,10 @@ IsExplanation case = IsExplanationOf case.tree case.abi case.records
 
 abbrev pub Explains : CaseValue → ℕ → Answer → Explanation → Type 0
 Explains case place answer e = (r : Record) → slice_get case.records place ≡ Some r → IsExplanation case place answer r e
+
+-- the call of the record at a place of a case, and where all that its process has before it comes from
+pub record IsFoundAt (case : CaseValue) (place : ℕ) (op : Op) (trail : ProcessOrigins) : Type 0 where
+  pub r : Record
+  pub there : slice_get case.records place ≡ Some r
+  pub call : op ≡ r.op
+  pub follows : Follows trail (origins_at case.tree case.abi case.records place r.process.0)

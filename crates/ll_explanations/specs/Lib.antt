@@ -5,7 +5,6 @@ pub mod Adding
 pub mod MoveRequests
 pub mod Asking
 pub mod Explained
-pub mod TakenLater
 pub mod Kept
 pub mod Findings
 pub mod Stretches

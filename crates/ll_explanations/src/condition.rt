@@ -13,9 +13,10 @@ ghost use Rattle.ll_trails.specs.TraceOrigins.{Follows};
 ghost use Rattle.ll_explanations.specs.Meanings.{condition_in, path_of_rule};
 
 use crate::missing::{Test, passing};
+use ll_process::CaseView;
 use ll_rights::{Abi, Fs, Net, NetRight};
 use ll_rules::Errno;
-use ll_trace::{Op, Record};
+use ll_trace::Op;
 use ll_trails::ProcessOrigins;
 
 /// Why a call fails by no layer. Each variant stands for the condition of the same name in the definitions.
@@ -78,23 +79,23 @@ fn beyond_on_ports(rights: Net, whole: Net) -> Net
 }
 
 /// The call of the record that created the ruleset which a number of a process names.
-fn creation<'t>(records: &'t [Record], trail: &ProcessOrigins, rs: u64) -> Option<&'t Op>
+fn creation<'t>(case: &'t CaseView<'_>, trail: &ProcessOrigins, rs: u64) -> Option<&'t Op>
     ensures { option_map (λ op. op.now) result ≡ option_map (λ r. r.op)
-        (option_and_then (slice_get records.now) (get trail.now.rulesets rs)) }
+        (option_and_then (slice_get case.now.records) (get trail.now.rulesets rs)) }
 {
     let place = *trail.rulesets.get(rs)?;
-    let record = records.get(place as usize)?;
-    Some(&record.op)
+    case.op(place as usize)
 }
 
 /// The rights for files and those for ports that a ruleset of a process handles.
 #[tactic(auto, unfolding(ll_reasons::specs::Conditions::handled, ll_reasons::specs::Conditions::handled_on_ports))]
-fn handled(records: &[Record], trail: &ProcessOrigins, rs: u64) -> (Fs, Net)
-    ensures files { (o : Origins) → Follows trail.now o → result.0 ≡ handled records.now o rs }
+fn handled(case: &CaseView<'_>, trail: &ProcessOrigins, rs: u64) -> (Fs, Net)
+    ensures files { (o : Origins) → Follows trail.now o
+        → result.0 ≡ handled case.now.records o rs }
     ensures ports { (o : Origins) → Follows trail.now o
-        → result.1 ≡ handled_on_ports records.now o rs }
+        → result.1 ≡ handled_on_ports case.now.records o rs }
 {
-    match creation(records, trail, rs) {
+    match creation(case, trail, rs) {
         Some(Op::Create { fs, net, .. }) => (*fs, *net),
         _ => (Fs::NONE, Net::NONE),
     }
@@ -154,14 +155,14 @@ fn unknown(abi: Abi, fs: Fs) -> Condition
 /// The condition of an error that a call fails with by no layer.
 #[tactic(auto, unfolding(crate::specs::Meanings::failing))]
 pub(crate) fn condition_of(
-    records: &[Record],
+    case: &CaseView<'_>,
     trail: &ProcessOrigins,
     abi: Abi,
     op: &Op,
     error: Errno,
 ) -> Condition
     ensures { (o : Origins) → Follows trail.now o
-        → condition_in op.now result ≡ conditions.condition abi records.now o op.now error }
+        → condition_in op.now result ≡ conditions.condition abi case.now.records o op.now error }
 {
     match (op, error) {
         (Op::Create { .. }, Errno::TooBig) => Condition::Portless(abi),
@@ -173,10 +174,10 @@ pub(crate) fn condition_of(
             Condition::Unheld(*rs)
         }
         (Op::AddPath { rs, fs, .. }, Errno::Inval) => {
-            invalid_on_path(*fs, handled(records, trail, *rs).0)
+            invalid_on_path(*fs, handled(case, trail, *rs).0)
         }
         (Op::AddPort { rs, port, net }, Errno::Inval) => {
-            invalid_on_port(abi, *port, *net, handled(records, trail, *rs).1)
+            invalid_on_port(abi, *port, *net, handled(case, trail, *rs).1)
         }
         (Op::Restrict { .. }, Errno::Perm) => Condition::Unprivileged,
         (Op::Restrict { .. }, Errno::TooBig) => Condition::Full,

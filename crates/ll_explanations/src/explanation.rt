@@ -1,23 +1,21 @@
 //! The explanation of a record of a case.
 
-ghost use Rattle.std.specs.Prelude.{◌≡◌, ◌≢◌, [], IfOk, Some, slice_get};
+ghost use Rattle.std.specs.Prelude.{◌≡◌, ◌≢◌, [], IfOk};
 ghost use Rattle.ll_semantics.specs.declared.answer.Answer.TheVariants.{Allowed, Moot, Refused};
 ghost use Rattle.ll_process.specs.Cases.{IsCase};
-ghost use Rattle.ll_reasons.specs.Explanations.{origins_at};
 ghost use Rattle.ll_trails.specs.CaseTrails.{AreTrailsAt, IsAnswerAt};
-ghost use Rattle.ll_trails.specs.TraceOrigins.{Follows};
-ghost use Rattle.ll_explanations.specs.{Explained.Explains, Kept.is_silent};
+ghost use Rattle.ll_explanations.specs.{Explained.Explains, Explained.IsFoundAt, Kept.is_silent};
 
 use crate::call::objections_to;
 use crate::condition::{Condition, condition_of};
 use crate::confinement::Confinement;
 use crate::mootness::reason_of;
 use crate::objection::LayerObjections;
-use ll_process::Case;
+use ll_process::CaseView;
 use ll_reasons::Reason;
 use ll_rules::{Errno, LayerSet, NoMemory};
 use ll_semantics::Answer;
-use ll_trace::Record;
+use ll_trace::Op;
 use ll_trails::{ProcessOrigins, TraceOrigins, domain_of};
 use std::alloc::Global;
 
@@ -48,51 +46,49 @@ impl Explanation {
     }
 }
 
-/// The record at a place, and where all that its process has comes from; the record isn't the process's first.
+/// The call of the record at a place, and where all that its process has comes from; the record isn't the process's first.
 fn found_at<'t>(
-    case: &'t Case,
+    case: &'t CaseView<'_>,
     trails: &'t TraceOrigins,
     place: usize,
     answer: Answer,
-) -> (&'t Record, &'t ProcessOrigins)
+) -> (&'t Op, &'t ProcessOrigins)
     requires answer { IsAnswerAt case.now place answer }
     requires known { answer ≢ Allowed }
     requires trails { AreTrailsAt case.now place trails.now }
     ensures case { IsCase case.now }
-    ensures read { slice_get case.now.records place ≡ Some result.0.now }
-    ensures trail { Follows result.1.now
-        (origins_at case.now.tree case.now.abi case.now.records place result.0.now.process.0) }
+    ensures found { IsFoundAt case.now place result.0.now result.1.now }
 {
-    let found = &case.trace().records()[place];
-    (found, trails.of(found.process))
+    let (op, process) = case.call(place);
+    (op, trails.of(process))
 }
 
 /// Why a moot record isn't asked about.
-fn moot(case: &Case, trails: &TraceOrigins, place: usize) -> Explanation
+fn moot(case: &CaseView<'_>, trails: &TraceOrigins, place: usize) -> Explanation
     requires answer { IsAnswerAt case.now place Moot }
     requires trails { AreTrailsAt case.now place trails.now }
     ensures { Explains case.now place Moot result }
 {
-    let (found, trail) = found_at(case, trails, place, Answer::Moot);
+    let (op, trail) = found_at(case, trails, place, Answer::Moot);
     let known = case.known_place(place);
-    Explanation::Mootness(reason_of(case.tree(), trail, &found.op, known))
+    Explanation::Mootness(reason_of(case.tree(), trail, op, known))
 }
 
 /// Why a record is refused by no layer.
-fn failed(case: &Case, trails: &TraceOrigins, place: usize, error: Errno) -> Explanation
+fn failed(case: &CaseView<'_>, trails: &TraceOrigins, place: usize, error: Errno) -> Explanation
     requires answer { IsAnswerAt case.now place (Refused error []) }
     requires trails { AreTrailsAt case.now place trails.now }
     ensures { Explains case.now place (Refused error []) result }
 {
     let answer = Answer::Refused(error, LayerSet::new());
-    let (found, trail) = found_at(case, trails, place, answer);
-    Explanation::Failure(condition_of(case.trace().records(), trail, case.abi(), &found.op, error))
+    let (op, trail) = found_at(case, trails, place, answer);
+    Explanation::Failure(condition_of(case, trail, case.abi(), op, error))
 }
 
 /// What the layers that refuse a record object to.
 fn refused(
     alloc: Global,
-    case: &Case,
+    case: &CaseView<'_>,
     trails: &TraceOrigins,
     place: usize,
     error: Errno,
@@ -103,7 +99,7 @@ fn refused(
     requires trails { AreTrailsAt case.now place trails.now }
     ensures { IfOk result (Explains case.now place (Refused error numbers)) }
 {
-    let (found, trail) = found_at(case, trails, place, Answer::Refused(error, numbers));
+    let (op, trail) = found_at(case, trails, place, Answer::Refused(error, numbers));
     let domain = domain_of(alloc, case, trail)?;
     let ctx = Confinement {
         trail,
@@ -112,7 +108,7 @@ fn refused(
         domain: &domain,
     };
     let known = case.known_place(place);
-    let all = objections_to(alloc, &ctx, &found.op, error, numbers, known)?;
+    let all = objections_to(alloc, &ctx, op, error, numbers, known)?;
     Ok(Explanation::Objections(LayerObjections { all }))
 }
 
@@ -120,7 +116,7 @@ fn refused(
 /// An error says that memory ran out.
 pub fn explain(
     alloc: Global,
-    case: &Case,
+    case: &CaseView<'_>,
     trails: &TraceOrigins,
     place: usize,
     answer: Answer,

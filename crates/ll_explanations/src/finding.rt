@@ -6,8 +6,8 @@ ghost use Rattle.ll_explanations.specs.Findings.{Finds, answer_in, kept_at, said
 
 use crate::explained::SharedExplanation;
 use crate::explanation::Explanation;
-use crate::stretches::explain_all;
-use ll_process::Case;
+use crate::stretches::{explain_all, explain_alone};
+use ll_process::CaseView;
 use ll_rules::NoMemory;
 use ll_semantics::Answer;
 use ll_trace::{Op, Record};
@@ -37,7 +37,7 @@ impl Finding {
     pub fn of<R: Threads + Sync>(
         rt: &R,
         alloc: Global,
-        case: &Case,
+        case: &CaseView<'_>,
         answers: Vec<Answer>,
         explains: bool,
         newer: Option<&Finding>,
@@ -48,6 +48,28 @@ impl Finding {
     {
         let explanations = if explains {
             explain_all(rt, alloc, case, &answers, newer, workers)?
+        } else {
+            Vec::new(alloc)
+        };
+        Ok(Finding {
+            answers,
+            explanations,
+        })
+    }
+
+    /// What is found of the records of a case, as [`Finding::of`] finds it, by the calling thread alone.
+    pub fn alone(
+        alloc: Global,
+        case: &CaseView<'_>,
+        answers: Vec<Answer>,
+        explains: bool,
+        newer: Option<&Finding>,
+    ) -> Result<Finding, NoMemory>
+        requires { answers.items ≡ judged case.now.tree case.now.abi case.now.records }
+        ensures { IfOk result (Finds explains case.now.tree case.now.abi case.now.records) }
+    {
+        let explanations = if explains {
+            explain_alone(alloc, case, &answers, newer)?
         } else {
             Vec::new(alloc)
         };

@@ -6,10 +6,10 @@ ghost use Rattle.ll_tree.specs.Trees.{Entry};
 ghost use Rattle.ll_trace.specs.{declared.op.Record.Record as OneRecord, BestEffort.records_at_best_effort};
 ghost use Rattle.ll_semantics.specs.{declared.answer.Answer.Answer as Given, Worlds.judged};
 ghost use Rattle.ll_explanations.specs.Findings.{FindingValue, Finds, Tells, said_in};
-ghost use Rattle.ll_explanations.specs.TakenLater.{AreTakenLater};
+ghost use Rattle.ll_process.specs.TakenLater.{AreTakenLater};
 
 /// Records are taken later as they are; what is taken later may be taken again; and best effort takes them so.
-#[tactic(auto, using(crate::proofs::TakenLater::taken_as_they_are, crate::proofs::TakenLater::taken_again, crate::proofs::TakenLater::taken_at_best_effort))]
+#[tactic(auto, using(ll_process::proofs::TakenLater::taken_as_they_are, ll_process::proofs::TakenLater::taken_again, ll_process::proofs::TakenLater::taken_at_best_effort))]
 pub fn records_are_taken_later()
     ensures same { (records : List OneRecord) → AreTakenLater records records }
     ensures again { (last later records : List OneRecord) → AreTakenLater last later

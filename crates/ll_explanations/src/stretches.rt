@@ -13,7 +13,7 @@ use crate::explained::SharedExplanation;
 use crate::explanation::explain;
 use crate::finding::Finding;
 use crate::stretch::Stretch;
-use ll_process::Case;
+use ll_process::CaseView;
 use ll_rules::NoMemory;
 use ll_semantics::Answer;
 use ll_trails::TraceOrigins;
@@ -33,7 +33,7 @@ pub(crate) type Explaining = Result<Vec<SharedExplanation>, NoMemory>;
 /// What is kept of the explanation of the record at a place of a case.
 fn explain_one(
     alloc: Global,
-    case: &Case,
+    case: &CaseView<'_>,
     trails: &TraceOrigins,
     place: usize,
     answer: Answer,
@@ -45,7 +45,7 @@ fn explain_one(
     ensures { IfOk result (IsKept case.now.tree case.now.abi case.now.records place answer) }
 {
     let explanation = explain(alloc, case, trails, place, answer)?;
-    let op = &case.trace().records()[place].op;
+    let (op, _) = case.call(place);
     let newer = match newer {
         Some(newer) => newer.kept(place),
         None => None,
@@ -55,7 +55,7 @@ fn explain_one(
 }
 
 /// The answer to the record at a place of a case.
-fn answer_at(case: &Case, answers: &[Answer], place: usize) -> Answer
+fn answer_at(case: &CaseView<'_>, answers: &[Answer], place: usize) -> Answer
     requires judged { answers.now ≡ judged case.now.tree case.now.abi case.now.records }
     requires within { place < length answers.now }
     ensures answer { IsAnswerAt case.now place result }
@@ -67,7 +67,7 @@ fn answer_at(case: &Case, answers: &[Answer], place: usize) -> Answer
 /// Follows the records of a case from a place on, up to another.
 fn follow_to(
     alloc: Global,
-    case: &Case,
+    case: &CaseView<'_>,
     answers: &[Answer],
     trails: &mut TraceOrigins,
     from: usize,
@@ -88,7 +88,7 @@ fn follow_to(
 /// What is kept of the explanations of the records from a place on, up to another.
 fn explain_from(
     alloc: Global,
-    case: &Case,
+    case: &CaseView<'_>,
     answers: &[Answer],
     newer: Option<&Finding>,
     trails: TraceOrigins,
@@ -223,11 +223,27 @@ fn join_parts(alloc: Global, parts: Vec<Explaining>) -> Result<Vec<SharedExplana
     Ok(all)
 }
 
+/// What is kept of the explanations of all records of a case, worked out by the calling thread.
+pub(crate) fn explain_alone(
+    alloc: Global,
+    case: &CaseView<'_>,
+    answers: &[Answer],
+    newer: Option<&Finding>,
+) -> Explaining
+    requires { answers.now ≡ judged case.now.tree case.now.abi case.now.records }
+    ensures as_many { IfOk result (λ all. length all.items ≡ length case.now.records) }
+    ensures each { IfOk result
+        (λ all. AreKept case.now.tree case.now.abi case.now.records all.items) }
+{
+    let whole = Stretch::whole(alloc, case, answers, newer);
+    whole.explained(alloc)
+}
+
 /// The number of stretches in which the records of a case are explained. Each takes a copy of what is known of all
 /// processes.
-fn stretches_of(case: &Case, workers: usize) -> usize {
-    let processes = case.trace().processes().max(1) as usize;
-    let worth = case.trace().records().len() / processes / RECORDS_EACH;
+fn stretches_of(case: &CaseView<'_>, workers: usize) -> usize {
+    let processes = case.processes().max(1) as usize;
+    let worth = case.count() / processes / RECORDS_EACH;
     workers.min(MOST_STRETCHES).min(worth.max(1))
 }
 
@@ -235,7 +251,7 @@ fn stretches_of(case: &Case, workers: usize) -> usize {
 pub(crate) fn explain_all<R: Threads + Sync>(
     rt: &R,
     alloc: Global,
-    case: &Case,
+    case: &CaseView<'_>,
     answers: &[Answer],
     newer: Option<&Finding>,
     workers: usize,

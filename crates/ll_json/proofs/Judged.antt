@@ -20,7 +20,7 @@ use Rattle.ll_reasons.specs.Objections as objecting
 use Rattle.ll_explanations.specs.Findings.{FindingValue, Finds, answer_in, said_in}
 use Rattle.ll_explanations.specs.Kept.{if_said, is_silent}
 use Rattle.ll_explanations.specs.Meanings.{AreMade, explanation_in, objection_in}
-use Rattle.ll_explanations.specs.TakenLater.{AreTakenLater}
+use Rattle.ll_process.specs.TakenLater.{AreTakenLater}
 use Rattle.ll_explanations.specs.declared.explanation.Explanation.{Explanation}
 use Rattle.ll_explanations.specs.declared.explanation.Explanation.TheVariants.{Nothing, Objections, Failure, Mootness}
 use Rattle.ll_explanations.specs.declared.objection.LayerObjection.{LayerObjection}

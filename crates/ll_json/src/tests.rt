@@ -4,7 +4,7 @@ use crate::json_report;
 use ll_explanations::Finding;
 use ll_fixtures::TREE;
 use ll_pool::judge_alone;
-use ll_process::Case;
+use ll_process::{Case, CaseView};
 use ll_report::{ALL_LINES, Report, Shown};
 use ll_rights::Abi;
 use ll_trace::{Located, Trace};
@@ -80,7 +80,15 @@ fn report_on_trace<R: Threads + AllocGlobal + Sync>(rt: &R, shown: Shown) -> Res
     let case = Case::of_located(alloc, located, Abi::V4)?;
     let answers = judge_alone(alloc, &case)?;
     let mut findings = Vec::new(alloc);
-    findings.push(Finding::of(rt, alloc, &case, answers, shown.explanations, None, 1)?)?;
+    findings.push(Finding::of(
+        rt,
+        alloc,
+        &CaseView::of(&case),
+        answers,
+        shown.explanations,
+        None,
+        1,
+    )?)?;
     let report = json_report(alloc, case.into_located(), findings, shown, 4, "7.8.9")?;
     Ok(report.into_report(alloc)?)
 }

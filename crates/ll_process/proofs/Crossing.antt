@@ -1,8 +1,9 @@
--- A job and a piece may be handed to another thread.
+-- A job and a piece may be handed to another thread, and a case to be read may be seen by several.
 use denote.Ref.{NamedLft}
-use denote.Param.Send.{IsSend, IsSync, sendable, recorded_send, struct_send}
+use denote.Param.Send.{IsSend, IsSync, sendable, recorded_send, recorded_sync, struct_send, struct_sync}
 use denote.Struct.Declared.{shape}
 use Rattle.std.proofs.Crossing.{crosses}
+use Rattle.std.proofs.MapsCrossing as maps
 use Rattle.ll_shared.proofs.Crossing.{map_send}
 use Rattle.ll_tree.proofs.tree.Tree.TheSendSync as tree
 use Rattle.ll_trace.proofs.trace.Trace.TheSendSync as trace
@@ -13,7 +14,11 @@ use Rattle.ll_semantics.proofs.answer.Answer.TheSendSync as answer
 use Rattle.ll_semantics.proofs.answer.Descriptor.TheSendSync as descriptor
 use Rattle.ll_semantics.proofs.answer.RulesetOutcome.TheSendSync as outcome
 use Rattle.ll_state.specs.contracts.own_state.OwnState as OwnState
+use Rattle.ll_trace.proofs.op.Op.TheSendSync as op
+use Rattle.ll_trace.proofs.op.Record.TheSendSync as entry
 use Rattle.ll_process.specs.contracts.case.Case as Case
+use Rattle.ll_process.specs.contracts.past.PastCase as PastCase
+use Rattle.ll_process.specs.contracts.view.CaseView as CaseView
 use Rattle.ll_process.specs.contracts.job.Job as Job
 use Rattle.ll_process.specs.contracts.piece.Piece as Piece
 
@@ -37,3 +42,18 @@ piece_send a =
       search (case_sync, sendable) depth 20,
       (search (process.the_send, crosses, sendable) depth 40, (search (answer.the_send, crosses, sendable) depth 40, tt)),
     ))
+
+-- a past case may be seen by several threads, and so may a case to be read
+pub past_sync : IsSync PastCase.the_row
+past_sync =
+    recorded_sync (PastCase.the_field).row _ _ (PastCase.the_type).to_one
+    (struct_sync (shape PastCase.the_type) (
+      search sendable depth 20,
+      (
+        search (outcome.the_sync, crosses, sendable) depth 40,
+        (search (layer_sync, crosses, sendable) depth 40, (search (op.the_sync, maps.crosses, sendable) depth 40, tt)),
+      ),
+    ))
+
+pub view_sync : (a : NamedLft) → IsSync (CaseView.the_row a)
+view_sync a = search (case_sync, past_sync, entry.the_sync, crosses, sendable) depth 40

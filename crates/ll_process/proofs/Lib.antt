@@ -5,3 +5,5 @@ pub mod Walked
 pub mod Descents
 pub mod Roots
 pub mod Crossing
+pub mod TakenLater
+pub mod PastCases

@@ -4,3 +4,6 @@ pub mod Cases
 pub mod Jobs
 pub mod Own
 pub mod AgreesOnce
+pub mod TakenLater
+pub mod RightCalls
+pub mod PastCases

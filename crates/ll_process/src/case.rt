@@ -1,19 +1,21 @@
 //! What is judged: a tree, a trace, a version of the interface, and the rulebook.
 
-ghost use Rattle.std.specs.Prelude.{◌≡◌, ◌<◌, ℕ, All, Some, IfOk, IfSome, length, slice_get};
+ghost use Rattle.std.specs.Prelude.{◌≡◌, ◌<◌, ℕ, All, List, Some, IfOk, IfSome, length, slice_get};
 ghost use Rattle.std.specs.Option.{option_map};
 ghost use Rattle.ll_process.specs.Cases.{IsCase};
+ghost use Rattle.ll_process.specs.{PastCases.as_it_was, TakenLater.AreTakenLater};
 ghost use Rattle.ll_trace.specs.declared.op.Record.{Record as OneRecord};
 ghost use Rattle.ll_trace.specs.FirstPlaces.{AreFirstPlaces, first_place};
 ghost use Rattle.ll_trace.specs.Processes.{process_count, own_records, forked_at};
 
+use crate::past::{PastCase, calls_of_rights};
 use ll_rights::Abi;
 use ll_rulebook::Rulebook;
 use ll_rules::{Layer, NoMemory};
 use ll_semantics::RulesetOutcome;
 use ll_trace::{Located, Op, ProcessId, Record, Trace};
 use ll_tree::{Place, Tree};
-use std::alloc::Global;
+use std::alloc::{AllocError, Global};
 use std::marker::Model;
 
 /// A tree, a trace and a version of the interface, with what follows from the rulesets of the whole
@@ -104,6 +106,38 @@ impl Case {
             trace: self.trace,
             places: self.places,
         }
+    }
+
+    /// Gives back the tree and the trace as [`Case::into_located`] does, and what the case can be read by once an older
+    /// version has taken the trace ([`CaseView::past`](crate::CaseView::past)).
+    pub fn into_past(self, alloc: Global) -> Result<(Located, PastCase), AllocError>
+        ensures tree { IfOk result (λ both. both.0.tree ≡ self.tree) }
+        ensures records { IfOk result (λ both. both.0.trace ≡ self.records) }
+        ensures past { IfOk result (λ both. (later : List OneRecord)
+            → AreTakenLater later self.records → as_it_was self.tree later both.1 ≡ self) }
+        ensures case { IsCase self }
+    {
+        let Case {
+            tree,
+            trace,
+            abi,
+            outcomes,
+            layers,
+            places,
+        } = self;
+        let calls = calls_of_rights(alloc, &trace)?;
+        let past = PastCase {
+            abi,
+            outcomes,
+            layers,
+            calls,
+        };
+        let located = Located {
+            tree,
+            trace,
+            places,
+        };
+        Ok((located, past))
     }
 
     /// The tree that was passed in.

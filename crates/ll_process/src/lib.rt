@@ -8,8 +8,10 @@ mod descend;
 mod hand;
 mod job;
 mod laws;
+mod past;
 mod piece;
 mod starting;
+mod view;
 mod walk;
 
 pub use case::Case;
@@ -18,4 +20,6 @@ pub use hand::Hand;
 pub use job::Job;
 pub use laws::{each_process_once, law_of_orders};
 pub use ll_semantics::Answer;
+pub use past::PastCase;
 pub use piece::Piece;
+pub use view::CaseView;

@@ -7,7 +7,7 @@ use Rattle.ll_tree.specs.Trees.{Entry}
 use Rattle.ll_trace.specs.declared.op.Record.{Record}
 use Rattle.ll_semantics.specs.declared.answer.Answer.{Answer}
 use Rattle.ll_explanations.specs.Findings.{FindingValue, Finds}
-use Rattle.ll_explanations.specs.TakenLater.{AreTakenLater, IsTakenLater}
+use Rattle.ll_process.specs.TakenLater.{AreTakenLater, IsTakenLater}
 use Rattle.ll_explain.specs.Explained.{text_at}
 use Rattle.ll_explain.specs.Told.{text_told}
 use Rattle.ll_explain.proofs.FindingSays.{said_as_judged}

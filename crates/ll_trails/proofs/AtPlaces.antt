@@ -23,6 +23,13 @@ use Rattle.ll_trails.specs.TraceOrigins.{AreTrails}
 pub read_there : {X : Type 0} (xs read : List X) (k : ℕ) (x : X) → read ≡ xs → k < length xs → x ≡ get_or read k x → slice_get xs k ≡ Some x
 read_there {X = X} xs read k x same within is = slice_get_read xs (length xs) k x refl within (is ∙ ap (λ (ys : List X). get_or ys k x) same)
 
+-- there is a record at a place below their number
+pub record_there : (records : List Record) (place : ℕ) → place < length records → (r : Record) × (slice_get records place ≡ Some r)
+record_there records place within = elim ((slice_get_cases records place).1) [
+  | inl there ↦ (there.0, there.2)
+  | inr past ↦ absurd (omega (arith, within, past.0))
+]
+
 module _ (tree : List Entry) (abi : Abi) (records : List Record) where
   -- there are none before the first record
   pub sources_at-first : sources_at tree abi records 0 ≡ no_sources

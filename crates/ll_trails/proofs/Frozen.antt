@@ -64,26 +64,25 @@ noted ctx op (Frozen id) fits = fits
 noted ctx op ByState fits = without_layer ctx (enforced ctx.rulesets op ctx.state) fits.1
 
 -- the outcome at a place names the layer that the record there enforces
-pub noted_at : (cv : CaseValue) (read : List Record) (k process : ℕ) (outcome : RulesetOutcome) → IsCase cv → read ≡ cv.records → k < length read
-    → slice_get cv.outcomes k ≡ Some outcome
+pub noted_at : (cv : CaseValue) (k process : ℕ) (outcome : RulesetOutcome) → IsCase cv → k < length cv.records → slice_get cv.outcomes k ≡ Some outcome
     → IsFrozen (met_by cv.tree cv.abi cv.layers (world_at cv.tree cv.abi cv.records k) process) (layer_in outcome) (enforced_at cv.tree cv.abi cv.records k)
 unfolding enforced_at enforced_by
-noted_at cv read k process outcome case same within says = elim ((slice_get_cases cv.records k).1) [
+noted_at cv k process outcome case within says = elim ((slice_get_cases cv.records k).1) [
   | inl there ↦
       let r : Record = there.0 in
       let world : World = world_at cv.tree cv.abi cv.records k in
       let fits : OutcomeFits (met_by cv.tree cv.abi cv.layers world r.process.0) r.op outcome = case.settled.fits k r outcome there.2 says in
       rw (there.2) (of_any cv world r.process.0 process (layer_in outcome) (enforced world.rulesets r.op (world.processes r.process.0))
       (noted (met_by cv.tree cv.abi cv.layers world r.process.0) r.op outcome fits))
-  | inr past ↦ absurd (omega (arith, within, past.0, ap (λ (rs : List Record). length rs) same))
+  | inr past ↦ absurd (omega (arith, within, past.0))
 ]
 
 -- no record past the last enforces any
-pub none_past : (cv : CaseValue) (read : List Record) (k process : ℕ) → read ≡ cv.records → length read ≤ k
+pub none_past : (cv : CaseValue) (k process : ℕ) → length cv.records ≤ k
     → IsFrozen (met_by cv.tree cv.abi cv.layers (world_at cv.tree cv.abi cv.records k) process) None (enforced_at cv.tree cv.abi cv.records k)
 unfolding enforced_at enforced_by
-none_past cv read k process same past =
-    let here : slice_get cv.records k ≡ None = slice_get_past cv.records k (omega (arith, past, ap (λ (rs : List Record). length rs) same)) in
+none_past cv k process past =
+    let here : slice_get cv.records k ≡ None = slice_get_past cv.records k past in
     without_layer _ _ (ap (λ (x : Option Record). enforced_by (world_at cv.tree cv.abi cv.records k) x) here)
 
 -- ---- the layers of some records, in order

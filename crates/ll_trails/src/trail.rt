@@ -7,11 +7,11 @@ ghost use Rattle.ll_trails.specs.CaseTrails.{AreTrailsAt, IsAnswerAt, ObjectToTh
 ghost use Rattle.ll_trails.specs.TraceOrigins.{AreTrails, Follows};
 
 use crate::openings::Openings;
-use ll_process::Case;
+use ll_process::CaseView;
 use ll_rules::NoMemory;
 use ll_semantics::Answer;
 use ll_shared::SharedMap;
-use ll_trace::{Op, ProcessId, Record, changes_nothing};
+use ll_trace::{Op, ProcessId, changes_nothing};
 use std::alloc::{AllocError, Global};
 
 /// Where the layers, open descriptors and rulesets of one process come from: the records that made them, by their
@@ -140,7 +140,7 @@ impl TraceOrigins {
     pub fn follow(
         &mut self,
         alloc: Global,
-        case: &Case,
+        case: &CaseView<'_>,
         place: usize,
         answer: Answer,
     ) -> Result<(), NoMemory>
@@ -149,35 +149,35 @@ impl TraceOrigins {
         requires trails { AreTrailsAt case.now place self.old }
         ensures { OnOk result (AreTrailsAt case.now (place + 1) self.new) }
     {
-        let record = &case.trace().records()[place];
-        self.follow_by(alloc, place as u32, record, answer)?;
+        let (op, process) = case.call(place);
+        self.follow_by(alloc, place as u32, op, process, answer)?;
         Ok(())
     }
 
-    /// Follows a record at a place and its answer.
+    /// Follows the call of a process by the record at a place, and its answer.
     #[tactic(auto, unfolding(ll_reasons::specs::Origins::sources_by))]
     fn follow_by(
         &mut self,
         alloc: Global,
         place: u32,
-        record: &Record,
+        op: &Op,
+        process: ProcessId,
         answer: Answer,
     ) -> Result<(), NoMemory>
-        requires { is_start «record».now.op ≡ false
-            → «record».now.process.0 < length self.old.trails.items }
+        requires { is_start op.now ≡ false → process.0 < length self.old.trails.items }
         ensures { OnOk result ((sources : Sources) → AreTrails self.old.trails.items sources
             → AreTrails self.new.trails.items
-            (sources_by place «record».now.op «record».now.process.0 answer sources)) }
+            (sources_by place op.now process.0 answer sources)) }
     {
-        let process = record.process.0 as usize;
-        match record.op {
+        let number = process.0 as usize;
+        match op {
             Op::Start { .. } => self.begin(ProcessOrigins::new(alloc))?,
             Op::Fork { .. } => {
-                let child = self.trails[process].again()?;
+                let child = self.trails[number].again()?;
                 self.begin(child)?;
             }
             _ => match answer {
-                Answer::Allowed => self.trails[process].follow(place, &record.op)?,
+                Answer::Allowed => self.trails[number].follow(place, op)?,
                 Answer::Moot | Answer::Refused(_, _) => {}
             },
         }

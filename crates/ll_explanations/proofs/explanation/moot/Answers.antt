@@ -1,14 +1,24 @@
 -- The reason that is worked out by the trail is that of the record there.
-use Rattle.std.proofs.Common.{◌∙◌, ap}
+use Rattle.std.proofs.Common.{◌∙◌, ap, sym}
+use Rattle.std.specs.Option.{option_map}
 use Rattle.ll_reasons.specs.Explanations.{origins_at}
+use Rattle.ll_reasons.specs.Meant.{reason_in}
 use Rattle.ll_reasons.specs.Reasons.{reason}
-use Rattle.ll_explanations.proofs.Explaining.{is_moot}
+use Rattle.ll_explanations.proofs.Explaining.{is_moot, known_there}
 use Rattle.ll_explanations.proofs.explanation.moot.Goals as goal
+
+pub reason_of-requires : goal.reason_of-requires
+reason_of-requires c =
+    known_there c.args.case.now c.args.place c.tree.result.now c.found_at.result.0.now c.found_at.result.1.now c.found_at.ensures.found
+    c.known_place-known.result c.tree.ensures c.known_place-known.ensures
 
 pub returns : goal.returns
 returns c r eq =
     let cv = c.args.case.now in
-    let found = c.found_at.result.0.now in
-    let o = origins_at cv.tree cv.abi cv.records c.args.place found.process.0 in
-    is_moot cv.tree cv.abi cv.records c.args.place found r c.found_at.ensures.read eq c.reason_of.result
-    (c.reason_of.ensures o c.found_at.ensures.trail ∙ ap (λ tree. reason tree o found.op) c.tree.ensures)
+    let found = c.found_at.ensures.found in
+    let o = origins_at cv.tree cv.abi cv.records c.args.place found.r.process.0 in
+    is_moot cv.tree cv.abi cv.records c.args.place found.r r found.there eq c.reason_of.result
+    (ap (λ op. option_map (reason_in op) c.reason_of.result) (sym found.call)
+    ∙ c.reason_of.ensures o found.follows
+    ∙ ap (λ tree. reason tree o c.found_at.result.0.now) c.tree.ensures
+    ∙ ap (reason cv.tree o) found.call)

@@ -5,6 +5,7 @@ use Rattle.ll_rules.specs.declared.domain.LayerId.{LayerId}
 use Rattle.ll_rules.specs.Layers.{RulesOn}
 use Rattle.ll_rules.specs.InTree.{AreInTree, all_in_tree}
 use Rattle.ll_rules.specs.KeptLayers.{IsDomainOf, domain_of}
+use Rattle.ll_trace.specs.declared.op.Op.{Op}
 use Rattle.ll_trace.specs.declared.op.Record.{Record}
 use Rattle.ll_process.specs.Cases.{CaseValue}
 use Rattle.ll_reasons.specs.Explanations.{domain_at, objections, objections_to, origins_at}
@@ -13,14 +14,15 @@ use Rattle.ll_reasons.specs.Origins.{Origins}
 use Rattle.ll_trails.proofs.SameObjections.{same_layers_object_to_the_same}
 use Rattle.ll_trails.specs.CaseTrails.{IsDomainAt}
 use Rattle.ll_explanations.specs.Meanings.{IsMade, by_layer, explanation_in}
-use Rattle.ll_explanations.proofs.Explaining.{explains, refusing}
+use Rattle.ll_explanations.proofs.Explaining.{explains, known_there, refusing}
 use Rattle.ll_explanations.proofs.Following.{objected}
 use Rattle.ll_explanations.proofs.explanation.refused.Goals as goal
 
 pub invariant_of-ctx-clause-inside : goal.invariant_of-ctx-clause-inside
 invariant_of-ctx-clause-inside c =
-    let is : IsDomainAt c.args.case.now c.args.place c.found_at.result.0.now.process.0 c.in_ok-domain.domain.items =
-    c.in_ok-domain.ensures c.args.place c.found_at.result.0.now.process.0 c.found_at.ensures.trail in
+    let found = c.found_at.ensures.found in
+    let is : IsDomainAt c.args.case.now c.args.place found.r.process.0 c.in_ok-domain.domain.items =
+    c.in_ok-domain.ensures c.args.place found.r.process.0 found.follows in
     subst (λ (ids : List LayerId). IsDomainOf c.layers.result.now ids) (sym c.deref.ensures.value)
     (subst (λ layers. IsDomainOf layers c.in_ok-domain.domain.items) (sym c.layers.ensures) is.places)
 
@@ -29,28 +31,36 @@ invariant_of-ctx-clause-rules c =
     subst (λ (tree : List Entry). All (AreInTree tree) c.layers.result.now) (sym c.tree.ensures)
     (subst (λ (layers : List (RulesOn ℕ)). All (AreInTree c.args.case.now.tree) layers) (sym c.layers.ensures) c.found_at.ensures.case.settled.inside)
 
+pub objections_to-requires : goal.objections_to-requires
+objections_to-requires c =
+    known_there c.args.case.now c.args.place c.tree.result.now c.found_at.result.0.now c.found_at.result.1.now c.found_at.ensures.found
+    c.known_place-known.result c.tree.ensures c.known_place-known.ensures
+
 pub returns : goal.returns
 unfolding explanation_in
 returns c =
     let cv : CaseValue = c.args.case.now in
-    let r : Record = c.found_at.result.0.now in
+    let found = c.found_at.ensures.found in
+    let r : Record = found.r in
+    let call : Op = c.found_at.result.0.now in
     let o : Origins = origins_at cv.tree cv.abi cv.records c.args.place r.process.0 in
     let ids : List LayerId = c.in_ok-domain.domain.items in
     let all = c.in_ok-all.all.items in
-    let is : IsDomainAt c.args.case.now c.args.place r.process.0 ids = c.in_ok-domain.ensures c.args.place r.process.0 c.found_at.ensures.trail in
+    let is : IsDomainAt c.args.case.now c.args.place r.process.0 ids = c.in_ok-domain.ensures c.args.place r.process.0 found.follows in
     let said : List Entry → List (RulesOn ℕ) → List LayerId
-    → List (ℕ × List Objection) = λ tree layers domain. objections_to tree (all_in_tree tree (domain_of layers domain)) o r.op c.args.error c.args.numbers in
-    explains cv c.args.place _ r _ c.found_at.ensures.read (record {
+    → List (ℕ × List Objection) = λ tree layers domain. objections_to tree (all_in_tree tree (domain_of layers domain)) o call c.args.error c.args.numbers in
+    explains cv c.args.place _ r _ found.there (record {
       means =
           ap (λ (tree : List Entry). objections (by_layer tree all)) (sym c.tree.ensures)
           ∙ ap objections (c.in_ok-all.ensures.said
           ∙ objected c.tree.result.now (all_in_tree c.tree.result.now (domain_of c.layers.result.now c.deref.result.now)) c.found_at.result.1.now o
-          c.found_at.ensures.trail c.args.error c.args.numbers r.op
+          found.follows c.args.error c.args.numbers call
           ∙ ap (λ (tree : List Entry). said tree c.layers.result.now c.deref.result.now) c.tree.ensures
           ∙ ap (λ (layers : List (RulesOn ℕ)). said cv.tree layers c.deref.result.now) c.layers.ensures
           ∙ ap (λ (domain : List LayerId). said cv.tree cv.layers domain) c.deref.ensures.value
           ∙ same_layers_object_to_the_same cv.tree (all_in_tree cv.tree (domain_of cv.layers ids))
-          (domain_at cv.tree cv.abi cv.records c.args.place r.process.0) is.same o r.op c.args.error c.args.numbers)
+          (domain_at cv.tree cv.abi cv.records c.args.place r.process.0) is.same o call c.args.error c.args.numbers
+          ∙ ap (λ (op : Op). objections_to cv.tree (domain_at cv.tree cv.abi cv.records c.args.place r.process.0) o op c.args.error c.args.numbers) found.call)
           ∙ refusing cv.tree cv.abi cv.records c.args.place r c.args.error c.args.numbers c.requires.some;
-      made = subst (λ (layers : List ℕ). All (IsMade layers) all) c.found_at.ensures.trail.layers c.in_ok-all.ensures.made;
+      made = subst (λ (layers : List ℕ). All (IsMade layers) all) found.follows.layers c.in_ok-all.ensures.made;
     })

@@ -1,5 +1,5 @@
 -- The walk begins, takes one record more, and ends at the process's last record.
-use Rattle.std.proofs.Common.{◌≡◌, ◌∙◌, subst, refl}
+use Rattle.std.proofs.Common.{◌∙◌, subst, refl}
 use Rattle.ll_process.specs.Cases.{CaseValue, BeginsAs}
 use Rattle.ll_process.proofs.Descents.{keeps_on, keeps_same}
 use Rattle.ll_process.proofs.Walked.{walked_none, walked_more, place_now, own_now, handed_all, less_to_do}

@@ -3,7 +3,7 @@ use Rattle.ll_semantics.specs.declared.answer.Answer.{Answer}
 use Rattle.ll_semantics.specs.Worlds.{judged}
 use Rattle.ll_semantics.proofs.Steps.{length-judged}
 use Rattle.ll_explanations.specs.Findings.{FindingValue}
-use Rattle.ll_explanations.proofs.TakenLater.{taken_as_they_are}
+use Rattle.ll_process.proofs.TakenLater.{taken_as_they_are}
 use Rattle.ll_explain.proofs.FindingSays.{said_as_judged}
 use Rattle.ll_process.specs.Cases.{CaseValue}
 use Rattle.ll_report.specs.Lines.{refused_among}

@@ -14,7 +14,7 @@ use Rattle.ll_trace.specs.declared.op.Op.TheVariants as calls
 use Rattle.ll_trace.specs.declared.op.RuleType.TheVariants.{PathBeneath, NetPort}
 use Rattle.ll_trace.specs.declared.op.Record.{Record}
 use Rattle.ll_trace.specs.BestEffort.{at_best_effort, names_rights, record_at_best_effort, records_at_best_effort}
-use Rattle.ll_explanations.specs.TakenLater.{AreTakenLater, IsTakenLater, is_of_rights}
+use Rattle.ll_process.specs.TakenLater.{AreTakenLater, IsTakenLater, is_of_rights}
 
 -- ---- one record
 

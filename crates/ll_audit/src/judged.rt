@@ -1,0 +1,194 @@
+//! A case that is judged, and not explained yet.
+
+ghost use Rattle.std.specs.Prelude.{◌≡◌, ◌∷◌, [], IfOk, IfErr};
+ghost use Rattle.ll_semantics.specs.Worlds.{judged};
+ghost use Rattle.ll_process.specs.{Cases.IsCase, PastCases.as_it_was};
+ghost use Rattle.ll_explanations.specs.Findings.{FindingValue, Finds};
+ghost use Rattle.ll_audit.specs.Cases.{FindsIn, judged_in};
+ghost use Rattle.ll_audit.specs.Causes.{IsWant};
+ghost use Rattle.ll_audit.specs.ShownReports.{taken};
+ghost use Rattle.ll_audit.specs.Audits.{IsCrew};
+
+use crate::fault::Fault;
+use crate::ranging::{Audit, Audited, case_under, in_front};
+use crate::workers::answers_by_one;
+use ll_explanations::Finding;
+use ll_pool::Gate;
+use ll_process::{Answer, Case, CaseView, PastCase};
+use ll_rights::Abi;
+use ll_rules::NoMemory;
+use ll_trace::Located;
+use std::alloc::Global;
+use std::sync::Wait;
+use std::thread::{Threads, join};
+
+/// A case that is judged, whose explanations are still to be worked out, and what was found under newer versions, the
+/// oldest first.
+#[derive(Drop)]
+pub(crate) struct Judged {
+    pub(crate) case: Case,
+    pub(crate) answers: Vec<Answer>,
+    pub(crate) newer: Vec<Finding>,
+    ghost judged: { answers.items ≡ judged case.tree case.abi case.records },
+}
+
+/// What is found of a past case, by the case that has its trace now, the answers to it, and what was found under newer
+/// versions, the oldest first. The calling thread explains it.
+fn explain_past(
+    alloc: Global,
+    now: &Case,
+    past: &PastCase,
+    answers: Vec<Answer>,
+    explains: bool,
+    newer: &[Finding],
+) -> Result<Finding, NoMemory>
+    requires past { IsCase (as_it_was now.now.tree now.now.records past.now) }
+    requires answers { answers.items
+        ≡ judged_in (as_it_was now.now.tree now.now.records past.now) }
+    ensures { IfOk result (FindsIn explains (as_it_was now.now.tree now.now.records past.now)) }
+{
+    let view = CaseView::past(now, past);
+    Finding::alone(alloc, &view, answers, explains, newer.first())
+}
+
+/// Explains a past case in a thread of its own, while one worker judges the case that has its trace now.
+fn explain_beside<R: Threads + Wait + Sync, G: Gate + Sync>(
+    audit: &Audit<'_, R, G>,
+    now: &Case,
+    past: &PastCase,
+    answers: Vec<Answer>,
+    newer: &[Finding],
+) -> Result<(Finding, Vec<Answer>), Fault>
+    requires past { IsCase (as_it_was now.now.tree now.now.records past.now) }
+    requires answers { answers.items
+        ≡ judged_in (as_it_was now.now.tree now.now.records past.now) }
+    ensures finding { IfOk result (λ both. FindsIn audit.now.options.now.shown.explanations
+        (as_it_was now.now.tree now.now.records past.now) both.0) }
+    ensures judged { IfOk result (λ both. both.1.items ≡ judged_in now.now) }
+    ensures fault { IfErr result IsWant }
+{
+    let (rt, alloc, gate) = (audit.workers.rt, audit.workers.alloc, audit.workers.gate);
+    let (explains, cuts) = (audit.options.shown.explanations, audit.cuts);
+    let (finding, judged) = join(
+        rt,
+        move || explain_past(alloc, now, past, answers, explains, newer),
+        move || answers_by_one(rt, alloc, now, cuts, gate),
+    );
+    Ok((finding?, judged?))
+}
+
+/// Explains a past case and judges the one that has its trace now: at the same time where one worker judges, and else one
+/// after the other, each by all workers.
+fn explain_and_judge<R: Threads + Wait + Sync, G: Gate + Sync>(
+    audit: &Audit<'_, R, G>,
+    now: &Case,
+    past: &PastCase,
+    answers: Vec<Answer>,
+    newer: &[Finding],
+) -> Result<(Finding, Vec<Answer>), Fault>
+    requires crew { IsCrew audit.now.workers.now.count }
+    requires past { IsCase (as_it_was now.now.tree now.now.records past.now) }
+    requires answers { answers.items
+        ≡ judged_in (as_it_was now.now.tree now.now.records past.now) }
+    ensures finding { IfOk result (λ both. FindsIn audit.now.options.now.shown.explanations
+        (as_it_was now.now.tree now.now.records past.now) both.0) }
+    ensures judged { IfOk result (λ both. both.1.items ≡ judged_in now.now) }
+    ensures fault { IfErr result IsWant }
+{
+    let explains = audit.options.shown.explanations;
+    if explains && audit.workers.count == 1 {
+        return explain_beside(audit, now, past, answers, newer);
+    }
+    let view = CaseView::past(now, past);
+    let finding = audit
+        .workers
+        .explained(&view, answers, explains, newer.first())?;
+    let judged = audit.workers.answers(now, audit.cuts)?;
+    Ok((finding, judged))
+}
+
+impl Judged {
+    /// Judges a trace under the first version.
+    pub(crate) fn first<R: Threads + Wait + Sync, G: Gate + Sync>(
+        audit: &Audit<'_, R, G>,
+        located: Located,
+        abi: Abi,
+    ) -> Result<Judged, Fault>
+        requires { IsCrew audit.now.workers.now.count }
+        ensures tree { IfOk result (λ first. first.case.tree ≡ located.tree) }
+        ensures records { IfOk result (λ first. first.case.records
+            ≡ taken audit.now.options.now.effort abi located.trace) }
+        ensures abi { IfOk result (λ first. first.case.abi ≡ abi) }
+        ensures none { IfOk result (λ first. first.newer.items ≡ []) }
+        ensures fault { IfErr result IsWant }
+    {
+        let case = case_under(audit, located, abi)?;
+        let answers = audit.workers.answers(&case, audit.cuts)?;
+        Ok(Judged {
+            case,
+            answers,
+            newer: Vec::new(audit.workers.alloc),
+        })
+    }
+
+    /// Judges under an older version, while another thread works out the explanations of this one.
+    pub(crate) fn next<R: Threads + Wait + Sync, G: Gate + Sync>(
+        self,
+        audit: &Audit<'_, R, G>,
+        abi: Abi,
+    ) -> Result<Judged, Fault>
+        requires { IsCrew audit.now.workers.now.count }
+        ensures tree { IfOk result (λ next. next.case.tree ≡ self.case.tree) }
+        ensures records { IfOk result (λ next. next.case.records
+            ≡ taken audit.now.options.now.effort abi self.case.records) }
+        ensures abi { IfOk result (λ next. next.case.abi ≡ abi) }
+        ensures findings { IfOk result (λ next. (finding : FindingValue)
+            × (next.newer.items ≡ finding ∷ self.newer.items)
+            × Finds audit.now.options.now.shown.explanations self.case.tree self.case.abi
+            self.case.records finding) }
+        ensures fault { IfErr result IsWant }
+    {
+        let Judged {
+            case,
+            answers,
+            newer,
+        } = self;
+        let (located, past) = case.into_past(audit.workers.alloc)?;
+        let case = case_under(audit, located, abi)?;
+        let (finding, answers) = explain_and_judge(audit, &case, &past, answers, &newer)?;
+        Ok(Judged {
+            case,
+            answers,
+            newer: in_front(finding, newer)?,
+        })
+    }
+
+    /// Works out the explanations of the oldest version.
+    pub(crate) fn finish<R: Threads + Wait + Sync, G: Gate + Sync>(
+        self,
+        audit: &Audit<'_, R, G>,
+    ) -> Result<Audited, Fault>
+        ensures tree { IfOk result (λ all. all.located.tree ≡ self.case.tree) }
+        ensures trace { IfOk result (λ all. all.located.trace ≡ self.case.records) }
+        ensures findings { IfOk result (λ all. (finding : FindingValue)
+            × (all.findings.items ≡ finding ∷ self.newer.items)
+            × Finds audit.now.options.now.shown.explanations self.case.tree self.case.abi
+            self.case.records finding) }
+        ensures fault { IfErr result IsWant }
+    {
+        let Judged {
+            case,
+            answers,
+            newer,
+        } = self;
+        let view = CaseView::of(&case);
+        let explains = audit.options.shown.explanations;
+        let finding = audit
+            .workers
+            .explained(&view, answers, explains, newer.first())?;
+        Ok(Audited {
+            located: case.into_located(),
+            findings: in_front(finding, newer)?,
+        })
+    }
+}

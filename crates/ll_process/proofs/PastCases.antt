@@ -1,0 +1,226 @@
+-- A past case is the case as it was, whatever an older version has made of its records.
+use Rattle.std.proofs.Common.{◌≡◌, ◌∙◌, ◌+◌, ◌<◌, ◌≤◌, ℕ, zero, suc, Bool, true, false, List, []}
+use Rattle.std.proofs.Common.{◌∷◌, length, Option, Some, None, refl, sym, ap, ap₂, subst, arith, inl, inr}
+use Rattle.std.specs.Prelude.{if◌then◌else◌, slice_get, unwrap_or}
+use Rattle.std.specs.BTreeMap.{Updates, get, is_at}
+use Rattle.std.specs.Map.{lookup}
+use Rattle.std.specs.Ordering.{is_eq, nat_cmp}
+use Rattle.std.specs.declared.cmp.Ordering.{Ordering}
+use Rattle.std.specs.declared.cmp.Ordering.TheVariants.{Less, Equal, Greater}
+use Rattle.std.proofs.lemmas.Bool.{cases_Bool, cases_eq, cases_lt, true≢false}
+use Rattle.std.proofs.lemmas.Map.Lookups.{exact_unsigned}
+use Rattle.std.proofs.lemmas.Option.{none-some, same_Some, slice_get_cases, slice_get_past, slice_get_within}
+use Rattle.ll_tree.specs.Trees.{Entry}
+use Rattle.ll_tree.specs.declared.place.Place.TheVariants.{Nowhere}
+use Rattle.ll_trace.specs.declared.op.Op.{Op}
+use Rattle.ll_trace.specs.declared.op.Op.TheVariants as calls
+use Rattle.ll_trace.specs.declared.op.Record.{Record}
+use Rattle.ll_trace.specs.BestEffort.{names_rights}
+use Rattle.ll_trace.specs.FirstPlaces.{first_place}
+use Rattle.ll_process.specs.Cases.{CaseValue}
+use Rattle.ll_process.specs.PastCases.{as_it_was, viewed}
+use Rattle.ll_process.specs.declared.past.PastCase.{PastCase}
+use Rattle.ll_process.specs.RightCalls.{AreCallsOf, AreOfRights, Calls, call_before, record_before, records_before, right_call}
+use Rattle.ll_process.specs.TakenLater.{AreTakenLater, IsTakenLater, is_of_rights}
+use Rattle.ll_process.proofs.TakenLater.{of_rights}
+
+-- ---- the calls that are kept
+
+-- the calls of the records before a place are kept
+pub record AreKept (records : List Record) (kept : Calls) (place : ℕ) : Type 0 where
+  pub before : (k : ℕ) → k < place → get nat_cmp kept k ≡ right_call (slice_get records k)
+  pub behind : (k : ℕ) → place ≤ k → get nat_cmp kept k ≡ None
+
+pub none_kept : (records : List Record) (kept : Calls) → kept.entries ≡ [] → AreKept records kept 0
+none_kept records kept none = record {
+  before = λ k within. absurd (omega (arith, within));
+  behind = λ k past. ap (lookup (is_at (nat_cmp k))) none;
+}
+
+-- another place
+apart : (place k : ℕ) → (k ≡ place → ⊥) → is_at (nat_cmp place) k ≡ false
+apart place k other = go (nat_cmp place k) refl
+  where
+    go : (order : Ordering) → nat_cmp place k ≡ order → is_eq order ≡ false
+    go Less is = refl
+    go Equal is = absurd (other (sym (exact_unsigned place k is)))
+    go Greater is = refl
+
+module _ (records : List Record) (kept : Calls) (place : ℕ) (r : Record) (are : AreKept records kept place) (there : slice_get records place ≡ Some r) where
+  here : (k : ℕ) → k ≡ place → right_call (Some r) ≡ right_call (slice_get records k)
+  here k same = ap right_call (sym there ∙ ap (slice_get records) (sym same))
+
+  -- one call more
+  pub one_more_kept : (next : Calls) (op : Op) → right_call (Some r) ≡ Some op → Updates nat_cmp kept next place (Some op) → AreKept records next (place + 1)
+  one_more_kept next op is updates = record {
+    before = λ k within. elim (cases_eq k place) [
+      | inl same ↦ ap (get nat_cmp next) same ∙ updates.1 ∙ sym is ∙ here k same
+      | inr other ↦ updates.2 k (apart place k other) ∙ are.before k (omega (arith, within, other))
+    ];
+    behind = λ k past. updates.2 k (apart place k (λ same. absurd (omega (arith, past, same)))) ∙ are.behind k (omega (arith, past));
+  }
+
+  -- a call that names no right
+  pub no_more_kept : right_call (Some r) ≡ None → AreKept records kept (place + 1)
+  no_more_kept none = record {
+    before = λ k within. elim (cases_eq k place) [
+      | inl same ↦ are.behind k (omega (arith, same)) ∙ sym none ∙ here k same
+      | inr other ↦ are.before k (omega (arith, within, other))
+    ];
+    behind = λ k past. are.behind k (omega (arith, past));
+  }
+
+pub all_kept : (records : List Record) (kept : Calls) (place : ℕ) → length records ≤ place → AreKept records kept place → AreCallsOf records kept
+all_kept records kept place all are k = elim ((slice_get_cases records k).1) [
+  | inl there ↦ are.before k (omega (arith, all, slice_get_within records k there.0 there.2))
+  | inr past ↦ elim (cases_lt k place) [
+    | inl within ↦ are.before k within
+    | inr behind ↦ are.behind k behind ∙ sym (ap right_call (slice_get_past records k past.0))
+  ]
+]
+
+-- a call that names rights is of rights
+pub each_of_rights : (records : List Record) (kept : Calls) → AreCallsOf records kept → AreOfRights kept
+each_of_rights records kept are place op is = go (slice_get records place) (sym (are place) ∙ is)
+  where
+    named : (r : Record) (b : Bool) → names_rights r.op ≡ b → (if b then Some r.op else None) ≡ Some op → is_of_rights op ≡ true
+    named r true names is = subst (λ o. is_of_rights o ≡ true) (same_Some r.op op is) (of_rights r.op names)
+    named r false names is = absurd (none-some op is)
+
+    go : (o : Option Record) → right_call o ≡ Some op → is_of_rights op ≡ true
+    go None is = absurd (none-some op is)
+    go (Some r) is = named r (names_rights r.op) refl is
+
+-- ---- the records as they were
+
+-- two records with the same parts
+same_record : (a b : Record) → a.line ≡ b.line → a.process ≡ b.process → a.pid ≡ b.pid → a.op ≡ b.op → a ≡ b
+same_record a b line process pid op = λ i. record { line = line i; process = process i; pid = pid i; op = op i }
+
+-- a call that an older version has taken is as it was
+module _ (kept : Calls) (place : ℕ) (l r : Record) (taken : IsTakenLater l r) (is : get nat_cmp kept place ≡ right_call (Some r)) where
+  pub call_as_it_was : call_before kept place l.op ≡ r.op
+  call_as_it_was = elim (cases_Bool (names_rights r.op)) [
+    | inl names ↦ rw (taken.other names, is, names) refl
+    | inr names ↦ rw (is, names) (either (is_of_rights l.op) ∙ taken.same names)
+  ] where
+    either : (b : Bool) → (if b then l.op else l.op) ≡ l.op
+    either true = refl
+    either false = refl
+
+  pub record_as_it_was : record_before kept place l ≡ r
+  record_as_it_was = same_record (record_before kept place l) r taken.line taken.process taken.pid call_as_it_was
+
+-- so are all records
+pub records_as_they_were : (kept : Calls) (place : ℕ) (later records : List Record) → AreTakenLater later records
+    → ((k : ℕ) → get nat_cmp kept (place + k) ≡ right_call (slice_get records k)) → records_before kept place later ≡ records
+unfolding records_before
+records_as_they_were kept place [] [] taken are = refl
+records_as_they_were kept place [] (r ∷ rs) taken are = absurd taken
+records_as_they_were kept place (l ∷ ls) [] taken are = absurd taken
+records_as_they_were kept place (l ∷ ls) (r ∷ rs) taken are =
+    ap₂ (λ (one : Record) (others : List Record). one ∷ others)
+    (record_as_it_was kept place l r taken.0 (ap (get nat_cmp kept) (let here : place ≡ place + 0 = omega arith in here) ∙ are 0))
+    (records_as_they_were kept (suc place) ls rs taken.1
+    (λ k. ap (get nat_cmp kept) (let next : suc place + k ≡ place + suc k = omega arith in next) ∙ are (suc k)))
+
+-- so is the case
+pub case_as_it_was : (cv : CaseValue) (past : PastCase) (later : List Record) → AreTakenLater later cv.records → AreCallsOf cv.records past.calls
+    → past.abi ≡ cv.abi → past.layers.items ≡ cv.layers → past.outcomes.items ≡ cv.outcomes → as_it_was cv.tree later past ≡ cv
+case_as_it_was cv past later taken are abi layers outcomes =
+    let records : records_before past.calls 0 later ≡ cv.records =
+    records_as_they_were past.calls 0 later cv.records taken (λ k. ap (get nat_cmp past.calls) (let same : 0 + k ≡ k = omega arith in same) ∙ are k) in
+    λ i. record { tree = cv.tree; records = records i; abi = abi i; layers = layers i; outcomes = outcomes i }
+
+-- as many
+pub as_many_before : (kept : Calls) (place : ℕ) (later : List Record) → length (records_before kept place later) ≡ length later
+unfolding records_before
+as_many_before kept place [] = refl
+as_many_before kept place (l ∷ ls) = ap suc (as_many_before kept (suc place) ls)
+
+-- the record at a place, as it was
+pub before_there : (kept : Calls) (place : ℕ) (later : List Record) (k at : ℕ) (r : Record) → at ≡ place + k
+    → slice_get (records_before kept place later) k ≡ Some r → (l : Record) × (slice_get later k ≡ Some l) × (record_before kept at l ≡ r)
+unfolding records_before
+before_there kept place [] k at r same is = absurd (none-some r is)
+before_there kept place (l ∷ ls) zero at r same is =
+    (l, refl, ap (λ n. record_before kept n l) (omega (arith, same)) ∙ same_Some (record_before kept place l) r is)
+before_there kept place (l ∷ ls) (suc k) at r same is = before_there kept (suc place) ls k at r (omega (arith, same)) is
+
+-- ---- first places
+
+nowhere : (tree : List Entry) (op : Op) → is_of_rights op ≡ true → first_place tree op ≡ Nowhere
+unfolding is_of_rights first_place Rattle.ll_trace.specs.Operations.paths_of
+nowhere tree (calls.Create rs fs net) is = refl
+nowhere tree (calls.CreateEmpty rs) is = refl
+nowhere tree (calls.AddPath rs path fs) is = refl
+nowhere tree (calls.AddPort rs port net) is = refl
+nowhere tree (calls.LeaveOut rule) is = refl
+nowhere tree op is = absurd (true≢false (sym is))
+
+-- a call that is kept names the same first place
+pub same_first_place : (tree : List Entry) (kept : Calls) (place : ℕ) (op : Op) → AreOfRights kept
+    → first_place tree (call_before kept place op) ≡ first_place tree op
+same_first_place tree kept place op are = go (is_of_rights op) refl
+  where
+    one : (o : Option Op) → get nat_cmp kept place ≡ o → is_of_rights op ≡ true → first_place tree (unwrap_or o op) ≡ first_place tree op
+    one None is named = refl
+    one (Some before) is named = nowhere tree before (are place before is) ∙ sym (nowhere tree op named)
+
+    go : (b : Bool) → is_of_rights op ≡ b → first_place tree (if b then unwrap_or (get nat_cmp kept place) op else op) ≡ first_place tree op
+    go true named = one (get nat_cmp kept place) refl named
+    go false named = refl
+
+-- ---- a case as it is read
+
+-- a record of the case that has the trace, as the case that is read has it
+abbrev pub viewed_record : Option PastCase → ℕ → Record → Record
+viewed_record None place l = l
+viewed_record (Some past) place l = record_before past.calls place l
+
+module _ (case value : CaseValue) (past : Option PastCase) (is : viewed case past ≡ value) where
+  as_many : (past : Option PastCase) → length (viewed case past).records ≡ length case.records
+  as_many None = refl
+  as_many (Some past) = as_many_before past.calls 0 case.records
+
+  -- as many records
+  pub as_many_viewed : length case.records ≡ length value.records
+  as_many_viewed = sym (as_many past) ∙ ap (λ cv. length cv.records) is
+
+  same_tree : (past : Option PastCase) → (viewed case past).tree ≡ case.tree
+  same_tree None = refl
+  same_tree (Some past) = refl
+
+  record_there : (past : Option PastCase) (place : ℕ) (r : Record) → slice_get (viewed case past).records place ≡ Some r
+      → (l : Record) × (slice_get case.records place ≡ Some l) × (viewed_record past place l ≡ r)
+  record_there None place r there = (r, there, refl)
+  record_there (Some past) place r there = before_there past.calls 0 case.records place place r (omega arith) there
+
+  -- the record at a place
+  pub record_viewed : (place : ℕ) (r : Record) → slice_get value.records place ≡ Some r
+      → (l : Record) × (slice_get case.records place ≡ Some l) × (viewed_record past place l ≡ r)
+  record_viewed place r there = record_there past place r (ap (λ cv. slice_get cv.records place) is ∙ there)
+
+  pub same_viewed : (place : ℕ) (l r : Record) → slice_get case.records place ≡ Some l → slice_get value.records place ≡ Some r
+      → viewed_record past place l ≡ r
+  same_viewed place l r at there =
+      let found = record_viewed place r there in
+      ap (viewed_record past place) (same_Some l found.0 (sym at ∙ found.1)) ∙ found.2
+
+  same_process : (past : Option PastCase) (place : ℕ) (l : Record) → (viewed_record past place l).process ≡ l.process
+  same_process None place l = refl
+  same_process (Some past) place l = refl
+
+  pub process_viewed : (place : ℕ) (l r : Record) → slice_get case.records place ≡ Some l → slice_get value.records place ≡ Some r
+      → l.process ≡ r.process
+  process_viewed place l r at there = sym (same_process past place l) ∙ ap (λ one. one.process) (same_viewed place l r at there)
+
+  same_first : (past : Option PastCase) (place : ℕ) (l : Record) → first_place case.tree l.op ≡ first_place case.tree (viewed_record past place l).op
+  same_first None place l = refl
+  same_first (Some past) place l = sym (same_first_place case.tree past.calls place l.op past.of_rights)
+
+  -- the place of its first path
+  pub first_viewed : (place : ℕ) (l r : Record) → viewed_record past place l ≡ r → first_place case.tree l.op ≡ first_place value.tree r.op
+  first_viewed place l r same =
+      same_first past place l
+      ∙ ap₂ (λ (tree : List Entry) (one : Record). first_place tree one.op) (sym (same_tree past) ∙ ap (λ cv. cv.tree) is) same

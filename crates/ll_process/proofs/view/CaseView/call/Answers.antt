@@ -1,0 +1,67 @@
+use Rattle.std.proofs.Common.{◌≡◌, ◌∙◌, ◌<◌, Some, ap, arith, get_or, length, refl, subst}
+use Rattle.std.specs.Prelude.{slice_get}
+use Rattle.std.specs.Option.{option_map}
+use Rattle.std.proofs.lemmas.Option.{slice_get_read}
+use Rattle.ll_trace.specs.declared.op.Record.{Record}
+use Rattle.ll_process.specs.Cases.{CaseValue}
+use Rattle.ll_process.proofs.PastCases.{as_many_viewed, process_viewed, same_viewed, viewed_record}
+use Rattle.ll_process.proofs.view.CaseView.call.Goals.{in-Some, in-None}
+use Rattle.ll_process.proofs.view.CaseView.call.Goals as goal
+
+pub offset_bounds-records-place : goal.offset_bounds-records-place
+offset_bounds-records-place c =
+    omega (
+      arith,
+      c.self.inside.few,
+      ap (λ records. length records) c.self.inside.at_hand,
+      as_many_viewed c.self.inside.case.now _ _ c.self.view_is,
+      c.requires,
+    )
+
+pub bounds-records-place : goal.bounds-records-place
+bounds-records-place c =
+    omega (arith, c.requires, as_many_viewed c.self.inside.case.now _ _ c.self.view_is, ap (λ records. length records) c.self.inside.at_hand)
+
+pub overflow_cast-place : goal.overflow_cast-place
+overflow_cast-place c =
+    omega (
+      arith,
+      c.self.inside.few,
+      ap (λ records. length records) c.self.inside.at_hand,
+      as_many_viewed c.self.inside.case.now _ _ c.self.view_is,
+      c.requires,
+    )
+
+pub returns-clause-op : goal.returns-clause-op
+returns-clause-op c = λ r there.
+    let case : CaseValue = c.self.inside.case.now in
+    let l : Record = c.index-records-place.result in
+    let within : c.args.place < length case.records = omega (arith, c.requires, as_many_viewed case _ _ c.self.view_is) in
+    let at : slice_get case.records c.args.place ≡ Some l =
+    slice_get_read case.records (length case.records) c.args.place l refl within
+    (c.index-records-place.is ∙ ap (λ records. get_or records c.args.place l) c.self.inside.at_hand) in
+    let same = same_viewed case _ _ c.self.view_is c.args.place l r at there in
+    elim c.match-self.branch [
+      | in-Some w ↦
+          ap (λ op. op.now) w.op-is ∙ w.call-op.ensures
+          ∙ ap (λ (one : Record). one.op)
+          (subst (λ past. viewed_record past c.args.place l ≡ r) (ap (λ past. option_map (λ p. p.now) past) w.in-Some.is) same)
+      | in-None w ↦
+          ap (λ op. op.now) w.op-is
+          ∙ ap (λ (one : Record). one.op)
+          (subst (λ past. viewed_record past c.args.place l ≡ r) (ap (λ past. option_map (λ p. p.now) past) w.in-None.is) same)
+    ]
+
+pub returns-clause-process : goal.returns-clause-process
+returns-clause-process c = λ r there.
+    let case : CaseValue = c.self.inside.case.now in
+    let l : Record = c.index-records-place.result in
+    let within : c.args.place < length case.records = omega (arith, c.requires, as_many_viewed case _ _ c.self.view_is) in
+    let at : slice_get case.records c.args.place ≡ Some l =
+    slice_get_read case.records (length case.records) c.args.place l refl within
+    (c.index-records-place.is ∙ ap (λ records. get_or records c.args.place l) c.self.inside.at_hand) in
+    process_viewed case _ _ c.self.view_is c.args.place l r at there
+
+pub returns-clause-few : goal.returns-clause-few
+returns-clause-few c =
+    omega (arith, c.self.inside.few, ap (λ records. length records) c.self.inside.at_hand, as_many_viewed c.self.inside.case.now _ _ c.self.view_is)
