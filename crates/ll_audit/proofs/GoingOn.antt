@@ -36,57 +36,46 @@ still_that effort abi was case past located tree records kept trees all =
     ap₂ (λ (entries : List Entry) (later : List Record). as_it_was entries later past) (trees ∙ tree) (all ∙ ap (taken effort abi) records)
     ∙ kept (taken effort abi was.records) (later_taken effort abi was.records)
 
-module _ (options : Options) (abi : Abi) where
-  -- a version that isn't asked for
-  pub goes_on_without : (one : Progress) → is_in options.abis abi ≡ false → GoesOn options abi one one
-  goes_on_without one unasked = λ tree later after comes. record {
-    records = later;
-    findings = after;
-    came = comes;
-    later_is = rw unasked refl;
-    adds = record { one = λ asked. absurd (true≢false (sym asked ∙ unasked)); none = λ _. refl };
+module _ (options : Options) (abi : Abi) (asked : is_in options.abis abi ≡ true) (next : Judged) (version : next.case.abi ≡ abi) where
+  taken_as_asked : (records : List Record) → taken options.effort abi records ≡ taken_if_asked options abi records
+  taken_as_asked records = rw asked refl
+
+  -- the first version
+  pub goes_on_from_none : (located : Located) → next.case.tree ≡ located.tree → next.case.records ≡ taken options.effort abi located.trace
+      → next.newer.items ≡ [] → GoesOn options abi (progress.Begun located) (progress.Judged next)
+  goes_on_from_none located tree records none = λ entries later after comes. record {
+    records = located.trace;
+    findings = [];
+    came = (sym tree ∙ comes.0, refl, refl);
+    later_is = sym comes.1 ∙ records ∙ taken_as_asked located.trace;
+    adds = record {
+      one = λ _. (
+        comes.2,
+        comes.3 ∙ ap (λ newer. comes.2 ∷ newer) none,
+        same_finds options.shown.explanations next.case.tree entries next.case.abi abi next.case.records (taken options.effort abi located.trace)
+            comes.2 comes.0 version records comes.4,
+      );
+      none = λ unasked. absurd (true≢false (sym asked ∙ unasked));
+    };
   }
 
-  module _ (asked : is_in options.abis abi ≡ true) (next : Judged) (version : next.case.abi ≡ abi) where
-    taken_as_asked : (records : List Record) → taken options.effort abi records ≡ taken_if_asked options abi records
-    taken_as_asked records = rw asked refl
-
-    -- the first version
-    pub goes_on_from_none : (located : Located) → next.case.tree ≡ located.tree → next.case.records ≡ taken options.effort abi located.trace
-        → next.newer.items ≡ [] → GoesOn options abi (progress.Begun located) (progress.Judged next)
-    goes_on_from_none located tree records none = λ entries later after comes. record {
-      records = located.trace;
-      findings = [];
-      came = (sym tree ∙ comes.0, refl, refl);
-      later_is = sym comes.1 ∙ records ∙ taken_as_asked located.trace;
-      adds = record {
-        one = λ _. (
-          comes.2,
-          comes.3 ∙ ap (λ newer. comes.2 ∷ newer) none,
-          same_finds options.shown.explanations next.case.tree entries next.case.abi abi next.case.records (taken options.effort abi located.trace)
-              comes.2 comes.0 version records comes.4,
-        );
-        none = λ unasked. absurd (true≢false (sym asked ∙ unasked));
-      };
-    }
-
-    -- one version more
-    pub goes_on : (one : Judged) (finding : FindingValue) → next.case.tree ≡ one.case.tree → next.case.records ≡ taken options.effort abi one.case.records
-        → next.newer.items ≡ finding ∷ one.newer.items
-        → Finds options.shown.explanations one.case.tree one.case.abi one.case.records finding
-        → GoesOn options abi (progress.Judged one) (progress.Judged next)
-    goes_on one finding tree records newer finds = λ entries later after comes. record {
-      records = one.case.records;
-      findings = finding ∷ one.newer.items;
-      came = (sym tree ∙ comes.0, refl, finding, refl, finds);
-      later_is = sym comes.1 ∙ records ∙ taken_as_asked one.case.records;
-      adds = record {
-        one = λ _. (
-          comes.2,
-          comes.3 ∙ ap (λ all. comes.2 ∷ all) newer,
-          same_finds options.shown.explanations next.case.tree entries next.case.abi abi next.case.records (taken options.effort abi one.case.records)
-              comes.2 comes.0 version records comes.4,
-        );
-        none = λ unasked. absurd (true≢false (sym asked ∙ unasked));
-      };
-    }
+  -- one version more
+  pub goes_on : (one : Judged) (finding : FindingValue) → next.case.tree ≡ one.case.tree → next.case.records ≡ taken options.effort abi one.case.records
+      → next.newer.items ≡ finding ∷ one.newer.items
+      → Finds options.shown.explanations one.case.tree one.case.abi one.case.records finding
+      → GoesOn options abi (progress.Judged one) (progress.Judged next)
+  goes_on one finding tree records newer finds = λ entries later after comes. record {
+    records = one.case.records;
+    findings = finding ∷ one.newer.items;
+    came = (sym tree ∙ comes.0, refl, finding, refl, finds);
+    later_is = sym comes.1 ∙ records ∙ taken_as_asked one.case.records;
+    adds = record {
+      one = λ _. (
+        comes.2,
+        comes.3 ∙ ap (λ all. comes.2 ∷ all) newer,
+        same_finds options.shown.explanations next.case.tree entries next.case.abi abi next.case.records (taken options.effort abi one.case.records)
+            comes.2 comes.0 version records comes.4,
+      );
+      none = λ unasked. absurd (true≢false (sym asked ∙ unasked));
+    };
+  }

@@ -1,13 +1,11 @@
 //! A case that is judged, and not explained yet.
 
-ghost use Rattle.std.specs.Prelude.{◌≡◌, ◌∷◌, [], IfOk, IfErr};
+ghost use Rattle.std.specs.Prelude.{◌≡◌, IfOk, IfErr};
 ghost use Rattle.ll_semantics.specs.Worlds.{judged};
 ghost use Rattle.ll_process.specs.{Cases.IsCase, PastCases.as_it_was};
-ghost use Rattle.ll_explanations.specs.Findings.{FindingValue, Finds};
-ghost use Rattle.ll_audit.specs.Cases.{FindsIn, judged_in};
 ghost use Rattle.ll_audit.specs.Causes.{IsWant};
 ghost use Rattle.ll_audit.specs.ShownReports.{taken};
-ghost use Rattle.ll_audit.specs.Audits.{IsCrew};
+ghost use Rattle.ll_audit.specs.Audits.{AddsFinding, FindsIn, IsCrew, judged_in};
 
 use crate::fault::Fault;
 use crate::ranging::{Audit, Audited, case_under, in_front};
@@ -17,7 +15,6 @@ use ll_pool::Gate;
 use ll_process::{Answer, Case, CaseView, PastCase};
 use ll_rights::Abi;
 use ll_rules::NoMemory;
-use ll_trace::Located;
 use std::alloc::Global;
 use std::sync::Wait;
 use std::thread::{Threads, join};
@@ -77,75 +74,43 @@ fn explain_beside<R: Threads + Wait + Sync, G: Gate + Sync>(
     Ok((finding?, judged?))
 }
 
-/// Explains a past case and judges the one that has its trace now: at the same time where one worker judges, and else one
-/// after the other, each by all workers.
-fn explain_and_judge<R: Threads + Wait + Sync, G: Gate + Sync>(
-    audit: &Audit<'_, R, G>,
-    now: &Case,
-    past: &PastCase,
-    answers: Vec<Answer>,
-    newer: &[Finding],
-) -> Result<(Finding, Vec<Answer>), Fault>
-    requires crew { IsCrew audit.now.workers.now.count }
-    requires past { IsCase (as_it_was now.now.tree now.now.records past.now) }
-    requires answers { answers.items
-        ≡ judged_in (as_it_was now.now.tree now.now.records past.now) }
-    ensures finding { IfOk result (λ both. FindsIn audit.now.options.now.shown.explanations
-        (as_it_was now.now.tree now.now.records past.now) both.0) }
-    ensures judged { IfOk result (λ both. both.1.items ≡ judged_in now.now) }
-    ensures fault { IfErr result IsWant }
-{
-    let explains = audit.options.shown.explanations;
-    if explains && audit.workers.count == 1 {
-        return explain_beside(audit, now, past, answers, newer);
-    }
-    let view = CaseView::past(now, past);
-    let finding = audit
-        .workers
-        .explained(&view, answers, explains, newer.first())?;
-    let judged = audit.workers.answers(now, audit.cuts)?;
-    Ok((finding, judged))
-}
-
 impl Judged {
-    /// Judges a trace under the first version.
-    pub(crate) fn first<R: Threads + Wait + Sync, G: Gate + Sync>(
+    /// Judges a trace under a version, which is older than those under which something was found.
+    pub(crate) fn of<R: Threads + Wait + Sync, G: Gate + Sync>(
         audit: &Audit<'_, R, G>,
-        located: Located,
+        newer: Audited,
         abi: Abi,
     ) -> Result<Judged, Fault>
         requires { IsCrew audit.now.workers.now.count }
-        ensures tree { IfOk result (λ first. first.case.tree ≡ located.tree) }
-        ensures records { IfOk result (λ first. first.case.records
-            ≡ taken audit.now.options.now.effort abi located.trace) }
-        ensures abi { IfOk result (λ first. first.case.abi ≡ abi) }
-        ensures none { IfOk result (λ first. first.newer.items ≡ []) }
+        ensures tree { IfOk result (λ one. one.case.tree ≡ newer.located.tree) }
+        ensures abi { IfOk result (λ one. one.case.abi ≡ abi) }
+        ensures records { IfOk result (λ one. one.case.records
+            ≡ taken audit.now.options.now.effort abi newer.located.trace) }
+        ensures newer { IfOk result (λ one. one.newer.items ≡ newer.findings.items) }
         ensures fault { IfErr result IsWant }
     {
+        let Audited { located, findings } = newer;
         let case = case_under(audit, located, abi)?;
         let answers = audit.workers.answers(&case, audit.cuts)?;
         Ok(Judged {
             case,
             answers,
-            newer: Vec::new(audit.workers.alloc),
+            newer: findings,
         })
     }
 
-    /// Judges under an older version, while another thread works out the explanations of this one.
-    pub(crate) fn next<R: Threads + Wait + Sync, G: Gate + Sync>(
+    /// Judges under an older version, while another thread explains this one.
+    fn next_beside<R: Threads + Wait + Sync, G: Gate + Sync>(
         self,
         audit: &Audit<'_, R, G>,
         abi: Abi,
     ) -> Result<Judged, Fault>
-        requires { IsCrew audit.now.workers.now.count }
         ensures tree { IfOk result (λ next. next.case.tree ≡ self.case.tree) }
+        ensures abi { IfOk result (λ next. next.case.abi ≡ abi) }
         ensures records { IfOk result (λ next. next.case.records
             ≡ taken audit.now.options.now.effort abi self.case.records) }
-        ensures abi { IfOk result (λ next. next.case.abi ≡ abi) }
-        ensures findings { IfOk result (λ next. (finding : FindingValue)
-            × (next.newer.items ≡ finding ∷ self.newer.items)
-            × Finds audit.now.options.now.shown.explanations self.case.tree self.case.abi
-            self.case.records finding) }
+        ensures findings { IfOk result (λ next. AddsFinding
+            audit.now.options.now.shown.explanations self.case self.newer.items next.newer.items) }
         ensures fault { IfErr result IsWant }
     {
         let Judged {
@@ -155,7 +120,7 @@ impl Judged {
         } = self;
         let (located, past) = case.into_past(audit.workers.alloc)?;
         let case = case_under(audit, located, abi)?;
-        let (finding, answers) = explain_and_judge(audit, &case, &past, answers, &newer)?;
+        let (finding, answers) = explain_beside(audit, &case, &past, answers, &newer)?;
         Ok(Judged {
             case,
             answers,
@@ -163,17 +128,39 @@ impl Judged {
         })
     }
 
-    /// Works out the explanations of the oldest version.
+    /// Explains this version and judges under an older one: at the same time where one worker judges, and else one after
+    /// the other, each by all workers.
+    pub(crate) fn next<R: Threads + Wait + Sync, G: Gate + Sync>(
+        self,
+        audit: &Audit<'_, R, G>,
+        abi: Abi,
+    ) -> Result<Judged, Fault>
+        requires { IsCrew audit.now.workers.now.count }
+        ensures records { IfOk result (λ next. next.case.records
+            ≡ taken audit.now.options.now.effort abi self.case.records) }
+        ensures tree { IfOk result (λ next. next.case.tree ≡ self.case.tree) }
+        ensures findings { IfOk result (λ next. AddsFinding
+            audit.now.options.now.shown.explanations self.case self.newer.items next.newer.items) }
+        ensures abi { IfOk result (λ next. next.case.abi ≡ abi) }
+        ensures fault { IfErr result IsWant }
+    {
+        if audit.options.shown.explanations && audit.workers.count == 1 {
+            return self.next_beside(audit, abi);
+        }
+        let newer = self.finish(audit, audit.workers.count)?;
+        Judged::of(audit, newer, abi)
+    }
+
+    /// Explains the version by at most this many threads.
     pub(crate) fn finish<R: Threads + Wait + Sync, G: Gate + Sync>(
         self,
         audit: &Audit<'_, R, G>,
+        threads: u64,
     ) -> Result<Audited, Fault>
+        ensures found { IfOk result (λ all. AddsFinding audit.now.options.now.shown.explanations
+            self.case self.newer.items all.findings.items) }
         ensures tree { IfOk result (λ all. all.located.tree ≡ self.case.tree) }
         ensures trace { IfOk result (λ all. all.located.trace ≡ self.case.records) }
-        ensures findings { IfOk result (λ all. (finding : FindingValue)
-            × (all.findings.items ≡ finding ∷ self.newer.items)
-            × Finds audit.now.options.now.shown.explanations self.case.tree self.case.abi
-            self.case.records finding) }
         ensures fault { IfErr result IsWant }
     {
         let Judged {
@@ -181,11 +168,11 @@ impl Judged {
             answers,
             newer,
         } = self;
-        let view = CaseView::of(&case);
         let explains = audit.options.shown.explanations;
+        let view = CaseView::of(&case);
         let finding = audit
             .workers
-            .explained(&view, answers, explains, newer.first())?;
+            .explained(&view, answers, explains, newer.first(), threads)?;
         Ok(Audited {
             located: case.into_located(),
             findings: in_front(finding, newer)?,

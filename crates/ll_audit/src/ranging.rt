@@ -69,13 +69,17 @@ impl Progress {
             return Ok(self);
         }
         let judged = match self {
-            Progress::Begun(located) => Judged::first(audit, located, abi)?,
+            Progress::Begun(located) => {
+                let findings = Vec::new(audit.workers.alloc);
+                Judged::of(audit, Audited { located, findings }, abi)?
+            }
             Progress::Judged(newer) => newer.next(audit, abi)?,
         };
         Ok(Progress::Judged(judged))
     }
 
-    /// What was found under all versions so far.
+    /// What was found under all versions so far. The oldest of them is explained by all workers, and where one worker
+    /// judged, also by the thread that explained meanwhile.
     fn finish<R: Threads + Wait + Sync, G: Gate + Sync>(
         self,
         audit: &Audit<'_, R, G>,
@@ -89,7 +93,7 @@ impl Progress {
                 located,
                 findings: Vec::new(audit.workers.alloc),
             }),
-            Progress::Judged(judged) => judged.finish(audit),
+            Progress::Judged(judged) => judged.finish(audit, audit.workers.count.max(2)),
         }
     }
 

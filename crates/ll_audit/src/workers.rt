@@ -4,8 +4,7 @@ ghost use Rattle.std.specs.Prelude.{◌≡◌, IfOk, IfErr};
 ghost use Rattle.ll_semantics.specs.Worlds.{judged};
 ghost use Rattle.ll_explanations.specs.Findings.{Finds};
 ghost use Rattle.ll_audit.specs.Causes.{IsWant};
-ghost use Rattle.ll_audit.specs.Audits.{IsCrew};
-ghost use Rattle.ll_audit.specs.Cases.{judged_in};
+ghost use Rattle.ll_audit.specs.Audits.{FindsIn, IsCrew, judged_in};
 
 use crate::fault::Fault;
 use ll_explanations::Finding;
@@ -49,20 +48,21 @@ impl<'a, R: Threads + Wait + Sync, G: Gate + Sync> Workers<'a, R, G> {
         Ok(collect_whole(self.alloc, case, pieces)?)
     }
 
-    /// What is found of the records of a case, by the answers to them: the explanations too, if these are asked for. What
-    /// is found alike under a newer version is kept once.
+    /// What is found of the records of a case, by the answers to them: the explanations too, if these are asked for, which
+    /// at most this many threads work out. What is found alike under a newer version is kept once.
     pub(crate) fn explained(
         &self,
         case: &CaseView<'_>,
         answers: Vec<Answer>,
         explains: bool,
         newer: Option<&Finding>,
+        threads: u64,
     ) -> Result<Finding, NoMemory>
-        requires { answers.items ≡ judged case.now.tree case.now.abi case.now.records }
-        ensures { IfOk result (Finds explains case.now.tree case.now.abi case.now.records) }
+        requires { answers.items ≡ judged_in case.now }
+        ensures { IfOk result (FindsIn explains case.now) }
     {
-        let count = self.count as usize;
-        Finding::of(self.rt, self.alloc, case, answers, explains, newer, count)
+        let threads = threads as usize;
+        Finding::of(self.rt, self.alloc, case, answers, explains, newer, threads)
     }
 
     /// What is found of the records of a case, whose work is cut at these processes: the answers, and the explanations
@@ -80,7 +80,7 @@ impl<'a, R: Threads + Wait + Sync, G: Gate + Sync> Workers<'a, R, G> {
     {
         let answers = self.answers(case, cuts)?;
         let view = CaseView::of(case);
-        Ok(self.explained(&view, answers, explains, None)?)
+        Ok(self.explained(&view, answers, explains, None, self.count)?)
     }
 }
 

@@ -1,6 +1,6 @@
 -- A past case is the case as it was, whatever an older version has made of its records.
 use Rattle.std.proofs.Common.{◌≡◌, ◌∙◌, ◌+◌, ◌<◌, ◌≤◌, ℕ, zero, suc, Bool, true, false, List, []}
-use Rattle.std.proofs.Common.{◌∷◌, length, Option, Some, None, refl, sym, ap, ap₂, subst, arith, inl, inr}
+use Rattle.std.proofs.Common.{◌∷◌, get_or, length, Option, Some, None, refl, sym, ap, ap₂, subst, arith, inl, inr}
 use Rattle.std.specs.Prelude.{if◌then◌else◌, slice_get, unwrap_or}
 use Rattle.std.specs.BTreeMap.{Updates, get, is_at}
 use Rattle.std.specs.Map.{lookup}
@@ -9,7 +9,7 @@ use Rattle.std.specs.declared.cmp.Ordering.{Ordering}
 use Rattle.std.specs.declared.cmp.Ordering.TheVariants.{Less, Equal, Greater}
 use Rattle.std.proofs.lemmas.Bool.{cases_Bool, cases_eq, cases_lt, true≢false}
 use Rattle.std.proofs.lemmas.Map.Lookups.{exact_unsigned}
-use Rattle.std.proofs.lemmas.Option.{none-some, same_Some, slice_get_cases, slice_get_past, slice_get_within}
+use Rattle.std.proofs.lemmas.Option.{none-some, same_Some, slice_get_cases, slice_get_past, slice_get_read, slice_get_within}
 use Rattle.ll_tree.specs.Trees.{Entry}
 use Rattle.ll_tree.specs.declared.place.Place.TheVariants.{Nowhere}
 use Rattle.ll_trace.specs.declared.op.Op.{Op}
@@ -186,6 +186,13 @@ module _ (case value : CaseValue) (past : Option PastCase) (is : viewed case pas
   -- as many records
   pub as_many_viewed : length case.records ≡ length value.records
   as_many_viewed = sym (as_many past) ∙ ap (λ cv. length cv.records) is
+
+  -- what is read at a place of its records
+  pub read_at : (read : List Record) (place : ℕ) (l : Record) → read ≡ case.records → place < length value.records → l ≡ get_or read place l
+      → slice_get case.records place ≡ Some l
+  read_at read place l same within is =
+      slice_get_read case.records (length case.records) place l refl (omega (arith, within, as_many_viewed))
+      (is ∙ ap (λ records. get_or records place l) same)
 
   same_tree : (past : Option PastCase) → (viewed case past).tree ≡ case.tree
   same_tree None = refl

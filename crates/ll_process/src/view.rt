@@ -91,6 +91,7 @@ impl<'c> CaseView<'c> {
     }
 
     /// How many records there are.
+    #[tactic(auto, using(crate::proofs::PastCases::as_many_viewed))]
     pub fn count(&self) -> usize
         ensures { result ≡ length self.now.records }
     {

@@ -4,7 +4,7 @@ use Rattle.std.specs.Option.{option_map}
 use Rattle.std.proofs.lemmas.Option.{slice_get_read}
 use Rattle.ll_trace.specs.declared.op.Record.{Record}
 use Rattle.ll_process.specs.Cases.{CaseValue}
-use Rattle.ll_process.proofs.PastCases.{as_many_viewed, process_viewed, same_viewed, viewed_record}
+use Rattle.ll_process.proofs.PastCases.{as_many_viewed, process_viewed, read_at, same_viewed, viewed_record}
 use Rattle.ll_process.proofs.view.CaseView.call.Goals.{in-Some, in-None}
 use Rattle.ll_process.proofs.view.CaseView.call.Goals as goal
 
@@ -36,10 +36,7 @@ pub returns-clause-op : goal.returns-clause-op
 returns-clause-op c = λ r there.
     let case : CaseValue = c.self.inside.case.now in
     let l : Record = c.index-records-place.result in
-    let within : c.args.place < length case.records = omega (arith, c.requires, as_many_viewed case _ _ c.self.view_is) in
-    let at : slice_get case.records c.args.place ≡ Some l =
-    slice_get_read case.records (length case.records) c.args.place l refl within
-    (c.index-records-place.is ∙ ap (λ records. get_or records c.args.place l) c.self.inside.at_hand) in
+    let at = read_at case _ _ c.self.view_is c.self.inside.records.now c.args.place l c.self.inside.at_hand c.requires c.index-records-place.is in
     let same = same_viewed case _ _ c.self.view_is c.args.place l r at there in
     elim c.match-self.branch [
       | in-Some w ↦
@@ -56,10 +53,7 @@ pub returns-clause-process : goal.returns-clause-process
 returns-clause-process c = λ r there.
     let case : CaseValue = c.self.inside.case.now in
     let l : Record = c.index-records-place.result in
-    let within : c.args.place < length case.records = omega (arith, c.requires, as_many_viewed case _ _ c.self.view_is) in
-    let at : slice_get case.records c.args.place ≡ Some l =
-    slice_get_read case.records (length case.records) c.args.place l refl within
-    (c.index-records-place.is ∙ ap (λ records. get_or records c.args.place l) c.self.inside.at_hand) in
+    let at = read_at case _ _ c.self.view_is c.self.inside.records.now c.args.place l c.self.inside.at_hand c.requires c.index-records-place.is in
     process_viewed case _ _ c.self.view_is c.args.place l r at there
 
 pub returns-clause-few : goal.returns-clause-few
