@@ -1,6 +1,6 @@
--- What an audit answers: the report, or why there is none. Also how many threads may judge, and what is found of a case.
+-- What an audit answers: the report, or why there is none. Also how many threads may judge.
 -- Source: docs/FORMATS.md, "The report", "The command line" and "Faults of a run"; docs/SEMANTICS.md.
-use Rattle.std.specs.Prelude.{◌≡◌, ◌≤◌, ℕ, Bool, List, ◌∷◌}
+use Rattle.std.specs.Prelude.{◌≡◌, ◌≤◌, ℕ, List}
 use Rattle.ll_rights.specs.declared.abi.Abi.{Abi}
 use Rattle.ll_lines.specs.Reading.{IsBad}
 use Rattle.ll_tree.specs.TreeReading.{IsTreeOf, tree_format}
@@ -8,10 +8,7 @@ use Rattle.ll_tree.specs.Trees.{Entry}
 use Rattle.ll_trace.specs.declared.op.Record.{Record}
 use Rattle.ll_trace.specs.Entries.{trace_file}
 use Rattle.ll_trace.specs.Records.{IsTrace}
-use Rattle.ll_semantics.specs.declared.answer.Answer.{Answer}
 use Rattle.ll_semantics.specs.Worlds.{judged}
-use Rattle.ll_process.specs.Cases.{CaseValue}
-use Rattle.ll_explanations.specs.Findings.{FindingValue, Finds}
 use Rattle.ll_report.specs.declared.report.Report.{Report}
 use Rattle.ll_report.specs.Lines.{lines_of, refused_among}
 use Rattle.ll_report.specs.Report.{report_text}
@@ -55,17 +52,3 @@ IsFaultOf workers tree_bytes trace_bytes (fault.Tree bad) = IsCrew workers × Is
 IsFaultOf workers tree_bytes trace_bytes (fault.Trace bad) = IsCrew workers × ReadsAsTree tree_bytes × IsBad trace_file trace_bytes bad
 IsFaultOf workers tree_bytes trace_bytes fault.Memory = IsCrew workers
 IsFaultOf workers tree_bytes trace_bytes fault.NoThread = IsCrew workers × ReadsAsTree tree_bytes × ReadsAsTrace trace_bytes
-
--- ---- one case of an audit
-
--- the answers to its records
-abbrev pub judged_in : CaseValue → List Answer
-judged_in case = judged case.tree case.abi case.records
-
--- this is found of its records
-abbrev pub FindsIn : Bool → CaseValue → FindingValue → Type 0
-FindsIn explains case finding = Finds explains case.tree case.abi case.records finding
-
--- what is found of it stands in front of what was found under newer versions
-abbrev pub AddsFinding : Bool → CaseValue → List FindingValue → List FindingValue → Type 0
-AddsFinding explains case newer all = (finding : FindingValue) × (all ≡ finding ∷ newer) × FindsIn explains case finding

@@ -5,7 +5,8 @@ ghost use Rattle.ll_semantics.specs.Worlds.{judged};
 ghost use Rattle.ll_process.specs.{Cases.IsCase, PastCases.as_it_was};
 ghost use Rattle.ll_audit.specs.Causes.{IsWant};
 ghost use Rattle.ll_audit.specs.ShownReports.{taken};
-ghost use Rattle.ll_audit.specs.Audits.{AddsFinding, FindsIn, IsCrew, judged_in};
+ghost use Rattle.ll_audit.specs.Audits.{IsCrew};
+ghost use Rattle.ll_audit.specs.Cases.{AddsFinding, FindsIn, judged_in};
 
 use crate::fault::Fault;
 use crate::ranging::{Audit, Audited, case_under, in_front};

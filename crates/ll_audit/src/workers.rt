@@ -4,7 +4,8 @@ ghost use Rattle.std.specs.Prelude.{◌≡◌, IfOk, IfErr};
 ghost use Rattle.ll_semantics.specs.Worlds.{judged};
 ghost use Rattle.ll_explanations.specs.Findings.{Finds};
 ghost use Rattle.ll_audit.specs.Causes.{IsWant};
-ghost use Rattle.ll_audit.specs.Audits.{FindsIn, IsCrew, judged_in};
+ghost use Rattle.ll_audit.specs.Audits.{IsCrew};
+ghost use Rattle.ll_audit.specs.Cases.{FindsIn, judged_in};
 
 use crate::fault::Fault;
 use ll_explanations::Finding;
