@@ -78,8 +78,8 @@ fn explain_beside<R: Threads + Wait + Sync, G: Gate + Sync>(
 impl Judged {
     /// Judges a trace under a version, which is older than those under which something was found.
     pub(crate) fn of<R: Threads + Wait + Sync, G: Gate + Sync>(
-        audit: &Audit<'_, R, G>,
         newer: Audited,
+        audit: &Audit<'_, R, G>,
         abi: Abi,
     ) -> Result<Judged, Fault>
         requires { IsCrew audit.now.workers.now.count }
@@ -149,7 +149,7 @@ impl Judged {
             return self.next_beside(audit, abi);
         }
         let newer = self.finish(audit, audit.workers.count)?;
-        Judged::of(audit, newer, abi)
+        Judged::of(newer, audit, abi)
     }
 
     /// Explains the version by at most this many threads.
@@ -165,15 +165,15 @@ impl Judged {
         ensures fault { IfErr result IsWant }
     {
         let Judged {
+            newer,
             case,
             answers,
-            newer,
         } = self;
         let explains = audit.options.shown.explanations;
         let view = CaseView::of(&case);
         let finding = audit
             .workers
-            .explained(&view, answers, explains, newer.first(), threads)?;
+            .explained(explains, &view, answers, newer.first(), threads)?;
         Ok(Audited {
             located: case.into_located(),
             findings: in_front(finding, newer)?,

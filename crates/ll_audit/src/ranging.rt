@@ -71,7 +71,7 @@ impl Progress {
         let judged = match self {
             Progress::Begun(located) => {
                 let findings = Vec::new(audit.workers.alloc);
-                Judged::of(audit, Audited { located, findings }, abi)?
+                Judged::of(Audited { located, findings }, audit, abi)?
             }
             Progress::Judged(newer) => newer.next(audit, abi)?,
         };

@@ -53,9 +53,9 @@ impl<'a, R: Threads + Wait + Sync, G: Gate + Sync> Workers<'a, R, G> {
     /// at most this many threads work out. What is found alike under a newer version is kept once.
     pub(crate) fn explained(
         &self,
+        explains: bool,
         case: &CaseView<'_>,
         answers: Vec<Answer>,
-        explains: bool,
         newer: Option<&Finding>,
         threads: u64,
     ) -> Result<Finding, NoMemory>
@@ -81,7 +81,7 @@ impl<'a, R: Threads + Wait + Sync, G: Gate + Sync> Workers<'a, R, G> {
     {
         let answers = self.answers(case, cuts)?;
         let view = CaseView::of(case);
-        Ok(self.explained(&view, answers, explains, None, self.count)?)
+        Ok(self.explained(explains, &view, answers, None, self.count)?)
     }
 }
 

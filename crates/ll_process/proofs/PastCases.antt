@@ -15,6 +15,7 @@ use Rattle.ll_tree.specs.declared.place.Place.TheVariants.{Nowhere}
 use Rattle.ll_trace.specs.declared.op.Op.{Op}
 use Rattle.ll_trace.specs.declared.op.Op.TheVariants as calls
 use Rattle.ll_trace.specs.declared.op.Record.{Record}
+use Rattle.ll_trace.specs.declared.reader.TheConstants.{MOST_RECORDS}
 use Rattle.ll_trace.specs.BestEffort.{names_rights}
 use Rattle.ll_trace.specs.FirstPlaces.{first_place}
 use Rattle.ll_process.specs.Cases.{CaseValue}
@@ -186,6 +187,10 @@ module _ (case value : CaseValue) (past : Option PastCase) (is : viewed case pas
   -- as many records
   pub as_many_viewed : length case.records ≡ length value.records
   as_many_viewed = sym (as_many past) ∙ ap (λ cv. length cv.records) is
+
+  -- a place is a small number
+  pub few_before : (read : List Record) (place : ℕ) → read ≡ case.records → length read ≤ MOST_RECORDS → place < length value.records → place < MOST_RECORDS
+  few_before read place same few within = omega (arith, few, within, as_many_viewed, ap (λ records. length records) same)
 
   -- what is read at a place of its records
   pub read_at : (read : List Record) (place : ℕ) (l : Record) → read ≡ case.records → place < length value.records → l ≡ get_or read place l

@@ -4,19 +4,14 @@ use Rattle.std.specs.Option.{option_map}
 use Rattle.std.proofs.lemmas.Option.{slice_get_read}
 use Rattle.ll_trace.specs.declared.op.Record.{Record}
 use Rattle.ll_process.specs.Cases.{CaseValue}
-use Rattle.ll_process.proofs.PastCases.{as_many_viewed, process_viewed, read_at, same_viewed, viewed_record}
+use Rattle.ll_process.proofs.PastCases.{as_many_viewed, few_before, process_viewed, read_at, same_viewed, viewed_record}
 use Rattle.ll_process.proofs.view.CaseView.call.Goals.{in-Some, in-None}
 use Rattle.ll_process.proofs.view.CaseView.call.Goals as goal
 
 pub offset_bounds-records-place : goal.offset_bounds-records-place
 offset_bounds-records-place c =
-    omega (
-      arith,
-      c.self.inside.few,
-      ap (λ records. length records) c.self.inside.at_hand,
-      as_many_viewed c.self.inside.case.now _ _ c.self.view_is,
-      c.requires,
-    )
+    let small = few_before c.self.inside.case.now _ _ c.self.view_is c.self.inside.records.now c.args.place in
+    omega (arith, small c.self.inside.at_hand c.self.inside.few c.requires)
 
 pub bounds-records-place : goal.bounds-records-place
 bounds-records-place c =
@@ -24,13 +19,8 @@ bounds-records-place c =
 
 pub overflow_cast-place : goal.overflow_cast-place
 overflow_cast-place c =
-    omega (
-      arith,
-      c.self.inside.few,
-      ap (λ records. length records) c.self.inside.at_hand,
-      as_many_viewed c.self.inside.case.now _ _ c.self.view_is,
-      c.requires,
-    )
+    let small = few_before c.self.inside.case.now _ _ c.self.view_is c.self.inside.records.now c.args.place in
+    omega (arith, small c.self.inside.at_hand c.self.inside.few c.requires)
 
 pub returns-clause-op : goal.returns-clause-op
 returns-clause-op c = λ r there.
