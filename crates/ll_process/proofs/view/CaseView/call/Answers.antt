@@ -1,7 +1,5 @@
-use Rattle.std.proofs.Common.{◌≡◌, ◌∙◌, ◌<◌, Some, ap, arith, get_or, length, refl, subst}
-use Rattle.std.specs.Prelude.{slice_get}
+use Rattle.std.proofs.Common.{◌≡◌, ◌∙◌, ap, arith, length, subst}
 use Rattle.std.specs.Option.{option_map}
-use Rattle.std.proofs.lemmas.Option.{slice_get_read}
 use Rattle.ll_trace.specs.declared.op.Record.{Record}
 use Rattle.ll_process.specs.Cases.{CaseValue}
 use Rattle.ll_process.proofs.PastCases.{as_many_viewed, few_before, process_viewed, read_at, same_viewed, viewed_record}
