@@ -1,5 +1,5 @@
 -- How an audit under several versions goes on by one version.
-use Rattle.std.proofs.Common.{◌≡◌, ◌∙◌, Bool, true, false, List, [], ◌∷◌, refl, sym, ap, ap₂, subst}
+use Rattle.std.proofs.Common.{◌≡◌, ◌∙◌, Bool, true, List, [], ◌∷◌, refl, sym, ap, ap₂, subst}
 use Rattle.std.proofs.lemmas.Bool.{true≢false}
 use Rattle.ll_rights.specs.declared.abi.Abi.{Abi}
 use Rattle.ll_rights.specs.AbiRanges.{is_in}
@@ -16,7 +16,6 @@ use Rattle.ll_report.specs.declared.options.Options.{Options}
 use Rattle.ll_audit.specs.Ranging.{GoesOn, taken_if_asked}
 use Rattle.ll_audit.specs.ShownReports.{taken}
 use Rattle.ll_audit.specs.declared.judged.Judged.{Judged}
-use Rattle.ll_audit.specs.declared.ranging.Progress.{Progress}
 use Rattle.ll_audit.specs.declared.ranging.Progress.TheVariants as progress
 use Rattle.ll_audit.proofs.VersionByVersion.{later_taken}
 
