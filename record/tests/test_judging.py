@@ -117,7 +117,7 @@ class Judging(KeptLogs):
         self.assert_nothing_is_left()
 
     def test_signals_end_an_audit_and_leave_nothing(self) -> None:
-        """Also where the tests are a shell's background job, which ignores SIGINT, as would what it starts."""
+        """Also if the tests are a background job of a shell: such a job ignores SIGINT, and so do its children."""
         self.addCleanup(signal.signal, signal.SIGINT, signal.signal(signal.SIGINT, signal.default_int_handler))
         for name, waits in {"SIGINT": "trace-1.jsonl", "SIGTERM": "trace-2.jsonl"}.items():
             self.started.unlink(missing_ok=True)

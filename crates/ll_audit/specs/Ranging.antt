@@ -1,4 +1,4 @@
--- An audit under several versions, the newest first: what is found when it ends where it is, and how it goes on.
+-- An audit under several versions, the newest first: what is found if it ends now, and how it goes on.
 -- Source: docs/FORMATS.md, "Several versions"; that a version is explained while the next one judges is the code's own.
 use Rattle.std.specs.Prelude.{◌≡◌, List, [], ◌∷◌, true, false, if◌then◌else◌, map}
 use Rattle.ll_rights.specs.declared.abi.Abi.{Abi}
@@ -30,7 +30,7 @@ pub record Adds (options : Options) (abi : Abi) (tree : List Entry) (records : L
 abbrev pub taken_if_asked : Options → Abi → List Record → List Record
 taken_if_asked options abi records = if is_in options.abis abi then taken options.effort abi records else records
 
--- what an audit comes to that has gone on by a version adds to what it came to before
+-- An audit that has gone on by one version comes to what it came to before, and to what is found under that version.
 pub record CameFrom (options : Options) (abi : Abi) (before : Progress) (tree : List Entry) (later : List Record) (after : List FindingValue) : Type 0 where
   pub records : List Record
   pub findings : List FindingValue

@@ -78,8 +78,8 @@ impl Progress {
         Ok(Progress::Judged(judged))
     }
 
-    /// What was found under all versions so far. The oldest of them is explained by all workers, and where one worker
-    /// judged, also by the thread that explained meanwhile.
+    /// What was found under all versions so far. As many threads explain the oldest of them as there are workers, but two
+    /// if there is one worker.
     fn finish<R: Threads + Wait + Sync, G: Gate + Sync>(
         self,
         audit: &Audit<'_, R, G>,
