@@ -1,9 +1,9 @@
 -- What best effort leaves of the records of a trace: their lines, pids and processes, and which of them start or end a process.
-use Rattle.std.proofs.Common.{◌≡◌, ℕ, zero, suc, ◌+◌, ◌≤◌, Bool, true, false, not, ◌&&◌, List, [], ◌∷◌, ◌++◌, length, get_or, map, take, drop, Option, Some}
+use Rattle.std.proofs.Common.{◌≡◌, ℕ, zero, suc, ◌+◌, Bool, true, false, not, ◌&&◌, List, [], ◌∷◌, get_or, map, take, Option, Some}
 use Rattle.std.proofs.Common.{None, cond, refl, sym, ap, ◌∙◌, if◌then◌else◌}
 use Rattle.std.specs.Prelude.{slice_get}
 use Rattle.std.proofs.lemmas.Option.{none-some, same_Some}
-use Rattle.std.proofs.lemmas.List.{append-nil, drop_all, length-map, take-map, take_all}
+use Rattle.std.proofs.lemmas.List.{length-map, take-map}
 use Rattle.ll_rights.specs.declared.abi.Abi.{Abi}
 use Rattle.ll_rights.specs.Supported.{supported_fs, supported_net}
 use Rattle.ll_rights.specs.Rights as files
@@ -20,9 +20,9 @@ use Rattle.ll_trace.specs.Entries as entries
 use Rattle.ll_trace.specs.Records.{entry_of, record_of, records_after, process_of}
 use Rattle.ll_trace.specs.Traces.{ArePlaced, AreRecords}
 use Rattle.ll_trace.specs.Processes.{is_starting, process_count, number_if, started_at, own_from, own_records, forked_by, parents}
-use Rattle.ll_trace.specs.Indexed.{Indexes}
+use Rattle.ll_trace.specs.Indexed.{HaveRights, Indexes}
 use Rattle.ll_trace.specs.FirstPlaces.{AreFirstPlaces, first_place, paths_of}
-use Rattle.ll_trace.specs.BestEffort.{at_best_effort, record_at_best_effort, records_at_best_effort}
+use Rattle.ll_trace.specs.BestEffort.{at_best_effort, names_rights, record_at_best_effort, records_at_best_effort}
 use Rattle.ll_trace.proofs.Numbering.{are_numbered}
 use Rattle.ll_trace.proofs.Numbers.{process_count-cons}
 
@@ -197,6 +197,25 @@ module _ (abi : Abi) where
   started-kept records k =
       ap (number_if is_starting (records_at_best_effort abi records) k) (there-kept records k) ∙ number-kept records k (slice_get records k)
 
+  -- what best effort makes of a call names rights only if the call does
+  named_before : (op : Op) → names_rights (at_best_effort abi op) ≡ true → names_rights op ≡ true
+  unfolding at_best_effort names_rights
+  named_before (calls.Create rs fs net) names = refl
+  named_before (calls.AddPath rs path fs) names = refl
+  named_before (calls.AddPort rs port net) names = refl
+  named_before op names = names
+
+  rights-kept : (places : List ℕ) (records : List Record) → HaveRights places records → HaveRights places (records_at_best_effort abi records)
+  unfolding kept_there HaveRights
+  rights-kept places records have = λ k after at. by k after (slice_get records k) refl (sym (there-kept records k) ∙ at)
+    where
+      by : (k : ℕ) (after : Record) (one : Option Record) → slice_get records k ≡ one → kept_there one ≡ Some after → names_rights after.op ≡ true
+          → (j : ℕ) × (slice_get places j ≡ Some k)
+      by k after None is kept names = absurd (none-some after kept)
+      by k after (Some r) is kept names =
+          let same : record_at_best_effort abi r ≡ after = same_Some (record_at_best_effort abi r) after kept in
+          have k r is (named_before r.op (ap (λ (x : Record). names_rights x.op) same ∙ names))
+
   pub indexes-kept : (tables : Tables) (records : List Record) → Indexes tables records → Indexes tables (records_at_best_effort abi records)
   unfolding own_records
   indexes-kept tables records indexes = record {
@@ -208,12 +227,5 @@ module _ (abi : Abi) where
       start =
           λ process below. started-kept records (get_or tables.starts.items process 0) ∙ indexes.by_start.start process (rw (← starting-kept records) below);
     };
+    rights = rights-kept tables.rights.items records indexes.rights;
   }
-
-  -- all records were looked at
-  pub all_done : (records done : List Record) (k : ℕ) → length records ≤ k → done ≡ map (record_at_best_effort abi) (take k records) ++ drop k records
-      → done ≡ records_at_best_effort abi records
-  all_done records done k all is =
-      is ∙ ap (λ (rs : List Record). map (record_at_best_effort abi) rs ++ drop k records) (take_all k records all)
-      ∙ ap (λ (rs : List Record). map (record_at_best_effort abi) records ++ rs) (drop_all k records all)
-      ∙ append-nil (map (record_at_best_effort abi) records)

@@ -129,7 +129,7 @@ net_empty abi set empty =
     let none : set ≡ network.no_right = ap (λ bits. record { 0 = bits }) (eqb-true set.0 0 (net_is_empty set ∙ empty)) in
     ap (λ (s : Net). network.is_empty (supported_net abi s)) none ∙ ap network.is_empty (no_port_of abi) ∙ sym (net_is_empty network.no_right)
 
-call-older : (older newer : Abi) → number_of older ≤ number_of newer → (op : Op) → at_best_effort older (at_best_effort newer op) ≡ at_best_effort older op
+pub call-older : (older newer : Abi) → number_of older ≤ number_of newer → (op : Op) → at_best_effort older (at_best_effort newer op) ≡ at_best_effort older op
 unfolding at_best_effort
 call-older older newer le (calls.Create rs fs net) =
     let fewer : supported_fs older (supported_fs newer fs) ≡ supported_fs older fs = fs_supported-older older newer fs le in

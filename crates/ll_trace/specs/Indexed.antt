@@ -1,9 +1,10 @@
 -- What a trace keeps beside its records, so that processes are looked up and not searched for.
 -- Source: docs/FORMATS.md, "The trace file".
-use Rattle.std.specs.Prelude.{◌≡◌, ℕ, ◌+◌, ◌<◌, ◌==◌, List, [], ◌∷◌, ◌++◌, length, map, Some, Vec, slice_index_or, if◌then◌else◌}
+use Rattle.std.specs.Prelude.{◌≡◌, ℕ, ◌+◌, ◌<◌, ◌==◌, true, List, [], ◌∷◌, ◌++◌, length, map, Some, Vec, slice_get, slice_index_or, if◌then◌else◌}
 use Rattle.std.specs.declared.alloc.Global.{Global}
 use Rattle.ll_trace.specs.declared.op.Record.{Record}
 use Rattle.ll_trace.specs.declared.tables.Tables.{Tables}
+use Rattle.ll_trace.specs.BestEffort.{names_rights}
 use Rattle.ll_trace.specs.Processes.{is_starting, process_count, started_at, own_records, forked_by, parents}
 
 abbrev pub lists : List (Vec ℕ Global) → List (List ℕ)
@@ -18,12 +19,18 @@ pub record AreStarts (starts : List ℕ) (records : List Record) : Type 0 where
   pub one_each : length starts ≡ process_count records
   pub start : (process : ℕ) → process < process_count records → started_at records (slice_index_or starts process 0) ≡ Some process
 
+-- each call that names rights is at one of these places
+unfoldable pub HaveRights : List ℕ → List Record → Type 0
+HaveRights places records =
+    (k : ℕ) (r : Record) → slice_get records k ≡ Some r → names_rights r.op ≡ true → (j : ℕ) × (slice_get places j ≡ Some k)
+
 -- the tables of some records
 pub record Indexes (tables : Tables) (records : List Record) : Type 0 where
   pub by_process : tables.parents.items ≡ parents records
   pub size : length tables.own.items ≡ process_count records
   pub places : (process : ℕ) → places_noted tables process ≡ own_records records process
   pub by_start : AreStarts tables.starts.items records
+  pub rights : HaveRights tables.rights.items records
 
 -- one record more, at a place
 pub record Adds (old new : Tables) (r : Record) (place : ℕ) : Type 0 where
@@ -31,3 +38,4 @@ pub record Adds (old new : Tables) (r : Record) (place : ℕ) : Type 0 where
   pub size : length new.own.items ≡ length old.own.items + (if is_starting r.op then 1 else 0)
   pub places : (process : ℕ) → places_noted new process ≡ places_noted old process ++ (if r.process.0 == process then place ∷ [] else [])
   pub by_start : new.starts.items ≡ old.starts.items ++ (if is_starting r.op then place ∷ [] else [])
+  pub rights : new.rights.items ≡ old.rights.items ++ (if names_rights r.op then place ∷ [] else [])

@@ -33,7 +33,7 @@ impl Located {
         ensures places { IfOk result
             (λ located. located.places.items ≡ map (λ r. first_place tree r.op) trace) }
     {
-        let places = places_of(alloc, &tree, trace.records())?;
+        let places = places_of(alloc, &tree, &trace)?;
         Ok(Located {
             tree,
             trace,
@@ -58,7 +58,7 @@ impl Located {
         if workers <= 1 {
             return Located::of(alloc, tree, trace);
         }
-        let places = places_by(rt, alloc, &tree, trace.records(), workers)?;
+        let places = places_by(rt, alloc, &tree, &trace, workers)?;
         Ok(Located {
             tree,
             trace,
@@ -87,11 +87,12 @@ impl Located {
 }
 
 /// The place of each record's first path.
-fn places_of(alloc: Global, tree: &Tree, records: &[Record]) -> Result<Vec<Place>, AllocError>
+fn places_of(alloc: Global, tree: &Tree, trace: &Trace) -> Result<Vec<Place>, AllocError>
     ensures { IfOk result
-        (λ places. places.items ≡ map (λ r. first_place tree.now r.op) records.now) }
+        (λ places. places.items ≡ map (λ r. first_place tree.now r.op) trace.now) }
 {
-    records
+    trace
+        .records()
         .iter()
         .map(|record| record.op.first_place(tree))
         .collect(alloc)
@@ -102,13 +103,14 @@ fn places_by<R: Threads + Sync>(
     rt: &R,
     alloc: Global,
     tree: &Tree,
-    records: &[Record],
+    trace: &Trace,
     workers: usize,
 ) -> Result<Vec<Place>, AllocError>
     requires { 1 ≤ workers }
     ensures { IfOk result
-        (λ places. places.items ≡ map (λ r. first_place tree.now r.op) records.now) }
+        (λ places. places.items ≡ map (λ r. first_place tree.now r.op) trace.now) }
 {
+    let records = trace.records();
     records
         .par_iter()
         .map(

@@ -320,6 +320,17 @@ impl Op {
         }
     }
 
+    /// Whether a call names rights, which best effort may take out.
+    #[tactic(auto, unfolding(crate::specs::BestEffort::names_rights))]
+    pub(crate) fn names_rights(&self) -> bool
+        ensures { result ≡ names_rights self.now }
+    {
+        matches!(
+            self,
+            Op::Create { .. } | Op::AddPath { .. } | Op::AddPort { .. }
+        )
+    }
+
     /// A copy of a call that names rights, which best effort may change; `None` for every other call.
     #[tactic(auto, unfolding(crate::specs::BestEffort::names_rights))]
     pub fn copy_if_naming_rights(&self, alloc: Global) -> Result<Option<Op>, AllocError>

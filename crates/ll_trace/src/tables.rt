@@ -8,16 +8,19 @@ use std::alloc::{AllocError, Global};
 
 /// The parent of each process, the places of its records, and the place of the record that starts it,
 /// in the order of the processes' numbers. So the places in `starts` rise, and the process that a
-/// record starts is found by a binary search.
+/// record starts is found by a binary search. The calls that name rights are at the places in `rights`, where
+/// other calls may be too.
 #[derive(Drop)]
 pub struct Tables {
     pub parents: Vec<Option<ProcessId>>,
     pub own: Vec<Vec<u32>>,
     pub starts: Vec<u32>,
+    pub rights: Vec<u32>,
 }
 
 impl Tables {
     ghost use Rattle.ll_trace.specs.Processes.{is_starting, forked_by};
+    ghost use Rattle.ll_trace.specs.BestEffort.{names_rights};
     ghost use Rattle.ll_trace.specs.Indexed.{Adds, Indexes, lists, places_noted};
 
     #[tactic(auto, unfolding(crate::proofs::TableLemmas::without_records))]
@@ -28,6 +31,7 @@ impl Tables {
             parents: Vec::new(alloc),
             own: Vec::new(alloc),
             starts: Vec::new(alloc),
+            rights: Vec::new(alloc),
         }
     }
 
@@ -40,6 +44,7 @@ impl Tables {
             ++ (if is_starting added.now.op then [] ∷ [] else [])) }
         ensures starts { OnOk result (self.new.starts.items ≡ self.old.starts.items
             ++ (if is_starting added.now.op then place ∷ [] else [])) }
+        ensures rights { OnOk result (self.new.rights ≡ self.old.rights) }
     {
         if !added.op.is_starting() {
             return Ok(());
@@ -50,6 +55,20 @@ impl Tables {
         Ok(())
     }
 
+    /// Notes the place of a call if it names rights.
+    fn note_rights(&mut self, added: &Record, place: u32) -> Result<(), AllocError>
+        ensures rights { OnOk result (self.new.rights.items ≡ self.old.rights.items
+            ++ (if names_rights added.now.op then place ∷ [] else [])) }
+        ensures parents { OnOk result (self.new.parents ≡ self.old.parents) }
+        ensures own { OnOk result (self.new.own ≡ self.old.own) }
+        ensures starts { OnOk result (self.new.starts ≡ self.old.starts) }
+    {
+        if added.op.names_rights() {
+            self.rights.push(place)?;
+        }
+        Ok(())
+    }
+
     /// Adds the record at a place.
     fn add(&mut self, alloc: Global, added: &Record, place: u32) -> Result<(), AllocError>
         requires { added.now.process.0 < length self.old.own.items
@@ -57,6 +76,7 @@ impl Tables {
         ensures { OnOk result (Adds self.old self.new added.now place) }
     {
         self.begin(alloc, added, place)?;
+        self.note_rights(added, place)?;
         self.own[added.process.0 as usize].push(place)?;
         Ok(())
     }

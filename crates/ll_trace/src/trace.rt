@@ -1,10 +1,11 @@
 //! A trace that was read.
 
-ghost use Rattle.std.specs.Prelude.{◌≡◌, ◌≢◌, ◌<◌, ◌≤◌, length, option_map, All, IfOk, IfErr, IfSome};
+ghost use Rattle.std.specs.Prelude.{◌≡◌, ◌≢◌, ◌<◌, ◌≤◌, length, option_map, All, IfOk, IfErr, IfSome, MatchOption, slice_get, slice_set};
 ghost use Rattle.ll_lines.specs.{declared.fault.Cause.TheVariants.Memory, Reading.IsBad};
 ghost use Rattle.ll_trace.specs.declared.reader.TheConstants.{MOST_PROCESSES, MOST_RECORDS};
 ghost use Rattle.ll_trace.specs.{Entries.trace_file, Traces.AreRecords, Records.IsTrace};
-ghost use Rattle.ll_trace.specs.BestEffort.{records_at_best_effort};
+ghost use Rattle.ll_trace.specs.BestEffort.{record_at_best_effort, records_at_best_effort};
+ghost use Rattle.ll_trace.specs.Indexed.{HaveRights};
 ghost use Rattle.ll_trace.specs.Processes.{process_count, parent_of, own_records, started_at};
 
 use crate::op::{ProcessId, Record};
@@ -135,8 +136,8 @@ impl Trace {
             mut records,
             tables,
         } = self;
-        for record in records.iter_mut() {
-            record.op.drop_unsupported(abi);
+        for place in &tables.rights {
+            drop_at(&mut records, *place as usize, abi);
         }
         Trace { records, tables }
     }
@@ -150,6 +151,14 @@ impl Trace {
     {
         let records = &self.records;
         records.as_slice()
+    }
+
+    /// The places of the calls that name rights, in ascending order, among which there may be places of other calls.
+    pub fn rights(&self) -> &[u32]
+        ensures { HaveRights result.now self.now }
+    {
+        let rights = &self.tables.rights;
+        rights.as_slice()
     }
 
     /// The number of processes of the trace.
@@ -190,6 +199,18 @@ impl Trace {
             Ok(process) => Some(ProcessId(process as u32)),
             Err(_) => None,
         }
+    }
+}
+
+/// Takes those rights that a version lacks out of the call of the record at a place, if there is one.
+fn drop_at(records: &mut Vec<Record>, place: usize, abi: Abi)
+    ensures { MatchOption (slice_get records.old.items place)
+        (records.new.items ≡ records.old.items)
+        (λ r. records.new.items
+        ≡ slice_set records.old.items place (record_at_best_effort abi r)) }
+{
+    if let Some(record) = records.get_mut(place) {
+        record.op.drop_unsupported(abi);
     }
 }
 
