@@ -6,4 +6,5 @@ pub mod Descents
 pub mod Roots
 pub mod Crossing
 pub mod TakenLater
+pub mod RightCalls
 pub mod PastCases

@@ -1,15 +1,11 @@
 -- A past case is the case as it was, whatever an older version has made of its records.
 use Rattle.std.proofs.Common.{◌≡◌, ◌∙◌, ◌+◌, ◌<◌, ◌≤◌, ℕ, zero, suc, Bool, true, false, List, []}
-use Rattle.std.proofs.Common.{◌∷◌, get_or, length, Option, Some, None, refl, sym, ap, ap₂, subst, arith, inl, inr}
+use Rattle.std.proofs.Common.{◌∷◌, get_or, length, Option, Some, None, refl, sym, ap, ap₂, arith, inl, inr}
 use Rattle.std.specs.Prelude.{if◌then◌else◌, slice_get, unwrap_or}
-use Rattle.std.specs.BTreeMap.{Updates, get, is_at}
-use Rattle.std.specs.Map.{lookup}
-use Rattle.std.specs.Ordering.{is_eq, nat_cmp}
-use Rattle.std.specs.declared.cmp.Ordering.{Ordering}
-use Rattle.std.specs.declared.cmp.Ordering.TheVariants.{Less, Equal, Greater}
-use Rattle.std.proofs.lemmas.Bool.{cases_Bool, cases_eq, cases_lt, true≢false}
-use Rattle.std.proofs.lemmas.Map.Lookups.{exact_unsigned}
-use Rattle.std.proofs.lemmas.Option.{none-some, same_Some, slice_get_cases, slice_get_past, slice_get_read, slice_get_within}
+use Rattle.std.specs.BTreeMap.{get}
+use Rattle.std.specs.Ordering.{nat_cmp}
+use Rattle.std.proofs.lemmas.Bool.{cases_Bool, true≢false}
+use Rattle.std.proofs.lemmas.Option.{none-some, same_Some, slice_get_read}
 use Rattle.ll_tree.specs.Trees.{Entry}
 use Rattle.ll_tree.specs.declared.place.Place.TheVariants.{Nowhere}
 use Rattle.ll_trace.specs.declared.op.Op.{Op}
@@ -23,74 +19,6 @@ use Rattle.ll_process.specs.PastCases.{as_it_was, viewed}
 use Rattle.ll_process.specs.declared.past.PastCase.{PastCase}
 use Rattle.ll_process.specs.RightCalls.{AreCallsOf, AreOfRights, Calls, call_before, record_before, records_before, right_call}
 use Rattle.ll_process.specs.TakenLater.{AreTakenLater, IsTakenLater, is_of_rights}
-use Rattle.ll_process.proofs.TakenLater.{of_rights}
-
--- ---- the calls that are kept
-
--- the calls of the records before a place are kept
-pub record AreKept (records : List Record) (kept : Calls) (place : ℕ) : Type 0 where
-  pub before : (k : ℕ) → k < place → get nat_cmp kept k ≡ right_call (slice_get records k)
-  pub behind : (k : ℕ) → place ≤ k → get nat_cmp kept k ≡ None
-
-pub none_kept : (records : List Record) (kept : Calls) → kept.entries ≡ [] → AreKept records kept 0
-none_kept records kept none = record {
-  before = λ k within. absurd (omega (arith, within));
-  behind = λ k past. ap (lookup (is_at (nat_cmp k))) none;
-}
-
--- another place
-apart : (place k : ℕ) → (k ≡ place → ⊥) → is_at (nat_cmp place) k ≡ false
-apart place k other = go (nat_cmp place k) refl
-  where
-    go : (order : Ordering) → nat_cmp place k ≡ order → is_eq order ≡ false
-    go Less is = refl
-    go Equal is = absurd (other (sym (exact_unsigned place k is)))
-    go Greater is = refl
-
-module _ (records : List Record) (kept : Calls) (place : ℕ) (r : Record) (are : AreKept records kept place) (there : slice_get records place ≡ Some r) where
-  here : (k : ℕ) → k ≡ place → right_call (Some r) ≡ right_call (slice_get records k)
-  here k same = ap right_call (sym there ∙ ap (slice_get records) (sym same))
-
-  -- one call more
-  pub one_more_kept : (next : Calls) (op : Op) → right_call (Some r) ≡ Some op → Updates nat_cmp kept next place (Some op) → AreKept records next (place + 1)
-  one_more_kept next op is updates = record {
-    before = λ k within. elim (cases_eq k place) [
-      | inl same ↦ ap (get nat_cmp next) same ∙ updates.1 ∙ sym is ∙ here k same
-      | inr other ↦ updates.2 k (apart place k other) ∙ are.before k (omega (arith, within, other))
-    ];
-    behind = λ k past. updates.2 k (apart place k (λ same. absurd (omega (arith, past, same)))) ∙ are.behind k (omega (arith, past));
-  }
-
-  -- a call that names no right
-  pub no_more_kept : right_call (Some r) ≡ None → AreKept records kept (place + 1)
-  no_more_kept none = record {
-    before = λ k within. elim (cases_eq k place) [
-      | inl same ↦ are.behind k (omega (arith, same)) ∙ sym none ∙ here k same
-      | inr other ↦ are.before k (omega (arith, within, other))
-    ];
-    behind = λ k past. are.behind k (omega (arith, past));
-  }
-
-pub all_kept : (records : List Record) (kept : Calls) (place : ℕ) → length records ≤ place → AreKept records kept place → AreCallsOf records kept
-all_kept records kept place all are k = elim ((slice_get_cases records k).1) [
-  | inl there ↦ are.before k (omega (arith, all, slice_get_within records k there.0 there.2))
-  | inr past ↦ elim (cases_lt k place) [
-    | inl within ↦ are.before k within
-    | inr behind ↦ are.behind k behind ∙ sym (ap right_call (slice_get_past records k past.0))
-  ]
-]
-
--- a call that names rights is of rights
-pub each_of_rights : (records : List Record) (kept : Calls) → AreCallsOf records kept → AreOfRights kept
-each_of_rights records kept are place op is = go (slice_get records place) (sym (are place) ∙ is)
-  where
-    named : (r : Record) (b : Bool) → names_rights r.op ≡ b → (if b then Some r.op else None) ≡ Some op → is_of_rights op ≡ true
-    named r true names is = subst (λ o. is_of_rights o ≡ true) (same_Some r.op op is) (of_rights r.op names)
-    named r false names is = absurd (none-some op is)
-
-    go : (o : Option Record) → right_call o ≡ Some op → is_of_rights op ≡ true
-    go None is = absurd (none-some op is)
-    go (Some r) is = named r (names_rights r.op) refl is
 
 -- ---- the records as they were
 

@@ -1,14 +1,14 @@
 //! What is kept of a case whose trace an older version takes.
 
-ghost use Rattle.std.specs.Prelude.{◌≡◌, IfOk, OnOk, Some};
+ghost use Rattle.std.specs.Prelude.{◌≡◌, IfOk, OnOk, Some, slice_get};
 ghost use Rattle.std.specs.{BTreeMap.Updates, Ordering.nat_cmp};
-ghost use Rattle.ll_process.specs.RightCalls.{AreCallsOf, AreOfRights, call_before};
+ghost use Rattle.ll_process.specs.RightCalls.{AreCallsOf, AreOfRights, call_before, right_call};
 ghost use Rattle.ll_process.specs.TakenLater.{is_of_rights};
 
 use ll_rights::Abi;
 use ll_rules::Layer;
 use ll_semantics::RulesetOutcome;
-use ll_trace::{Op, Trace};
+use ll_trace::{Op, Record, Trace};
 use std::alloc::{AllocError, Global};
 use std::collections::BTreeMap;
 
@@ -42,14 +42,23 @@ fn is_of_rights(op: &Op) -> bool
 pub(crate) fn calls_of_rights(alloc: Global, trace: &Trace) -> Result<BTreeMap<u32, Op>, AllocError>
     ensures { IfOk result (AreCallsOf trace.now) }
 {
-    let records = trace.records();
     let mut calls = BTreeMap::new(alloc);
-    for place in 0..records.len() {
-        if let Some(op) = records[place].op.copy_if_naming_rights(alloc)? {
-            keep(&mut calls, place as u32, op)?;
+    for place in trace.rights() {
+        if let Some(op) = call_of_rights(alloc, trace.records(), *place)? {
+            keep(&mut calls, *place, op)?;
         }
     }
     Ok(calls)
+}
+
+/// The call of the record at a place, if there is one that names rights.
+fn call_of_rights(alloc: Global, records: &[Record], place: u32) -> Result<Option<Op>, AllocError>
+    ensures { IfOk result (λ call. call ≡ right_call (slice_get records.now place)) }
+{
+    match records.get(place as usize) {
+        Some(record) => record.op.copy_if_naming_rights(alloc),
+        None => Ok(None),
+    }
 }
 
 /// Keeps the call of the record at a place.

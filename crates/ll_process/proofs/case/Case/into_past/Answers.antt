@@ -2,7 +2,8 @@ use Rattle.std.proofs.Common.{List, ap, subst}
 use Rattle.ll_trace.specs.declared.op.Record.{Record}
 use Rattle.ll_process.specs.declared.past.PastCase.{PastCase}
 use Rattle.ll_process.specs.RightCalls.{AreCallsOf}
-use Rattle.ll_process.proofs.PastCases.{case_as_it_was, each_of_rights}
+use Rattle.ll_process.proofs.PastCases.{case_as_it_was}
+use Rattle.ll_process.proofs.RightCalls.{each_of_rights}
 use Rattle.ll_process.proofs.case.Case.into_past.Goals as goal
 
 pub invariant_of-past : goal.invariant_of-past
