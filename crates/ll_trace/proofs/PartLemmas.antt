@@ -2,7 +2,7 @@
 use Rattle.std.proofs.Common.{◌≡◌, ℕ, List, [], ◌∷◌, ◌++◌, Option, Some, None, Result, Ok, Err, refl, sym, ap, ◌∙◌, append_assoc, subst, flat_map}
 use Rattle.std.specs.Prelude.{IfOk, IfErr}
 use Rattle.std.specs.List.{AllZip}
-use Rattle.std.proofs.lemmas.List.Concat.{flat_map-cons}
+use Rattle.std.proofs.lemmas.List.Concat.{flat_map-append, flat_map-cons}
 use Rattle.ll_lines.specs.declared.fault.Cause.{Cause}
 use Rattle.ll_lines.specs.declared.fault.ReadFault.{ReadFault}
 use Rattle.ll_lines.specs.Lines.{Line}
@@ -164,6 +164,19 @@ pub record AreReading (all : List Line) (admitted : List Entry) (parts : List Pa
   pub lines : List (List Line)
   pub are : AllZip IsReadOf lines parts
   pub same : read_lines trace_file [] all ≡ read_lines trace_file admitted (flat_map (λ part. part) lines ++ flat_map (λ block. block) left)
+
+-- the parts are admitted, and the next blocks are read
+pub AreReading-next : (all : List Line) (admitted now : List Entry) (parts read : List PartRead) (round rest left : List (List Line))
+    → round ++ rest ≡ left → AreReading all admitted parts left
+    → ((lines : List (List Line)) (others : List Line) → AllZip IsReadOf lines parts
+    → read_lines trace_file admitted (flat_map (λ part. part) lines ++ others) ≡ read_lines trace_file now others)
+    → AllZip IsReadOf round read → AreReading all now read rest
+AreReading-next all admitted now parts read round rest left cut so_far admits are = record {
+  lines = round;
+  are = are;
+  same = so_far.same ∙ admits so_far.lines (flat_map (λ block. block) left) so_far.are
+      ∙ ap (read_lines trace_file now) (ap (flat_map (λ block. block)) (sym cut) ∙ flat_map-append (λ (block : List Line). block) round rest);
+}
 
 -- the fault of a part is that of the file
 pub AreReading-fault : (all : List Line) (admitted : List Entry) (parts : List PartRead) (left : List (List Line)) (fault : ReadFault)

@@ -363,21 +363,23 @@ impl Op {
     pub(crate) fn drop_unsupported(&mut self, abi: Abi)
         ensures { self.new ≡ at_best_effort abi self.old }
     {
-        match self {
-            Op::Create { rs, fs, net } => *self = created(*rs, *fs, *net, abi),
+        let changed = match self {
+            Op::Create { rs, fs, net } => created(*rs, *fs, *net, abi),
             Op::AddPath { fs, .. } => {
                 let supported = fs.supported(abi);
                 if supported.is_empty() && !fs.is_empty() {
-                    *self = Op::LeaveOut {
+                    Op::LeaveOut {
                         rule: RuleType::PathBeneath,
-                    };
+                    }
                 } else {
                     *fs = supported;
+                    return;
                 }
             }
-            Op::AddPort { rs, port, net } => *self = port_added(*rs, *port, *net, abi),
-            changes_nothing!() | changes_without_names!() | Op::OpenFile { .. } => {}
-        }
+            Op::AddPort { rs, port, net } => port_added(*rs, *port, *net, abi),
+            changes_nothing!() | changes_without_names!() | Op::OpenFile { .. } => return,
+        };
+        *self = changed;
     }
 }
 

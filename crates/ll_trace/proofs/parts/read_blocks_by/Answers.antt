@@ -1,9 +1,16 @@
--- No block is left at the end.
+-- The next blocks are read, and no block is left at the end.
 use Rattle.std.proofs.Common.{◌≡◌, rules, flat_map, length}
 use Rattle.std.proofs.lemmas.List.{nil_from_length}
 use Rattle.ll_trace.specs.Kept.{entries}
-use Rattle.ll_trace.proofs.PartLemmas.{AreReading-end}
+use Rattle.ll_trace.proofs.PartLemmas.{AreReading-next, AreReading-end}
 use Rattle.ll_trace.proofs.parts.read_blocks_by.Goals as goal
+
+pub loop-alloc-preserved : goal.loop-alloc-preserved
+loop-alloc-preserved g c = record {
+  reading = AreReading-next _ _ _ _ _ _ _ _ c.in-Ok.ensures.next c.loop-alloc.invariant.reading
+      c.in_ok-admitted.ensures.admitted c.in_ok-admitted.ensures.read;
+  kept = search rules;
+}
 
 pub returns-clause-gives : goal.returns-clause-gives
 returns-clause-gives g c =
