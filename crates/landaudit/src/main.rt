@@ -1,10 +1,7 @@
 //! `landaudit` tells for each call of a trace what Landlock answers.
 #![tactic(auto)]
 
-mod files;
-
-use files::FileSource;
-use ll_audit::{Idle, front};
+use ll_audit::{FileSource, Idle, front};
 use std::io::ErrorKind;
 use std::process::ExitCode;
 use std::{env, io};

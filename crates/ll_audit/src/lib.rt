@@ -4,6 +4,7 @@
 mod auditing;
 mod cut;
 mod fault;
+mod files;
 mod inputs;
 mod judged;
 mod laws;
@@ -18,6 +19,7 @@ mod workers;
 pub use auditing::{audit, audit_with};
 pub use cut::Cut;
 pub use fault::Fault;
+pub use files::FileSource;
 pub use laws::{
     limits_of_reading, plain_options_ask_for_the_report, reports_have_a_total_for_each_version,
     the_report_has_the_words_of_the_trace, the_same_bytes_have_one_report,

@@ -2,7 +2,7 @@
 
 ghost use Rattle.std.specs.Prelude.{◌≡◌, ◌≤◌, ◌<◌, ◌+◌, ◌-◌, ◌^◌, Err, IfOk, None, length, vec_len};
 
-use ll_audit::{LARGEST_FILE, Source, SourceFault};
+use crate::source::{LARGEST_FILE, Source, SourceFault};
 use ll_lines::blocks::LineBlocks;
 use std::alloc::Global;
 use std::fs::File;
@@ -15,14 +15,14 @@ const STANDARD_INPUT: &str = "-";
 
 /// The files of the system, and standard input by the name `-`. What has more than `LARGEST_FILE` bytes can't be read.
 #[derive(Drop)]
-pub(crate) struct FileSource<'a, R: Files + Input> {
+pub struct FileSource<'a, R: Files + Input> {
     rt: &'a R,
     failures: u64,
 }
 
 impl<'a, R: Files + Input> FileSource<'a, R> {
-    pub(crate) fn new(rt: &'a R) -> FileSource<'a, R>
-        ensures { result.failures ≡ 0 }
+    pub fn new(rt: &'a R) -> FileSource<'a, R>
+        ensures { ⟦<FileSource<'a, R> as Source>⟧.failed result ≡ 0 }
     {
         FileSource { rt, failures: 0 }
     }
