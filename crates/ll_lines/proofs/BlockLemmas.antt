@@ -1,10 +1,11 @@
 -- The lines of a file are those of its blocks.
-use Rattle.std.proofs.Common.{◌≡◌, ℕ, ◌+◌, ◌-◌, ◌<◌, ◌≤◌, ◌^◌, List, Option, [], ◌∷◌, ◌++◌, All, length, flat_map, sym, ap, ◌∙◌, append_assoc, length-append}
-use Rattle.std.proofs.Common.{arith, append-nil, subst}
+use Rattle.std.proofs.Common.{◌≡◌, ℕ, ◌+◌, ◌-◌, ◌<◌, ◌≤◌, ◌^◌, List, Option, Some, None, [], ◌∷◌, ◌++◌, All, length, flat_map, sym, ap, ◌∙◌, append_assoc, length-append}
+use Rattle.std.proofs.Common.{arith, append-nil, drop, subst, take}
+use Rattle.std.proofs.lemmas.List.{take-append-le, take_all}
 use Rattle.std.proofs.lemmas.List.Concat.{flat_map-append}
 use Rattle.std.proofs.lemmas.List.Elements.{All-head, All-push, All-rest}
 use Rattle.std.proofs.KnownBytes.{Consumes-trans}
-use Rattle.std.specs.Io.KnownBytes.{Consumes}
+use Rattle.std.specs.Io.KnownBytes.{Consumes, Keeps}
 use Rattle.ll_lines.specs.LineByLine.{EndsLine, line_feeds}
 use Rattle.ll_lines.specs.Lines.{Line, filled_from}
 use Rattle.ll_lines.proofs.LinesLemmas.{filled-append}
@@ -26,6 +27,26 @@ pub consumed_more : (old mid new : Option (List ℕ)) (whole block read more : L
 consumed_more old mid new whole block read more given grown next =
     let same : (whole ++ block) ++ more ≡ whole ++ read = append_assoc whole block more ∙ ap (λ bytes. whole ++ bytes) (sym grown) in
     subst (Consumes old new) same (Consumes-trans old mid new (whole ++ block) more given next)
+
+-- a page that was read into has the bytes of the read
+pub read_page : (size : ℕ) (read page : List ℕ) → length read ≡ size → take size (read ++ drop (length read) page) ≡ read
+read_page size read page whole =
+    take-append-le size read (drop (length read) page) (omega (arith, whole)) ∙ take_all size read (omega (arith, whole))
+
+-- what a block has more than it began with, once it has some bytes more that the reader has given
+pub read_again : (old mid new : Option (List ℕ)) (begun block read more : List ℕ)
+    → (earlier : List ℕ) × (block ≡ begun ++ earlier) × Consumes old mid earlier → read ≡ block ++ more → Consumes mid new more
+    → (all : List ℕ) × (read ≡ begun ++ all) × Consumes old new all
+read_again old mid new begun block read more so_far grown next =
+    let same : read ≡ begun ++ (so_far.0 ++ more) = grown ∙ ap (λ bytes. bytes ++ more) so_far.1 ∙ append_assoc begun so_far.0 more in
+    (so_far.0 ++ more, same, Consumes-trans old mid new so_far.0 more so_far.2 next)
+
+-- a reader that was interrupted has given nothing
+pub read_none : (old mid new : Option (List ℕ)) (earlier : List ℕ) → Consumes old mid earlier → Keeps mid new → Consumes old new earlier
+read_none None mid new earlier given kept = tt
+read_none (Some xs) None new earlier given kept = absurd given
+read_none (Some xs) (Some ys) None earlier given kept = absurd kept
+read_none (Some xs) (Some ys) (Some zs) earlier given kept = given ∙ ap (λ bytes. earlier ++ bytes) (sym kept)
 
 module _ {X : Type 0} (bytes : X → List ℕ) where
   -- blocks that end in line feeds, and one more
