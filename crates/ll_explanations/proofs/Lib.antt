@@ -10,6 +10,7 @@ pub mod Beyond
 pub mod Wanting
 pub mod Explaining
 pub mod FindingTells
+pub mod Overlaying
 pub mod KeepingAll
 pub mod Grouping
 pub mod Stretching

@@ -1,7 +1,7 @@
 -- What is found of the records of a trace under one version: the answers, and the explanations as values, if they are
 -- kept.
 -- Source: docs/FORMATS.md, "Explanations" and "Several versions"; the layout of a finding is the code's own.
-use Rattle.std.specs.Prelude.{◌≡◌, ℕ, Bool, List, Option, Some, None, if◌then◌else◌, length, slice_get, unwrap_or}
+use Rattle.std.specs.Prelude.{◌≡◌, ◌≤◌, ◌<◌, ◌^◌, ℕ, Bool, List, Option, Some, None, if◌then◌else◌, length, slice_get, unwrap_or}
 use Rattle.ll_rights.specs.declared.abi.Abi.{Abi}
 use Rattle.ll_tree.specs.Trees.{Entry}
 use Rattle.ll_trace.specs.declared.op.Record.{Record}
@@ -11,6 +11,7 @@ use Rattle.ll_semantics.specs.declared.answer.Answer.TheVariants.{Moot}
 use Rattle.ll_semantics.specs.Worlds.{judged}
 use Rattle.ll_explanations.specs.Explained.{IsExplanationOf}
 use Rattle.ll_explanations.specs.Kept.{if_said, kept_of}
+use Rattle.ll_explanations.specs.Overlays.{overlay}
 use Rattle.ll_explanations.specs.declared.explanation.Explanation.{Explanation}
 use Rattle.ll_explanations.specs.declared.explained.Explained.{Explained}
 
@@ -19,6 +20,20 @@ use Rattle.ll_explanations.specs.declared.explained.Explained.{Explained}
 pub record FindingValue : Type 0 where
   pub answers : List Answer
   pub explanations : List (Option Explained)
+
+-- what is found, where only the changes to a base are kept, with the slots of the records
+abbrev pub with_changes : FindingValue → List ℕ → FindingValue → FindingValue
+with_changes base slots changes = record {
+  answers = overlay base.answers slots changes.answers;
+  explanations = overlay base.explanations slots changes.explanations;
+}
+
+-- two are about as many records, each of which can have a slot of 32 bits
+pub record AreAsLong (one other : FindingValue) : Type 0 where
+  pub answers : length one.answers ≡ length other.answers
+  pub explanations : length one.explanations ≡ length other.explanations
+  pub within : length one.explanations ≤ length one.answers
+  pub few : length one.answers < 2 ^ 32
 
 -- the answer to the record at a place
 abbrev pub answer_in : FindingValue → ℕ → Answer

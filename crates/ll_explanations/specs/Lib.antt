@@ -6,5 +6,6 @@ pub mod MoveRequests
 pub mod Asking
 pub mod Explained
 pub mod Kept
+pub mod Overlays
 pub mod Findings
 pub mod Stretches

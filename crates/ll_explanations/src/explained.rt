@@ -46,6 +46,13 @@ impl Model for SharedExplanation {
 }
 
 impl SharedExplanation {
+    /// What is kept where there is nothing to explain.
+    pub(crate) fn nothing() -> SharedExplanation
+        ensures { result ≡ None }
+    {
+        SharedExplanation { explained: None }
+    }
+
     /// What is kept of an explanation of a call. It shares the memory of what is kept under a newer version, where that
     /// is like it.
     pub(crate) fn new(
@@ -57,7 +64,7 @@ impl SharedExplanation {
         ensures { IfOk result (λ shared. shared ≡ kept_of op.now explanation) }
     {
         if explanation.is_silent() {
-            return Ok(SharedExplanation { explained: None });
+            return Ok(SharedExplanation::nothing());
         }
         let call = op.copy_if_naming_rights(alloc)?;
         let explained = Explained { explanation, call };
@@ -78,7 +85,7 @@ impl SharedExplanation {
     }
 
     /// The same once more; both share it.
-    fn again(&self) -> Result<SharedExplanation, AllocError>
+    pub(crate) fn again(&self) -> Result<SharedExplanation, AllocError>
         ensures { IfOk result (λ again. again ≡ self.now) }
     {
         let explained = match &self.explained {

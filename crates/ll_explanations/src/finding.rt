@@ -1,34 +1,40 @@
 //! What is found under one version: the answers to the records of a case, and their explanations as values.
 
-ghost use Rattle.std.specs.Prelude.{◌≡◌, IfOk, option_map, slice_get, true};
+ghost use Rattle.std.specs.Prelude.{◌≡◌, IfOk, length, option_map, slice_get, true};
 ghost use Rattle.ll_semantics.specs.Worlds.{judged};
-ghost use Rattle.ll_explanations.specs.Findings.{Finds, answer_in, kept_at, said_in};
+ghost use Rattle.ll_explanations.specs.Findings.{AreAsLong, Finds, answer_in, kept_at, said_in};
 
 use crate::explained::SharedExplanation;
 use crate::explanation::Explanation;
+use crate::found::Found;
+use crate::overlay::overlaid;
 use crate::stretches::{explain_all, explain_alone};
 use ll_process::CaseView;
 use ll_rules::NoMemory;
 use ll_semantics::Answer;
 use ll_trace::{Op, Record};
-use std::alloc::Global;
+use std::alloc::{AllocError, Global};
 use std::marker::Model;
+use std::sync::Arc;
 use std::thread::Threads;
 
-/// What is found under a version: the answers to all records, and their explanations, if these are kept.
+/// What is found under a version: the answers to all records, and their explanations, if these are kept. All versions
+/// of a case have one base, which is all that the newest one finds. Each other one has a slot for each record: 0 where
+/// it finds the same, and else one more than the index of what it finds among its changes.
 #[derive(Drop)]
 pub struct Finding {
-    answers: Vec<Answer>,
-    explanations: Vec<SharedExplanation>,
+    base: Arc<Found>,
+    slots: Vec<u32>,
+    changes: Found,
 }
 
 impl Model for Finding {
-    ghost use Rattle.ll_explanations.specs.Findings.{FindingValue};
+    ghost use Rattle.ll_explanations.specs.Findings.{FindingValue, with_changes};
 
     ghost Value = { FindingValue };
 
     ghost view = { λ finding.
-        record { answers = finding.answers.items; explanations = finding.explanations.items } };
+        with_changes finding.base.value finding.slots.items finding.changes };
 }
 
 impl Finding {
@@ -51,10 +57,11 @@ impl Finding {
         } else {
             Vec::new(alloc)
         };
-        Ok(Finding {
+        let found = Found {
             answers,
             explanations,
-        })
+        };
+        Ok(Finding::keep(alloc, found, newer)?)
     }
 
     /// What is found of the records of a case, as [`Finding::of`] finds it, by the calling thread alone.
@@ -73,24 +80,68 @@ impl Finding {
         } else {
             Vec::new(alloc)
         };
-        Ok(Finding {
+        let found = Found {
             answers,
             explanations,
+        };
+        Ok(Finding::keep(alloc, found, newer)?)
+    }
+
+    /// What was found, all of which is kept.
+    #[tactic(auto, using(crate::proofs::Overlaying::all_stays))]
+    fn whole(alloc: Global, found: Found) -> Result<Finding, AllocError>
+        ensures { IfOk result (λ finding. finding ≡ found) }
+    {
+        Ok(Finding {
+            base: Arc::new(alloc, found)?,
+            slots: Vec::new(alloc),
+            changes: Found::nothing(alloc),
         })
     }
 
-    /// The answers to all records.
-    pub fn answers(&self) -> &[Answer]
-        ensures { result.now ≡ self.now.answers }
+    /// What was found, of which only the changes to a base about as many records are kept.
+    fn by_changes(alloc: Global, base: &Arc<Found>, found: &Found) -> Result<Finding, AllocError>
+        requires { AreAsLong found.now base.now.value }
+        ensures { IfOk result (λ finding. finding ≡ found.now) }
     {
-        &self.answers
+        let (slots, changes) = found.differences(alloc, base)?;
+        Ok(Finding {
+            base: Arc::try_clone(base)?,
+            slots,
+            changes,
+        })
+    }
+
+    /// What was found; if there is a newer version, only the changes to its base are kept.
+    fn keep(alloc: Global, found: Found, newer: Option<&Finding>) -> Result<Finding, AllocError>
+        ensures { IfOk result (λ finding. finding ≡ found) }
+    {
+        match newer {
+            Some(newer) if found.is_as_long(&newer.base) => {
+                Finding::by_changes(alloc, &newer.base, &found)
+            }
+            _ => Finding::whole(alloc, found),
+        }
+    }
+
+    /// How many records are answered.
+    #[tactic(auto, using(crate::proofs::Overlaying::as_many_overlaid))]
+    pub fn count(&self) -> usize
+        ensures { result ≡ length self.now.answers }
+    {
+        self.base.count()
     }
 
     /// The answer to the record at a place.
     pub fn answer(&self, place: usize) -> Answer
         ensures { result ≡ answer_in self.now place }
     {
-        match self.answers.get(place) {
+        match overlaid(
+            &self.base.answers,
+            &self.slots,
+            &self.changes.answers,
+            place,
+        ) {
             Some(answer) => *answer,
             None => Answer::Moot,
         }
@@ -100,7 +151,12 @@ impl Finding {
     pub(crate) fn kept(&self, place: usize) -> Option<&SharedExplanation>
         ensures { option_map (λ kept. kept.now) result ≡ slice_get self.now.explanations place }
     {
-        self.explanations.get(place)
+        overlaid(
+            &self.base.explanations,
+            &self.slots,
+            &self.changes.explanations,
+            place,
+        )
     }
 
     /// The call and the explanation of the record at a place; none if there is nothing to explain. The records are

@@ -1,0 +1,224 @@
+-- Lists that are kept as changes to a base, and findings.
+use Rattle.std.proofs.Common.{◌≡◌, ◌∙◌, ◌<◌, ◌≤◌, ◌+◌, ◌++◌, ℕ, Bool, true, zero, suc, List, [], ◌∷◌, length, get_or, take, drop, Option, Some, None, refl, sym, ap, ap₂, subst, inl, inr, arith}
+use Rattle.std.specs.Prelude.{option_map, slice_get, unwrap_or}
+use Rattle.std.specs.List.{All}
+use Rattle.std.proofs.lemmas.List.Elements.{All-head, All-nil, All-push, All-tail, All-weaker}
+use Rattle.std.proofs.lemmas.List.{length_push}
+use Rattle.std.proofs.lemmas.Option.{none-some, same_Some, slice_get_cases, slice_get-get_or, slice_get_past, slice_get_read}
+use Rattle.ll_semantics.specs.declared.answer.Answer.TheVariants.{Moot}
+use Rattle.ll_explanations.specs.Findings.{AreAsLong, FindingValue, answer_in, kept_at, with_changes}
+use Rattle.ll_explanations.specs.Overlays.{change_at, one_overlaid, overlay}
+
+-- ---- what stands at a place
+
+module _ {A : Type 0} (one other : List A) (place : ℕ) where
+  pub same_there : (x y : A) (same : Bool) → place < length one → x ≡ get_or one place x → place < length other → y ≡ get_or other place y
+      → (same ≡ true → x ≡ y) → same ≡ true → slice_get one place ≡ slice_get other place
+  same_there x y same within x_is within_other y_is are is =
+      slice_get_read one (length one) place x refl within x_is ∙ ap Some (are is) ∙ sym (slice_get_read other (length other) place y refl within_other y_is)
+
+  pub neither_there : length one ≤ place → length other ≤ place → slice_get one place ≡ slice_get other place
+  neither_there past others_past = slice_get_past one place past ∙ sym (slice_get_past other place others_past)
+
+module _ {A : Type 0} (changes base : List A) (slots : List ℕ) where
+  overlaid_at : (base : List A) (slots : List ℕ) (place : ℕ)
+      → slice_get (overlay base slots changes) place ≡ option_map (one_overlaid changes (get_or slots place 0)) (slice_get base place)
+  unfolding overlay
+  overlaid_at [] [] place = refl
+  overlaid_at (stays ∷ base) [] zero = refl
+  overlaid_at (stays ∷ base) [] (suc place) = overlaid_at base [] place
+  overlaid_at [] (slot ∷ slots) place = refl
+  overlaid_at (stays ∷ base) (slot ∷ slots) zero = refl
+  overlaid_at (stays ∷ base) (slot ∷ slots) (suc place) = overlaid_at base slots place
+
+  module _ (place : ℕ) where
+    pub nothing_there : length base ≤ place → None ≡ slice_get (overlay base slots changes) place
+    nothing_there past =
+        sym (overlaid_at base slots place ∙ ap (option_map (one_overlaid changes (get_or slots place 0))) (slice_get_past base place past))
+
+    there : (stays : A) (change : Option A) → place < length base → stays ≡ get_or base place stays → change ≡ change_at changes (get_or slots place 0)
+        → Some (unwrap_or change stays) ≡ slice_get (overlay base slots changes) place
+    there stays change within is slot =
+        ap (λ o. Some (unwrap_or o stays)) slot
+        ∙ sym (overlaid_at base slots place
+        ∙ ap (option_map (one_overlaid changes (get_or slots place 0))) (slice_get_read base (length base) place stays refl within is))
+
+    pub stays_there : (stays : A) → place < length base → stays ≡ get_or base place stays → None ≡ change_at changes (get_or slots place 0)
+        → Some stays ≡ slice_get (overlay base slots changes) place
+    stays_there stays = there stays None
+
+    pub change_there : (stays change : A) → place < length base → stays ≡ get_or base place stays
+        → Some change ≡ change_at changes (get_or slots place 0) → Some change ≡ slice_get (overlay base slots changes) place
+    change_there stays change = there stays (Some change)
+
+-- as many as in the base
+as_many : {A : Type 0} (changes base : List A) (slots : List ℕ) → length (overlay base slots changes) ≡ length base
+unfolding overlay
+as_many changes base [] = refl
+as_many changes [] (slot ∷ slots) = refl
+as_many changes (stays ∷ base) (slot ∷ slots) = ap suc (as_many changes base slots)
+
+pub as_many_overlaid : {A : Type 0} (changes base : List A) (slots : List ℕ) (count : ℕ) → count ≡ length base
+    → count ≡ length (overlay base slots changes)
+as_many_overlaid changes base slots count is = is ∙ sym (as_many changes base slots)
+
+-- ---- one place after another
+
+-- an index that comes before the last one
+before_last : {A : Type 0} (all : List A) (last : A) (index : ℕ) → index < length all → slice_get (all ++ last ∷ []) index ≡ slice_get all index
+before_last [] last index within = absurd (omega (arith, within))
+before_last (one ∷ all) last zero within = refl
+before_last (one ∷ all) last (suc index) within = before_last all last index (omega (arith, within))
+
+at_last : {A : Type 0} (all : List A) (last : A) → slice_get (all ++ last ∷ []) (length all) ≡ Some last
+at_last [] last = refl
+at_last (one ∷ all) last = at_last all last
+
+module _ {A : Type 0} (changes : List A) where
+  -- what is kept of one element more
+  one_more : (base wanted : List A) (slots : List ℕ) (slot : ℕ) → overlay (take (length slots) base) slots changes ≡ take (length slots) wanted
+      → option_map (one_overlaid changes slot) (slice_get base (length slots)) ≡ slice_get wanted (length slots)
+      → overlay (take (suc (length slots)) base) (slots ++ slot ∷ []) changes ≡ take (suc (length slots)) wanted
+  unfolding overlay
+  one_more [] [] [] slot so_far here = refl
+  one_more [] (w ∷ wanted) [] slot so_far here = absurd (none-some w here)
+  one_more (b ∷ base) [] [] slot so_far here = absurd (none-some (one_overlaid changes slot b) (sym here))
+  one_more (b ∷ base) (w ∷ wanted) [] slot so_far here = ap (λ one. one ∷ []) (same_Some (one_overlaid changes slot b) w here)
+  one_more [] [] (s ∷ slots) slot so_far here = refl
+  one_more [] (w ∷ wanted) (s ∷ slots) slot so_far here = absurd (omega (arith, ap length so_far))
+  one_more (b ∷ base) [] (s ∷ slots) slot so_far here = absurd (omega (arith, ap length so_far))
+  one_more (b ∷ base) (w ∷ wanted) (s ∷ slots) slot so_far here =
+      ap₂ (λ one more. one ∷ more) (ap (λ all. get_or all 0 w) so_far) (one_more base wanted slots slot (ap (drop 1) so_far) here)
+
+  next_place : (base wanted : List A) (slots : List ℕ) (slot place : ℕ) → length slots ≡ place
+      → overlay (take place base) slots changes ≡ take place wanted → option_map (one_overlaid changes slot) (slice_get base place) ≡ slice_get wanted place
+      → overlay (take (place + 1) base) (slots ++ slot ∷ []) changes ≡ take (place + 1) wanted
+  next_place base wanted slots slot place many so_far here =
+      let next : suc (length slots) ≡ place + 1 = omega (arith, many) in
+      subst (λ n. overlay (take n base) (slots ++ slot ∷ []) changes ≡ take n wanted) next
+      (one_more base wanted slots slot (subst (λ n. overlay (take n base) slots changes ≡ take n wanted) (sym many) so_far)
+      (subst (λ n. option_map (one_overlaid changes slot) (slice_get base n) ≡ slice_get wanted n) (sym many) here))
+
+module _ {A : Type 0} (changes : List A) where
+  same_change : (change : A) (slot : ℕ) → slot ≤ length changes → change_at (changes ++ change ∷ []) slot ≡ change_at changes slot
+  same_change change zero within = refl
+  same_change change (suc index) within = before_last changes change index (omega (arith, within))
+
+  -- one change more leaves the elements of all slots so far
+  pub one_change : (base : List A) (slots : List ℕ) (change : A) → All (λ slot. slot ≤ length changes) slots
+      → overlay base slots (changes ++ change ∷ []) ≡ overlay base slots changes
+  unfolding overlay
+  one_change base [] change within = refl
+  one_change [] (slot ∷ slots) change within = refl
+  one_change (stays ∷ base) (slot ∷ slots) change within =
+      ap₂ (λ one more. one ∷ more)
+      (ap (λ o. unwrap_or o stays) (same_change change slot (All-head (λ slot. slot ≤ length changes) slot slots within)))
+      (one_change base slots change (All-tail (λ slot. slot ≤ length changes) slot slots within))
+
+  -- the last change is what its slot names
+  pub last_change : (base wanted : List A) (place : ℕ) (other : A) → length wanted ≡ length base
+      → option_map (one_overlaid (changes ++ unwrap_or (slice_get wanted place) other ∷ []) (suc (length changes))) (slice_get base place)
+      ≡ slice_get wanted place
+  last_change base wanted place other as_long =
+      let change : A = unwrap_or (slice_get wanted place) other in
+      let here : Option A → Option A = option_map (one_overlaid (changes ++ change ∷ []) (suc (length changes))) in
+      elim ((slice_get_cases wanted place).1) [
+        | inl found ↦
+            ap here (slice_get-get_or base place other (omega (arith, found.1, as_long)))
+            ∙ ap (λ o. Some (unwrap_or o (get_or base place other))) (at_last changes change)
+            ∙ ap (λ o. Some (unwrap_or o other)) found.2 ∙ sym found.2
+        | inr past ↦ ap here (slice_get_past base place (omega (arith, past.0, as_long))) ∙ sym past.1
+      ]
+
+  pub change_more : (base wanted next : List A) (slots : List ℕ) (slot place : ℕ) (other : A) → length slots ≡ place
+      → All (λ slot. slot ≤ length changes) slots → overlay (take place base) slots changes ≡ take place wanted → length wanted ≡ length base
+      → next ≡ changes ++ unwrap_or (slice_get wanted place) other ∷ [] → slot ≡ length changes + 1
+      → overlay (take (place + 1) base) (slots ++ slot ∷ []) next ≡ take (place + 1) wanted
+  change_more base wanted next slots slot place other many within so_far as_long more named =
+      let change : A = unwrap_or (slice_get wanted place) other in
+      let last : slot ≡ suc (length changes) = omega (arith, named) in
+      ap₂ (λ (slot : ℕ) (next : List A). overlay (take (place + 1) base) (slots ++ slot ∷ []) next) last more
+      ∙ next_place (changes ++ change ∷ []) base wanted slots (suc (length changes)) place many
+      (one_change (take place base) slots change within ∙ so_far) (last_change base wanted place other as_long)
+
+  -- the base's element stays
+  pub no_change : (base wanted : List A) (place : ℕ) → slice_get base place ≡ slice_get wanted place
+      → option_map (one_overlaid changes 0) (slice_get base place) ≡ slice_get wanted place
+  no_change base wanted place is = ap (option_map (λ stays. stays)) is ∙ option_map-id (slice_get wanted place)
+    where
+      option_map-id : (o : Option A) → option_map (λ a. a) o ≡ o
+      option_map-id None = refl
+      option_map-id (Some a) = refl
+
+-- ---- findings
+
+same_finding : (one other : FindingValue) → one.answers ≡ other.answers → one.explanations ≡ other.explanations → one ≡ other
+same_finding one other answers explanations = λ i. record { answers = answers i; explanations = explanations i }
+
+-- without slots all stays
+pub all_stays : (base found changes : FindingValue) (slots : List ℕ) → base ≡ found → slots ≡ [] → with_changes base slots changes ≡ found
+unfolding overlay
+all_stays base found changes slots is none = ap (λ slots. with_changes base slots changes) none ∙ is
+
+-- what is found of the first records is kept
+pub record AreKeptUpto (base found : FindingValue) (place : ℕ) (slots : List ℕ) (changes : FindingValue) : Type 0 where
+  pub many : length slots ≡ place
+  pub few : length changes.answers ≤ place
+  pub aligned : length changes.explanations ≡ length changes.answers
+  pub within : All (λ slot. slot ≤ length changes.answers) slots
+  pub answers : overlay (take place base.answers) slots changes.answers ≡ take place found.answers
+  pub explanations : overlay (take place base.explanations) slots changes.explanations ≡ take place found.explanations
+
+pub none_kept : (base found changes : FindingValue) (slots : List ℕ) → slots ≡ [] → changes.answers ≡ [] → changes.explanations ≡ []
+    → AreKeptUpto base found 0 slots changes
+unfolding overlay
+none_kept base found changes slots none answers explanations =
+    let no_answer : length changes.answers ≡ 0 = ap length answers in
+    record {
+      many = ap length none;
+      few = omega (arith, no_answer);
+      aligned = ap length explanations ∙ sym no_answer;
+      within = subst (All (λ slot. slot ≤ length changes.answers)) (sym none) (All-nil (λ slot. slot ≤ length changes.answers));
+      answers = ap (λ slots. overlay [] slots changes.answers) none;
+      explanations = ap (λ slots. overlay [] slots changes.explanations) none;
+    }
+
+module _ (base found : FindingValue) (place : ℕ) (slots : List ℕ) (changes : FindingValue) (so_far : AreKeptUpto base found place slots changes)
+    (now : List ℕ) (next : FindingValue) where
+  -- one record more, of which the same is found
+  pub same_kept : now ≡ slots ++ 0 ∷ [] → next ≡ changes → slice_get base.answers place ≡ slice_get found.answers place
+      → slice_get base.explanations place ≡ slice_get found.explanations place → AreKeptUpto base found (place + 1) now next
+  same_kept more same answer explanation =
+      subst (λ (next : FindingValue). AreKeptUpto base found (place + 1) now next) (sym same)
+      (subst (λ (slots : List ℕ). AreKeptUpto base found (place + 1) slots changes) (sym more) (record {
+        many = length_push slots 0 ∙ ap (λ n. n + 1) so_far.many;
+        few = omega (arith, so_far.few);
+        aligned = so_far.aligned;
+        within = All-push (λ slot. slot ≤ length changes.answers) slots 0 so_far.within (omega arith);
+        answers = next_place changes.answers base.answers found.answers slots 0 place so_far.many so_far.answers
+            (no_change changes.answers base.answers found.answers place answer);
+        explanations = next_place changes.explanations base.explanations found.explanations slots 0 place so_far.many so_far.explanations
+            (no_change changes.explanations base.explanations found.explanations place explanation);
+      }))
+
+  -- one record more, of which something else is found
+  pub change_kept : AreAsLong found base → now ≡ slots ++ length next.answers ∷ [] → next.answers ≡ changes.answers ++ answer_in found place ∷ []
+      → next.explanations ≡ changes.explanations ++ kept_at found place ∷ [] → AreKeptUpto base found (place + 1) now next
+  change_kept as_long more answers explanations =
+      let slot : ℕ = length next.answers in
+      let named : slot ≡ length changes.answers + 1 = ap length answers ∙ length_push changes.answers (answer_in found place) in
+      let too : length next.explanations ≡ length changes.explanations + 1 =
+      ap length explanations ∙ length_push changes.explanations (kept_at found place) in
+      subst (λ (slots : List ℕ). AreKeptUpto base found (place + 1) slots next) (sym more) (record {
+        many = length_push slots slot ∙ ap (λ n. n + 1) so_far.many;
+        few = omega (arith, so_far.few, named);
+        aligned = too ∙ ap (λ n. n + 1) so_far.aligned ∙ sym named;
+        within = All-push (λ slot. slot ≤ length next.answers) slots slot
+            (All-weaker (λ slot. slot ≤ length changes.answers) (λ slot. slot ≤ length next.answers) (λ slot at. omega (arith, at, named)) slots
+            so_far.within) (omega arith);
+        answers = change_more changes.answers base.answers found.answers next.answers slots slot place Moot so_far.many so_far.within so_far.answers
+            as_long.answers answers named;
+        explanations = change_more changes.explanations base.explanations found.explanations next.explanations slots slot place None so_far.many
+            (subst (λ (n : ℕ). All (λ slot. slot ≤ n) slots) (sym so_far.aligned) so_far.within) so_far.explanations as_long.explanations explanations
+            (named ∙ ap (λ n. n + 1) (sym so_far.aligned));
+      })
