@@ -2,7 +2,6 @@
 
 use bitflags::Flags;
 use ll_rights::{Abi, Fs, FsRight, Kind, Net, NetRight, fs_of_name, net_of_name};
-use std::test::Fail;
 
 /// Each right with its bit in `linux/landlock.h` and the version it came with.
 const FILES: [(&str, u32, u64); 16] = [
@@ -47,16 +46,19 @@ fn has_files(abi: Abi, number: u64) -> bool {
     FILES.iter().all(|(name, bit, since)| is_since(abi, number, fs_of_name(name), *bit, *since))
 }
 
-#[test]
-fn names_and_versions(rt: HostRuntime) -> Result<(), Fail> {
-    for (number, known) in VERSIONS {
-        let abi = Abi::new(number).ok_or("the version is there")?;
-        assert!(rt;
-            has_ports(abi, number, known) && has_files(abi, number),
-            "{number}"
-        );
+/// Whether the version of a number is there, with these bits of rights for ports and its rights for files.
+fn is_version(number: u64, known: u32) -> bool {
+    match Abi::new(number) {
+        Some(abi) => has_ports(abi, number, known) && has_files(abi, number),
+        None => false,
     }
-    Ok(())
+}
+
+#[test]
+fn names_and_versions(rt: HostRuntime) {
+    for (number, known) in VERSIONS {
+        assert!(rt; is_version(number, known), "{number}");
+    }
 }
 
 #[test]
@@ -109,10 +111,13 @@ fn is_named_on_ports(right: NetRight, name: &str, bit: u32) -> bool {
 
 #[test]
 fn rights_in_order(rt: HostRuntime) {
-    assert_eq!(rt; FsRight::all().len(), FILES.len() + 1);
     for ((name, bit, _), right) in FILES.iter().zip(FsRight::all()) {
         assert!(rt; is_named(*right, name, *bit), "{name}");
     }
+}
+
+#[test]
+fn the_other_right(rt: HostRuntime) {
     assert!(rt; is_named(FsRight::Other, "", 0x10000));
 }
 
@@ -120,18 +125,31 @@ const PORTS: [(&str, u32); 3] = [("bind_tcp", 1), ("connect_tcp", 2), ("", 4)];
 
 #[test]
 fn rights_on_ports_in_order(rt: HostRuntime) {
-    assert_eq!(rt; NetRight::all().len(), PORTS.len());
     for ((name, bit), right) in PORTS.iter().zip(NetRight::all()) {
         assert!(rt; is_named_on_ports(*right, name, *bit), "{name}");
     }
 }
 
+fn has_number(abi: Abi, number: u64) -> bool {
+    abi.number() == number
+}
+
 #[test]
 fn versions_in_order(rt: HostRuntime) {
-    assert_eq!(rt; Abi::all().len(), VERSIONS.len());
     for ((number, _), abi) in VERSIONS.iter().zip(Abi::all()) {
-        assert_eq!(rt; abi.number(), *number);
+        assert!(rt; has_number(*abi, *number), "{number}");
     }
+}
+
+/// The right for files that has no name is not in the table.
+#[test]
+fn as_many_as_are_listed(rt: HostRuntime) {
+    let lengths = [
+        FsRight::all().len(),
+        NetRight::all().len(),
+        Abi::all().len(),
+    ];
+    assert_eq!(rt; lengths, [FILES.len() + 1, PORTS.len(), VERSIONS.len()]);
 }
 
 /// Whether these rights make an object of a kind and remove it.
@@ -139,17 +157,20 @@ fn is_made_and_removed(kind: Kind, make: &str, remove: &str) -> bool {
     kind.make_right() == fs_of_name(make) && kind.remove_right() == fs_of_name(remove)
 }
 
+/// Each kind with the rights to make and to remove an object of it.
+const KINDS: [(Kind, &str, &str); 7] = [
+    (Kind::Dir, "make_dir", "remove_dir"),
+    (Kind::Reg, "make_reg", "remove_file"),
+    (Kind::Sym, "make_sym", "remove_file"),
+    (Kind::Char, "make_char", "remove_file"),
+    (Kind::Block, "make_block", "remove_file"),
+    (Kind::Fifo, "make_fifo", "remove_file"),
+    (Kind::Sock, "make_sock", "remove_file"),
+];
+
 #[test]
 fn kinds(rt: HostRuntime) {
-    for (kind, make, remove) in [
-        (Kind::Dir, "make_dir", "remove_dir"),
-        (Kind::Reg, "make_reg", "remove_file"),
-        (Kind::Sym, "make_sym", "remove_file"),
-        (Kind::Char, "make_char", "remove_file"),
-        (Kind::Block, "make_block", "remove_file"),
-        (Kind::Fifo, "make_fifo", "remove_file"),
-        (Kind::Sock, "make_sock", "remove_file"),
-    ] {
+    for (kind, make, remove) in KINDS {
         assert!(rt; is_made_and_removed(kind, make, remove), "{make}");
     }
 }
