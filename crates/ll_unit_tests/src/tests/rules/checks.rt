@@ -47,16 +47,19 @@ fn look_ups_of_two_layers(alloc: Global, tree: &Tree) -> Result<u64, Fail> {
     look_ups_to_read(tree, &layers, "/dev/tty")
 }
 
+/// The look-ups under one layer, under two and under none.
+fn look_ups(alloc: Global, tree: &Tree) -> Result<[u64; 3], Fail> {
+    let one = look_ups_of_one_layer(alloc, tree)?;
+    let two = look_ups_of_two_layers(alloc, tree)?;
+    let none = look_ups_to_read(tree, &[], "/dev/tty")?;
+    Ok([one, two, none])
+}
+
 /// A layer that refuses is asked on every node from the object to the root.
 #[test]
 fn look_ups_on_paths(rt: HostRuntime) -> Result<(), Fail> {
     let tree = Tree::read(rt.alloc(), TREE.as_bytes())?;
-    let look_ups = [
-        look_ups_of_one_layer(rt.alloc(), &tree)?,
-        look_ups_of_two_layers(rt.alloc(), &tree)?,
-        look_ups_to_read(&tree, &[], "/dev/tty")?,
-    ];
-    assert_eq!(rt; look_ups, [3, 6, 0]);
+    assert_eq!(rt; look_ups(rt.alloc(), &tree)?, [3, 6, 0]);
     Ok(())
 }
 
@@ -138,10 +141,9 @@ fn asked(tree: &Tree) -> Result<[(NodeId, Fs); 2], Fail> {
 /// landlock(7), "Filesystem actions": a rename onto a file takes the right to remove a file of both directories, and
 /// the right to make one of the directory that it goes to.
 fn to_be_asked(tree: &Tree) -> Result<[(NodeId, Fs); 2], Fail> {
-    Ok([
-        (node_named(tree, "/a")?, Fs::REMOVE_FILE),
-        (node_named(tree, "/b")?, Fs::MAKE_REG.union(Fs::REMOVE_FILE)),
-    ])
+    let (from, to) = (node_named(tree, "/a")?, node_named(tree, "/b")?);
+    let of_new_name = Fs::MAKE_REG.union(Fs::REMOVE_FILE);
+    Ok([(from, Fs::REMOVE_FILE), (to, of_new_name)])
 }
 
 #[test]

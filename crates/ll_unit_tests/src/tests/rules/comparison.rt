@@ -29,28 +29,43 @@ const PARENTS: usize = 1533;
 /// How many rules are tried for a layer. Those are added of which a right is left that it handles.
 const TRIED: u32 = 256;
 
-/// Kinds of objects without others in them.
-const KINDS: [&str; 7] = ["reg", "dir", "sym", "char", "block", "fifo", "sock"];
+/// Lists an object in the directory of another number.
+fn list_in(
+    alloc: Global,
+    paths: &mut Vec<String>,
+    directory: usize,
+    number: usize,
+) -> Result<(), AllocError> {
+    if let Some(above) = paths.get(directory) {
+        let path = format!(in alloc; "{above}/{number}")?;
+        paths.push(path)?;
+    }
+    Ok(())
+}
 
 /// The paths of a tree with more nodes than a filter has marks, in the order of their numbers, that of the root empty.
 fn listed_paths(alloc: Global) -> Result<Vec<String>, AllocError> {
     let mut paths = Vec::new(alloc);
     paths.push(String::new(alloc))?;
     for number in 1..OBJECTS {
-        if let Some(above) = paths.get((number - 1) / 3) {
-            let path = format!(in alloc; "{above}/{number}")?;
-            paths.push(path)?;
-        }
+        list_in(alloc, &mut paths, (number - 1) / 3, number)?;
     }
     Ok(paths)
 }
 
-/// The kind of an object by its number.
+/// The kind of an object by its number: any of them where it has no others in it.
 fn kind_at(number: usize) -> &'static str {
     if number < PARENTS {
-        "dir"
-    } else {
-        KINDS[number % 7]
+        return "dir";
+    }
+    match number % 7 {
+        0 => "reg",
+        1 => "dir",
+        2 => "sym",
+        3 => "char",
+        4 => "block",
+        5 => "fifo",
+        _ => "sock",
     }
 }
 
@@ -97,24 +112,21 @@ fn grant(
     Ok(())
 }
 
-/// Stacks a layer with rules by chance, half of them on objects with others in them, and answers its plain form.
-fn stack_one(
-    alloc: Global,
+/// Grants rights by chance in both forms, half of them on objects with others in them.
+fn grant_by_chance(
     sandbox: &mut Sandbox<'_>,
+    plain: &mut PlainLayer,
     paths: &[String],
+    handled: Fs,
     numbers: &mut Numbers,
-) -> Result<PlainLayer, Fail> {
-    let handled = numbers.rights();
-    sandbox.create(alloc, handled, Net::BIND_TCP)?;
-    let mut plain = PlainLayer::new(alloc, handled);
+) -> Result<(), Fail> {
     for number in 0..TRIED {
         let first = if number % 2 == 0 { PARENTS } else { OBJECTS };
         let node = picked(sandbox.tree, paths, first, numbers)?;
         let rights = numbers.rights().intersection(handled);
-        grant(sandbox, &mut plain, node, rights)?;
+        grant(sandbox, plain, node, rights)?;
     }
-    sandbox.restrict(alloc)?;
-    Ok(plain)
+    Ok(())
 }
 
 /// Layers in both forms, with the same rules.
@@ -124,20 +136,34 @@ struct Both<'t> {
     plain: Vec<PlainLayer>,
 }
 
-/// This many layers, at most sixteen.
-fn layers_of<'t>(
+/// Stacks a layer with rules by chance.
+fn stack_one(
     alloc: Global,
-    tree: &'t Tree,
+    both: &mut Both<'_>,
+    paths: &[String],
+    numbers: &mut Numbers,
+) -> Result<(), Fail> {
+    let handled = numbers.rights();
+    both.lanes.create(alloc, handled, Net::BIND_TCP)?;
+    let mut plain = PlainLayer::new(alloc, handled);
+    grant_by_chance(&mut both.lanes, &mut plain, paths, handled, numbers)?;
+    both.plain.push(plain)?;
+    both.lanes.restrict(alloc)?;
+    Ok(())
+}
+
+/// Stacks this many layers, at most sixteen.
+fn stack(
+    alloc: Global,
+    both: &mut Both<'_>,
     paths: &[String],
     count: u32,
     numbers: &mut Numbers,
-) -> Result<Both<'t>, Fail> {
-    let mut lanes = Sandbox::new(alloc, tree);
-    let mut plain = Vec::new(alloc);
+) -> Result<(), Fail> {
     for _ in 0..count.min(16) {
-        plain.push(stack_one(alloc, &mut lanes, paths, numbers)?)?;
+        stack_one(alloc, both, paths, numbers)?;
     }
-    Ok(Both { lanes, plain })
+    Ok(())
 }
 
 /// The numbers of a set of layers, as a plain answer has them.
@@ -279,29 +305,56 @@ fn layers_agree(
     Ok(true)
 }
 
-#[test]
-fn lanes_and_plain_layers(rt: HostRuntime) -> Result<(), Fail> {
-    let alloc = rt.alloc();
-    let paths = listed_paths(alloc)?;
-    let tree = tree_of(alloc, &paths)?;
+/// Whether this many layers agree in both forms.
+fn are_alike(
+    alloc: Global,
+    tree: &Tree,
+    paths: &[String],
+    count: u32,
+    numbers: &mut Numbers,
+) -> Result<bool, Fail> {
+    let mut both = Both {
+        lanes: Sandbox::new(alloc, tree),
+        plain: Vec::new(alloc),
+    };
+    stack(alloc, &mut both, paths, count, numbers)?;
+    layers_agree(paths, &both, 60, numbers)
+}
+
+/// The first round whose layers do not agree, if there is one: 0 to 16 layers, and these numbers again.
+fn first_unlike(alloc: Global, tree: &Tree, paths: &[String]) -> Result<Option<u32>, Fail> {
     let mut numbers = Numbers { last: 1 };
     for round in 0..34u32 {
-        let both = layers_of(alloc, &tree, &paths, round % 17, &mut numbers)?;
-        assert!(rt; layers_agree(&paths, &both, 60, &mut numbers)?, "{round}");
+        if !are_alike(alloc, tree, paths, round % 17, &mut numbers)? {
+            return Ok(Some(round));
+        }
     }
+    Ok(None)
+}
+
+#[test]
+fn lanes_and_plain_layers(rt: HostRuntime) -> Result<(), Fail> {
+    let paths = listed_paths(rt.alloc())?;
+    let tree = tree_of(rt.alloc(), &paths)?;
+    assert_eq!(rt; first_unlike(rt.alloc(), &tree, &paths)?, None);
     Ok(())
 }
 
-/// A layer with more rules than a filter marks apart from these: it grants reading on some objects alone.
-fn granting<'t>(alloc: Global, tree: &'t Tree, paths: &[String]) -> Result<Sandbox<'t>, Fail> {
-    let mut sandbox = Sandbox::new(alloc, tree);
+/// Grants reading on an object.
+fn grant_reading(sandbox: &mut Sandbox<'_>, path: &str) -> Result<(), Fail> {
+    let node = node_named(sandbox.tree, path)?;
+    sandbox.grant(node, Fs::READ_FILE)?;
+    Ok(())
+}
+
+/// Stacks a layer with more rules than a filter marks apart from these: it grants reading on some objects alone.
+fn stack_granting(alloc: Global, sandbox: &mut Sandbox<'_>, paths: &[String]) -> Result<(), Fail> {
     sandbox.create(alloc, Fs::READ_FILE, Net::NONE)?;
     for path in paths {
-        let node = node_named(sandbox.tree, path)?;
-        sandbox.grant(node, Fs::READ_FILE)?;
+        grant_reading(sandbox, path)?;
     }
     sandbox.restrict(alloc)?;
-    Ok(sandbox)
+    Ok(())
 }
 
 /// Whether a layer refuses reading on a node.
@@ -340,7 +393,8 @@ fn are_told_apart(alloc: Global, paths: &[String]) -> Result<bool, Fail> {
         .get(MARKS + 1..MARKS + 129)
         .ok_or("there are so many nodes")?;
     let tree = tree_of(alloc, paths)?;
-    let sandbox = granting(alloc, &tree, granted)?;
+    let mut sandbox = Sandbox::new(alloc, &tree);
+    stack_granting(alloc, &mut sandbox, granted)?;
     are_granted_alone(&sandbox, granted, others)
 }
 

@@ -22,15 +22,24 @@ fn are_kept(map: &SharedMap<u8>, entries: &[(u64, u8)]) -> bool {
         .all(|(key, value)| map.get(*key) == Some(value))
 }
 
-/// A map of entries, each of a key of its own.
-fn map_of(alloc: Global, entries: &[(u64, u8)]) -> Option<SharedMap<u8>> {
-    let mut map = SharedMap::new(alloc);
+/// Whether an entry is added whose key is new.
+fn adds(map: &mut SharedMap<u8>, key: u64, value: u8) -> bool {
+    map.insert(key, value) == Ok(None)
+}
+
+/// Whether each of some entries is added, of a key of its own.
+fn adds_all(map: &mut SharedMap<u8>, entries: &[(u64, u8)]) -> bool {
     for (key, value) in entries {
-        if map.insert(*key, *value).ok()?.is_some() {
-            return None;
+        if !adds(map, *key, *value) {
+            return false;
         }
     }
-    Some(map)
+    true
+}
+
+/// Whether an entry is removed that has this value.
+fn removes(map: &mut SharedMap<u8>, key: u64, value: u8) -> bool {
+    map.remove(key) == Ok(Some(value))
 }
 
 /// Changes the map of the keys apart, and says whether each change answers the value that was there.
@@ -43,7 +52,8 @@ fn changes(map: &mut SharedMap<u8>) -> bool {
 
 #[test]
 fn a_map_and_its_clone(rt: HostRuntime) -> Result<(), Fail> {
-    let map = map_of(rt.alloc(), &APART).ok_or("each key is new")?;
+    let mut map = SharedMap::new(rt.alloc());
+    assert!(rt; adds_all(&mut map, &APART));
     let mut copy = map.clone()?;
     assert!(rt; changes(&mut copy));
     assert!(rt; are_kept(&copy, &[(1, 10), (2, 4), (5, 11)]) && copy.get(0).is_none());
@@ -51,24 +61,26 @@ fn a_map_and_its_clone(rt: HostRuntime) -> Result<(), Fail> {
     Ok(())
 }
 
-/// A map that shares its fork of the keys 0 and 4 with its clone; nothing where memory runs out for the fork.
-fn shared(alloc: Global) -> Option<(SharedMap<u8>, SharedMap<u8>)> {
+/// A map with a fork of the keys 0 and 4, which it shares with a clone; nothing where memory runs out for the fork.
+fn forked(alloc: Global) -> Option<SharedMap<u8>> {
     let mut map = SharedMap::new(alloc);
     map.insert(0, 10).ok()?;
     map.insert(4, 14).ok()?;
-    let copy = map.clone().ok()?;
-    Some((map, copy))
+    Some(map)
 }
 
 #[test]
 fn insert_without_memory(rt: HostRuntime) {
-    let Some((mut map, copy)) = shared(rt.alloc()) else {
+    let Some(mut map) = forked(rt.alloc()) else {
+        return;
+    };
+    let Ok(copy) = map.clone() else {
         return;
     };
     if map.insert(16, 26).is_err() {
         assert!(rt; are_kept(&map, &[(0, 10), (4, 14)]) && map.get(16).is_none());
         // A second try inserts.
-        assert_eq!(rt; map.insert(16, 26), Ok(None));
+        assert!(rt; adds(&mut map, 16, 26));
     }
     assert!(rt; are_kept(&map, &[(0, 10), (4, 14), (16, 26)]));
     assert!(rt; are_kept(&copy, &[(4, 14)]) && copy.get(16).is_none());
@@ -76,13 +88,16 @@ fn insert_without_memory(rt: HostRuntime) {
 
 #[test]
 fn remove_without_memory(rt: HostRuntime) {
-    let Some((mut map, copy)) = shared(rt.alloc()) else {
+    let Some(mut map) = forked(rt.alloc()) else {
+        return;
+    };
+    let Ok(copy) = map.clone() else {
         return;
     };
     if map.remove(4).is_err() {
         assert!(rt; are_kept(&map, &[(0, 10), (4, 14)]));
         // A second try removes.
-        assert_eq!(rt; map.remove(4), Ok(Some(14)));
+        assert!(rt; removes(&mut map, 4, 14));
     }
     assert!(rt; are_kept(&map, &[(0, 10)]) && map.get(4).is_none());
     assert!(rt; are_kept(&copy, &[(4, 14)]));

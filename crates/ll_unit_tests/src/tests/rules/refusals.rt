@@ -1,7 +1,7 @@
 //! Each test holds whichever one request for memory is refused: the call that it is about answers as with ample memory
 //! or says that it has none, what it was lent is as it was, and a second call does what the first was to do.
 
-ghost use Rattle.std.specs.Prelude.{IfOk};
+ghost use Rattle.std.specs.Prelude.{All, IfOk};
 ghost use Rattle.ll_rules.specs.InTree.{AreInTree};
 
 use crate::tests::rules::ready::{about_reading, frozen, grant_reading, node_named};
@@ -18,24 +18,30 @@ const SMALL: &str = "{\"path\":\"/a\",\"kind\":\"dir\"}
 {\"path\":\"/b\",\"kind\":\"dir\"}
 ";
 
-/// Whether a layer refuses reading on a path.
-fn refuses_reading(tree: &Tree, layer: &Layer, path: &str) -> Result<bool, Fail>
-    requires { AreInTree tree.now layer.now }
+/// Whether layers refuse reading on a path.
+fn refuse_reading(tree: &Tree, layers: &[Layer], path: &str) -> Result<bool, Fail>
+    requires { All (AreInTree tree.now) layers.now }
 {
-    let layers = slice::from_ref(layer);
     let domain = stacked(layers)?;
     let node = node_named(tree, path)?;
     Ok(!check_path(tree, layers, &domain, node, Fs::READ_FILE).is_empty())
+}
+
+/// Which of the two directories layers refuse to read.
+fn refused_by_all(tree: &Tree, layers: &[Layer]) -> Result<(bool, bool), Fail>
+    requires { All (AreInTree tree.now) layers.now }
+{
+    Ok((
+        refuse_reading(tree, layers, "/a")?,
+        refuse_reading(tree, layers, "/b")?,
+    ))
 }
 
 /// Which of the two directories a layer refuses to read.
 fn refused_by(tree: &Tree, layer: &Layer) -> Result<(bool, bool), Fail>
     requires { AreInTree tree.now layer.now }
 {
-    Ok((
-        refuses_reading(tree, layer, "/a")?,
-        refuses_reading(tree, layer, "/b")?,
-    ))
+    refused_by_all(tree, slice::from_ref(layer))
 }
 
 /// Which of the two directories a ruleset would refuse to read as a layer.
@@ -114,15 +120,24 @@ const PORTS: [u16; 4] = [443, 444, 80, 22];
 
 const TWO_BOUND: [bool; 4] = [true, true, false, false];
 
-/// Which of the ports a ruleset would let be bound to as a layer.
-fn bound(layer: Layer) -> Result<[bool; 4], Fail> {
-    let layers = [layer];
-    let domain = stacked(&layers)?;
+/// Whether layers let a port be bound to.
+fn is_bound(layers: &[Layer], port: u16) -> Result<bool, Fail> {
+    let domain = stacked(layers)?;
+    Ok(check_port(layers, &domain, port, Net::BIND_TCP).is_empty())
+}
+
+/// Which of the ports layers let be bound to.
+fn bound_by(layers: &[Layer]) -> Result<[bool; 4], Fail> {
     let mut bound = [false; 4];
     for (place, port) in PORTS.iter().enumerate() {
-        bound[place] = check_port(&layers, &domain, *port, Net::BIND_TCP).is_empty();
+        bound[place] = is_bound(layers, *port)?;
     }
     Ok(bound)
+}
+
+/// Which of the ports a layer lets be bound to.
+fn bound(layer: Layer) -> Result<[bool; 4], Fail> {
+    bound_by(slice::from_ref(&layer))
 }
 
 /// Lets a port be bound to.
@@ -130,13 +145,24 @@ fn add_port(rules: &mut Ruleset, port: u16) -> Result<(), RuleFault> {
     rules.add_port(Abi::V4, u64::from(port), Net::BIND_TCP)
 }
 
+/// A ruleset that handles binding alone.
+fn about_binding(alloc: Global) -> Result<Ruleset, RuleFault> {
+    match Ruleset::create(alloc, Abi::V4, Fs::NONE, Net::BIND_TCP) {
+        Ok(rules) => Ok(rules),
+        Err(_) => Err(RuleFault::Moot),
+    }
+}
+
+/// Lets the first two ports be bound to.
+fn add_two_ports(rules: &mut Ruleset) -> Result<(), RuleFault> {
+    add_port(rules, 443)?;
+    add_port(rules, 444)
+}
+
 /// A ruleset with a rule on each of two ports, where there is memory for it.
 fn rules_on_two_ports(alloc: Global) -> Result<Ruleset, RuleFault> {
-    let Ok(mut rules) = Ruleset::create(alloc, Abi::V4, Fs::NONE, Net::BIND_TCP) else {
-        return Err(RuleFault::Moot);
-    };
-    add_port(&mut rules, 443)?;
-    add_port(&mut rules, 444)?;
+    let mut rules = about_binding(alloc)?;
+    add_two_ports(&mut rules)?;
     Ok(rules)
 }
 
