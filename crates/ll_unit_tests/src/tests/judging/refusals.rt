@@ -49,21 +49,38 @@ const PLACES: [u32; 11] = [1, 2, 3, 4, 5, 6, 7, 8, 9, 11, 13];
 /// The processes that this hand holds then, where it held process 0 before.
 const KEPT: [ProcessId; 3] = [ProcessId(0), ProcessId(2), ProcessId(4)];
 
+fn tree_again(alloc: Global) -> Result<Tree, Fail> {
+    match Tree::read(alloc, TREE.as_bytes()) {
+        Ok(tree) => Ok(tree),
+        Err(_) => Ok(Tree::read(alloc, TREE.as_bytes())?),
+    }
+}
+
+fn trace_again(alloc: Global) -> Result<Trace, Fail> {
+    match Trace::read(alloc, TRACE.as_bytes()) {
+        Ok(trace) => Ok(trace),
+        Err(_) => Ok(Trace::read(alloc, TRACE.as_bytes())?),
+    }
+}
+
 /// The case of the trace at version 4. Its tree and its trace are read again where the first reading met the
 /// refusal, and both where making the case did, since they went with it.
 fn case_again(alloc: Global) -> Result<Case, Fail> {
-    let tree = match Tree::read(alloc, TREE.as_bytes()) {
-        Ok(tree) => tree,
-        Err(_) => Tree::read(alloc, TREE.as_bytes())?,
-    };
-    let trace = match Trace::read(alloc, TRACE.as_bytes()) {
-        Ok(trace) => trace,
-        Err(_) => Trace::read(alloc, TRACE.as_bytes())?,
-    };
+    let tree = tree_again(alloc)?;
+    let trace = trace_again(alloc)?;
     match Case::new(alloc, tree, trace, Abi::V4) {
         Ok(case) => Ok(case),
         Err(NoMemory) => case_of(alloc, TRACE.as_bytes()),
     }
+}
+
+/// Whether the jobs are those of some processes.
+fn are_of(jobs: &[Job<'_>], processes: &[ProcessId]) -> bool {
+    jobs.len() == processes.len()
+        && jobs
+            .iter()
+            .zip(processes)
+            .all(|(job, process)| job.process() == *process)
 }
 
 fn roots_again(alloc: Global, case: &Case) -> Result<Vec<Job<'_>>, Fail>
@@ -92,12 +109,16 @@ fn is_answer(place: usize, answer: &Answer) -> bool {
     }
 }
 
+fn answers_again(alloc: Global, case: &Case) -> Result<Vec<Answer>, Fail> {
+    match judge_alone(alloc, case) {
+        Ok(answers) => Ok(answers),
+        Err(NoMemory) => Ok(judge_alone(alloc, case)?),
+    }
+}
+
 /// The case is judged as it was before anything was refused.
 fn expect_unchanged(rt: &impl Abort, alloc: Global, case: &Case) -> Result<(), Fail> {
-    let answers = match judge_alone(alloc, case) {
-        Ok(answers) => answers,
-        Err(NoMemory) => judge_alone(alloc, case)?,
-    };
+    let answers = answers_again(alloc, case)?;
     expect_answers(rt, &answers, ANSWERS);
     Ok(())
 }
@@ -108,19 +129,18 @@ fn case_without_memory(rt: HostRuntime) -> Result<(), Fail> {
     expect_unchanged(&rt, rt.alloc(), &case)
 }
 
-/// The roots are the two processes that the trace starts with, and the case is judged as before.
-fn expect_roots(rt: &impl Abort, alloc: Global, case: &Case) -> Result<(), Fail> {
+/// Whether the roots are the two processes that the trace starts with.
+fn has_two_roots(alloc: Global, case: &Case) -> Result<bool, Fail> {
     let jobs = roots_again(alloc, case)?;
-    assert_eq!(rt; jobs.len(), 2);
-    assert_eq!(rt; jobs[0].process(), ProcessId(0));
-    assert_eq!(rt; jobs[1].process(), ProcessId(1));
-    expect_unchanged(rt, alloc, case)
+    Ok(are_of(&jobs, &[ProcessId(0), ProcessId(1)]))
 }
 
+/// The case is judged as before, too.
 #[test]
 fn roots_without_memory(rt: HostRuntime) -> Result<(), Fail> {
     let case = case_again(rt.alloc())?;
-    expect_roots(&rt, rt.alloc(), &case)
+    assert!(rt; has_two_roots(rt.alloc(), &case)?);
+    expect_unchanged(&rt, rt.alloc(), &case)
 }
 
 /// The job of process 1, and a hand with even numbers that holds the job of process 0.
@@ -204,20 +224,11 @@ fn are_judged(piece: &Piece<'_>) -> bool {
             .all(|(answer, place)| answer.0 == place)
 }
 
-/// Whether the jobs are those that the hand holds then.
-fn are_kept(jobs: &[Job<'_>]) -> bool {
-    jobs.len() == KEPT.len()
-        && jobs
-            .iter()
-            .zip(KEPT)
-            .all(|(job, process)| job.process() == process)
-}
-
 /// The processes are shared out between the piece and the hand as the hand wants.
 fn expect_shared(rt: &impl Abort, alloc: Global, case: &Case) -> Result<(), Fail> {
     let (piece, keeper) = judged_again(rt, alloc, case)?;
     expect_piece(rt, &piece, ProcessId(1));
-    assert!(rt; are_judged(&piece) && are_kept(&keeper.jobs));
+    assert!(rt; are_judged(&piece) && are_of(&keeper.jobs, &KEPT));
     Ok(())
 }
 
