@@ -12,8 +12,6 @@ mod rights;
 mod rows;
 mod said;
 mod spans;
-#[cfg(test)]
-mod tests;
 mod totals;
 mod words;
 

@@ -3,6 +3,7 @@
 mod examples;
 mod families;
 mod gates;
+mod json;
 mod options;
 mod ready;
 mod refusals;

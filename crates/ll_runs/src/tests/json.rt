@@ -1,14 +1,15 @@
 //! Reports as JSON, as the documents say them.
 
-use crate::json_report;
+use ll_audit::{ALL_LINES, Report, Shown};
 use ll_explanations::Finding;
 use ll_fixtures::TREE;
+use ll_json::json_report;
 use ll_pool::judge_alone;
 use ll_process::{Case, CaseView};
-use ll_report::{ALL_LINES, Report, Shown};
 use ll_rights::Abi;
 use ll_trace::{Located, Trace};
 use ll_tree::Tree;
+use std::alloc::Global;
 use std::test::Fail;
 use std::thread::Threads;
 
@@ -71,35 +72,54 @@ const REFUSED_LINES: Shown = Shown {
     ..ALL_LINES
 };
 
-/// The report on the trace under ABI 4.
-fn report_on_trace<R: Threads + AllocGlobal + Sync>(rt: &R, shown: Shown) -> Result<Report, Fail> {
-    let alloc = rt.alloc();
+/// The trace under ABI 4.
+fn case_of(alloc: Global) -> Result<Case, Fail> {
     let tree = Tree::read(alloc, TREE.as_bytes())?;
     let trace = Trace::read(alloc, TRACE.as_bytes())?;
     let located = Located::of(alloc, tree, trace)?;
-    let case = Case::of_located(alloc, located, Abi::V4)?;
-    let answers = judge_alone(alloc, &case)?;
+    Ok(Case::of_located(alloc, located, Abi::V4)?)
+}
+
+/// What is found of its records.
+fn found<R: Threads + AllocGlobal + Sync>(
+    rt: &R,
+    case: &Case,
+    explains: bool,
+) -> Result<Finding, Fail> {
+    let alloc = rt.alloc();
+    let answers = judge_alone(alloc, case)?;
+    let view = CaseView::of(case);
+    Ok(Finding::of(rt, alloc, &view, answers, explains, None, 1)?)
+}
+
+/// The report on what was found of a case.
+fn report_of(alloc: Global, case: Case, finding: Finding, shown: Shown) -> Result<Report, Fail> {
     let mut findings = Vec::new(alloc);
-    findings.push(Finding::of(
-        rt,
-        alloc,
-        &CaseView::of(&case),
-        answers,
-        shown.explanations,
-        None,
-        1,
-    )?)?;
+    findings.push(finding)?;
     let report = json_report(alloc, case.into_located(), findings, shown, 4, "7.8.9")?;
     Ok(report.into_report(alloc)?)
 }
 
+/// Whether the report on the trace has these lines, and counts five refused records.
+fn is_reported<R: Threads + AllocGlobal + Sync>(
+    rt: &R,
+    shown: Shown,
+    lines: &str,
+) -> Result<bool, Fail> {
+    let case = case_of(rt.alloc())?;
+    let finding = found(rt, &case, shown.explanations)?;
+    let report = report_of(rt.alloc(), case, finding, shown)?;
+    Ok(report.bytes.as_slice() == lines.as_bytes() && report.refused == 5)
+}
+
 #[test]
-fn whole_reports(rt: HostRuntime) -> Result<(), Fail> {
-    let explained = report_on_trace(&rt, EXPLANATIONS)?;
-    assert_eq!(rt; str::from_utf8(&explained.bytes)?, EXPLAINED);
-    assert_eq!(rt; explained.refused, 5);
-    let refused = report_on_trace(&rt, REFUSED_LINES)?;
-    assert_eq!(rt; str::from_utf8(&refused.bytes)?, REFUSED);
-    assert_eq!(rt; refused.refused, 5);
+fn explanations_in_json(rt: HostRuntime) -> Result<(), Fail> {
+    assert!(rt; is_reported(&rt, EXPLANATIONS, EXPLAINED)?);
+    Ok(())
+}
+
+#[test]
+fn refused_records_in_json(rt: HostRuntime) -> Result<(), Fail> {
+    assert!(rt; is_reported(&rt, REFUSED_LINES, REFUSED)?);
     Ok(())
 }
