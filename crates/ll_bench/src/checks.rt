@@ -13,7 +13,7 @@ use anyhow::{Context, Result};
 use ll_fixtures::refusing;
 use ll_rights::Fs;
 use ll_rules::check_path;
-use ll_tree::NodeId;
+use ll_tree::{NodeId, Tree};
 use std::rt::Clock;
 use std::time::{Duration, Instant};
 
@@ -73,57 +73,101 @@ fn checked<R: Clock>(rt: &R, form: Form, layers: &Layers<'_>, nodes: &[NodeId]) 
     Ok(Taken { refused, time })
 }
 
-/// Measures a number of layers at a depth, and prints a line.
-fn line<R: Clock + Print + AllocGlobal>(
-    rt: &R,
-    layers: &Layers<'_>,
-    nodes: &[NodeId],
-    what: &str,
-) -> Result<()>
+/// How long one run takes in each form.
+#[derive(Clone, Copy)]
+struct Times {
+    plain: Duration,
+    filtered: Duration,
+    lanes: Duration,
+}
+
+/// One run in each form. All refuse equally often.
+fn run<R: Clock>(rt: &R, layers: &Layers<'_>, nodes: &[NodeId]) -> Result<Times>
     requires { All (IsNode layers.now.lanes.tree.now) nodes.now }
 {
-    let first = checked(rt, Form::Plain, layers, nodes)?;
-    let second = checked(rt, Form::Filtered, layers, nodes)?;
-    let third = checked(rt, Form::Lanes, layers, nodes)?;
-    if first.refused != third.refused || second.refused != third.refused {
+    let plain = checked(rt, Form::Plain, layers, nodes)?;
+    let filtered = checked(rt, Form::Filtered, layers, nodes)?;
+    let lanes = checked(rt, Form::Lanes, layers, nodes)?;
+    if plain.refused != lanes.refused || filtered.refused != lanes.refused {
         return None.context("the answers are the same");
     }
-    let mut plain = first.time;
-    let mut filtered = second.time;
-    let mut lanes = third.time;
+    Ok(Times {
+        plain: plain.time,
+        filtered: filtered.time,
+        lanes: lanes.time,
+    })
+}
+
+/// The quickest run in each form.
+fn quickest<R: Clock>(rt: &R, layers: &Layers<'_>, nodes: &[NodeId]) -> Result<Times>
+    requires { All (IsNode layers.now.lanes.tree.now) nodes.now }
+{
+    let mut least = run(rt, layers, nodes)?;
     for _ in 0..RUNS {
-        plain = quicker(plain, checked(rt, Form::Plain, layers, nodes)?.time);
-        filtered = quicker(filtered, checked(rt, Form::Filtered, layers, nodes)?.time);
-        lanes = quicker(lanes, checked(rt, Form::Lanes, layers, nodes)?.time);
+        let next = run(rt, layers, nodes)?;
+        least = Times {
+            plain: quicker(least.plain, next.plain),
+            filtered: quicker(least.filtered, next.filtered),
+            lanes: quicker(least.lanes, next.lanes),
+        };
     }
-    let checks = ROUNDS * 8;
-    let (plain, filtered, lanes) = (
-        nanoseconds(plain, checks),
-        nanoseconds(filtered, checks),
-        nanoseconds(lanes, checks),
-    );
-    let times = plain / lanes;
-    let filtered_times = filtered / lanes;
+    Ok(least)
+}
+
+/// What a line is about: the answer, the number of layers and the depth.
+#[derive(Clone, Copy)]
+struct Row {
+    granting: bool,
+    layers: u32,
+    depth: u32,
+}
+
+fn print_line<R: Print>(rt: &R, row: Row, took: Times) -> Result<()> {
+    let answer = if row.granting { "granted" } else { "refused" };
+    let (count, depth) = (row.layers, row.depth);
+    let plain = nanoseconds(took.plain, ROUNDS * 8);
+    let filtered = nanoseconds(took.filtered, ROUNDS * 8);
+    let lanes = nanoseconds(took.lanes, ROUNDS * 8);
+    let (times, over) = (plain / lanes, filtered / lanes);
     println!(rt;
-        "{what} {plain:>8.1} {filtered:>8.1} {lanes:>8.1} {times:>6.2} {filtered_times:>8.2}"
+        "{answer} {count:>6} {depth:>5} {plain:>8.1} {filtered:>8.1} {lanes:>8.1} {times:>6.2} {over:>8.2}"
     )?;
     Ok(())
 }
 
-/// Measures 1, 6 and 16 layers at depths 3, 10 and 40, and prints a table.
+/// Measures layers at a depth, and prints a line.
+fn line<R: Clock + Print + AllocGlobal>(rt: &R, layers: &Layers<'_>, row: Row) -> Result<()> {
+    let nodes = objects_at(rt.alloc(), layers.lanes.tree, row.depth)?;
+    let times = quickest(rt, layers, &nodes)?;
+    print_line(rt, row, times)
+}
+
+/// Measures a number of layers at depths 3, 10 and 40, and prints their lines.
+fn lines<R: Clock + Print + AllocGlobal>(
+    rt: &R,
+    tree: &Tree,
+    layers: u32,
+    granting: bool,
+) -> Result<()> {
+    let stacked = layers_of(rt.alloc(), tree, layers, granting)?;
+    for depth in [3, 10, 40] {
+        let row = Row {
+            granting,
+            layers,
+            depth,
+        };
+        line(rt, &stacked, row)?;
+    }
+    Ok(())
+}
+
+/// Measures 1, 6 and 16 layers, and prints a table.
 pub(crate) fn measure<R: Clock + Print + AllocGlobal>(rt: &R) -> Result<()> {
-    let alloc = rt.alloc();
-    let tree = deep_tree(alloc)?;
+    let tree = deep_tree(rt.alloc())?;
     println!(rt; "answer  layers depth    plain filtered    lanes  times filtered")?;
     for granting in [false, true] {
-        let answer = if granting { "granted" } else { "refused" };
-        for count in [1, 6, 16] {
-            let layers = layers_of(alloc, &tree, count, granting)?;
-            for depth in [3, 10, 40] {
-                let nodes = objects_at(alloc, layers.lanes.tree, depth)?;
-                let what = format!(in alloc; "{answer} {count:>6} {depth:>5}")?;
-                line(rt, &layers, &nodes, &what)?;
-            }
+        for layers in [1, 6, 16] {
+            lines(rt, &tree, layers, granting)?;
         }
     }
     Ok(())

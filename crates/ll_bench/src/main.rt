@@ -12,6 +12,9 @@ use maps::Keys;
 use stages::Run;
 use std::env;
 use std::process::ExitCode;
+use std::rt::{Clock, Files};
+use std::sync::Wait;
+use std::thread::Threads;
 
 /// What is measured.
 #[derive(Drop)]
@@ -42,18 +45,34 @@ fn asked(words: &[String]) -> Option<Measurement<'_>> {
     }
 }
 
+/// Measures what is asked for.
+fn measure<R: Clock + Files + Print + AllocGlobal + Threads + Wait + Sync>(
+    rt: &R,
+    measurement: Measurement<'_>,
+) -> Result<()> {
+    match measurement {
+        Measurement::Stages(run) => stages::measure(rt, &run),
+        Measurement::Checks => checks::measure(rt),
+        Measurement::Maps(name, keys) => maps::measure(rt, name, keys),
+    }
+}
+
+/// What the program ends with on these words.
+fn ended<R: Clock + Files + Print + AllocGlobal + Threads + Wait + Sync>(
+    rt: &R,
+    words: &[String],
+) -> Result<ExitCode> {
+    let Some(measurement) = asked(words) else {
+        eprintln!(rt;
+            "usage: ll_bench stages ABI TREE TRACE | checks | maps dense|scattered|worst"
+        )?;
+        return Ok(ExitCode::from(2));
+    };
+    measure(rt, measurement)?;
+    Ok(ExitCode::SUCCESS)
+}
+
 fn main(rt: HostRuntime) -> Result<ExitCode> {
     let words: Vec<String> = env::args(&rt)?.collect(rt.alloc())?;
-    match asked(&words) {
-        Some(Measurement::Stages(run)) => stages::measure(&rt, &run)?,
-        Some(Measurement::Checks) => checks::measure(&rt)?,
-        Some(Measurement::Maps(name, keys)) => maps::measure(&rt, name, keys)?,
-        None => {
-            eprintln!(rt;
-                "usage: ll_bench stages ABI TREE TRACE | checks | maps dense|scattered|worst"
-            )?;
-            return Ok(ExitCode::from(2));
-        }
-    }
-    Ok(ExitCode::SUCCESS)
+    ended(&rt, &words)
 }

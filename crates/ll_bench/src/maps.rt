@@ -64,9 +64,12 @@ impl Keys {
 /// The memory that the process has now, in bytes: the second number of `/proc/self/statm` (proc(5)) is in pages.
 fn resident<R: Files + AllocGlobal>(rt: &R) -> Result<u64> {
     let text = fs::read_to_string(rt, "/proc/self/statm")?;
-    let mut numbers = text.split_ascii_whitespace().skip(1);
-    let pages: u64 = numbers.next().context("/proc/self/statm")?.parse()?;
+    let pages = pages_in(&text).context("/proc/self/statm")?;
     Ok(pages.saturating_mul(4096))
+}
+
+fn pages_in(statm: &str) -> Option<u64> {
+    statm.split_ascii_whitespace().nth(1)?.parse().ok()
 }
 
 fn shared_map(alloc: Global, keys: Keys) -> Result<SharedMap<u64>> {
@@ -85,27 +88,49 @@ fn ordered_map(alloc: Global, keys: Keys) -> Result<BTreeMap<u64, u64>> {
     Ok(map)
 }
 
+/// Keeps a clone.
+fn keep(kept: &mut Vec<SharedMap<u64>>, map: &SharedMap<u64>) -> Result<()> {
+    kept.push(map.clone()?)?;
+    Ok(())
+}
+
 /// Keeps many clones. Answers the bytes that one takes, with its place in the list.
 fn clones<R: Files + AllocGlobal>(rt: &R, map: &SharedMap<u64>) -> Result<u64> {
     let before = resident(rt)?;
     let mut kept = Vec::new(rt.alloc());
     for _ in 0..CLONES {
-        kept.push(map.clone()?)?;
+        keep(&mut kept, map)?;
     }
     let taken = resident(rt)?.saturating_sub(before);
     Ok(taken / u64::from(CLONES))
 }
 
-/// Changes one entry again and again, and keeps a clone after each change. Answers the bytes that one takes.
+/// Changes the entry that a version changes.
+fn change(map: &mut SharedMap<u64>, keys: Keys, version: u32) -> Result<()> {
+    let number = u64::from(version).wrapping_mul(7919) % ENTRIES;
+    map.insert(keys.key(number), u64::from(version))?;
+    Ok(())
+}
+
+/// Changes one entry again and again, and keeps a clone after each change.
+fn keep_versions(
+    kept: &mut Vec<SharedMap<u64>>,
+    map: &mut SharedMap<u64>,
+    keys: Keys,
+) -> Result<()> {
+    for version in 0..VERSIONS {
+        change(map, keys, version)?;
+        keep(kept, map)?;
+    }
+    Ok(())
+}
+
+/// Keeps many changed versions. Answers the bytes that one takes.
 fn versions<R: Files + AllocGlobal>(rt: &R, map: &SharedMap<u64>, keys: Keys) -> Result<u64> {
     let mut map = map.clone()?;
     let before = resident(rt)?;
     let mut kept = Vec::new(rt.alloc());
-    for version in 0..VERSIONS {
-        let number = u64::from(version).wrapping_mul(7919) % ENTRIES;
-        map.insert(keys.key(number), u64::from(version))?;
-        kept.push(map.clone()?)?;
-    }
+    keep_versions(&mut kept, &mut map, keys)?;
     let taken = resident(rt)?.saturating_sub(before);
     Ok(taken / u64::from(VERSIONS))
 }
@@ -138,32 +163,100 @@ fn in_ordered<R: Clock>(rt: &R, map: &BTreeMap<u64, u64>, keys: Keys) -> Result<
     Ok((sum, time))
 }
 
+/// What maps that share take: the bytes of an entry, of a clone and of a changed version.
+#[derive(Clone, Copy)]
+struct Bytes {
+    entry: u64,
+    clone: u64,
+    version: u64,
+}
+
+/// The bytes that a map takes, where the process had so many before it was made.
+fn bytes_of<R: Files + AllocGlobal>(
+    rt: &R,
+    map: &SharedMap<u64>,
+    keys: Keys,
+    before: u64,
+) -> Result<Bytes> {
+    let entry = resident(rt)?.saturating_sub(before) / ENTRIES;
+    let clone = clones(rt, map)?;
+    let version = versions(rt, map, keys)?;
+    Ok(Bytes {
+        entry,
+        clone,
+        version,
+    })
+}
+
+/// How long all look-ups of one run take in each map.
+#[derive(Clone, Copy)]
+struct Times {
+    shared: Duration,
+    ordered: Duration,
+}
+
+/// One run in each map. Both have the same entries.
+fn run<R: Clock>(
+    rt: &R,
+    shared: &SharedMap<u64>,
+    ordered: &BTreeMap<u64, u64>,
+    keys: Keys,
+) -> Result<Times> {
+    let (first, quick) = in_shared(rt, shared, keys)?;
+    let (second, other) = in_ordered(rt, ordered, keys)?;
+    if first != second {
+        return None.context("both maps have the same entries");
+    }
+    Ok(Times {
+        shared: quick,
+        ordered: other,
+    })
+}
+
+/// The quickest run in each map.
+fn quickest<R: Clock>(
+    rt: &R,
+    shared: &SharedMap<u64>,
+    ordered: &BTreeMap<u64, u64>,
+    keys: Keys,
+) -> Result<Times> {
+    let mut least = run(rt, shared, ordered, keys)?;
+    for _ in 0..RUNS {
+        let next = run(rt, shared, ordered, keys)?;
+        least = Times {
+            shared: quicker(least.shared, next.shared),
+            ordered: quicker(least.ordered, next.ordered),
+        };
+    }
+    Ok(least)
+}
+
+/// The quickest look-ups in a map that shares, and in an ordered map of the same entries.
+fn times_of<R: Clock + AllocGlobal>(rt: &R, map: &SharedMap<u64>, keys: Keys) -> Result<Times> {
+    let ordered = ordered_map(rt.alloc(), keys)?;
+    quickest(rt, map, &ordered, keys)
+}
+
+fn print_line<R: Print>(rt: &R, name: &str, bytes: Bytes, times: Times) -> Result<()> {
+    let (entry, clone, version) = (bytes.entry, bytes.clone, bytes.version);
+    let quick = nanoseconds(times.shared, LOOK_UPS);
+    let other = nanoseconds(times.ordered, LOOK_UPS);
+    let ratio = quick / other;
+    println!(rt;
+        "{name:<9} {entry:>6} {clone:>6} {version:>8} {quick:>7.1} {other:>8.1} {ratio:>6.2}"
+    )?;
+    Ok(())
+}
+
 /// Measures maps of 10,000 entries with such keys, and prints a line.
 pub(crate) fn measure<R: Clock + Files + Print + AllocGlobal>(
     rt: &R,
     name: &str,
     keys: Keys,
 ) -> Result<()> {
-    let alloc = rt.alloc();
     let before = resident(rt)?;
-    let shared = shared_map(alloc, keys)?;
-    let entry = resident(rt)?.saturating_sub(before) / ENTRIES;
-    let clone = clones(rt, &shared)?;
-    let version = versions(rt, &shared, keys)?;
-    let ordered = ordered_map(alloc, keys)?;
-    let (first, mut quick) = in_shared(rt, &shared, keys)?;
-    let (second, mut other) = in_ordered(rt, &ordered, keys)?;
-    if first != second {
-        return None.context("both maps have the same entries");
-    }
-    for _ in 0..RUNS {
-        quick = quicker(quick, in_shared(rt, &shared, keys)?.1);
-        other = quicker(other, in_ordered(rt, &ordered, keys)?.1);
-    }
-    let (quick, other) = (nanoseconds(quick, LOOK_UPS), nanoseconds(other, LOOK_UPS));
-    let ratio = quick / other;
-    println!(rt;
-        "{name:<9} {entry:>6} {clone:>6} {version:>8} {quick:>7.1} {other:>8.1} {ratio:>6.2}"
-    )?;
-    Ok(())
+    let map = shared_map(rt.alloc(), keys)?;
+    let bytes = bytes_of(rt, &map, keys, before)?;
+    let times = times_of(rt, &map, keys)?;
+    print_line(rt, name, bytes, times)
 }

@@ -32,11 +32,32 @@ pub(crate) fn measure<R: Clock + Files + Print + AllocGlobal + Threads + Wait + 
     let mut watch = Stopwatch::start(rt)?;
     let tree = fs::read(rt, run.tree)?;
     let trace = fs::read(rt, run.trace)?;
+    of_files(rt, &mut watch, run.abi, &tree, &trace)
+}
+
+/// Audits the files' bytes, once they are read.
+fn of_files<R: Clock + Files + Print + AllocGlobal + Threads + Wait + Sync>(
+    rt: &R,
+    watch: &mut Stopwatch<'_, R>,
+    abi: Abi,
+    tree: &[u8],
+    trace: &[u8],
+) -> Result<()> {
     watch.lap("read both files")?;
-    by_stages(rt, &mut watch, run.abi, &tree, &trace)?;
+    by_stages(rt, watch, abi, tree, trace)?;
     watch.lap("give the memory back")?;
+    as_a_whole(rt, watch, abi, tree, trace)
+}
+
+fn as_a_whole<R: Clock + Files + Print + AllocGlobal + Threads + Wait + Sync>(
+    rt: &R,
+    watch: &mut Stopwatch<'_, R>,
+    abi: Abi,
+    tree: &[u8],
+    trace: &[u8],
+) -> Result<()> {
     let cut = Cut::Grain(64);
-    let report = audit(rt, rt.alloc(), &tree, &trace, run.abi, 1, cut, &Idle)
+    let report = audit(rt, rt.alloc(), tree, trace, abi, 1, cut, &Idle)
         .ok()
         .context("audit")?;
     watch.lap("audit as a whole")?;
@@ -55,31 +76,59 @@ fn by_stages<R: Clock + Files + Print + AllocGlobal + Threads + Wait + Sync>(
 ) -> Result<()> {
     let tree = Tree::read(rt.alloc(), tree).ok().context("the tree")?;
     watch.lap("make the tree")?;
+    on_tree(rt, watch, abi, tree, trace)
+}
+
+/// The stages from the tree to the answers.
+fn on_tree<R: Clock + Files + Print + AllocGlobal + Threads + Wait + Sync>(
+    rt: &R,
+    watch: &mut Stopwatch<'_, R>,
+    abi: Abi,
+    tree: Tree,
+    trace: &[u8],
+) -> Result<()> {
     let trace = Trace::read(rt.alloc(), trace).ok().context("the trace")?;
     watch.lap("make the trace")?;
     let case = Case::new(rt.alloc(), tree, trace, abi)
         .ok()
         .context("the rulebook")?;
     watch.lap("make the rulebook")?;
-    judging(rt, watch, &case)
+    judging(rt, watch, &case)?;
+    collecting(rt, watch, &case)
 }
 
-/// The judging of a case by more and more workers, and the collecting of the last pieces.
+/// The judging of a case by more and more workers.
 fn judging<R: Clock + Files + Print + AllocGlobal + Threads + Wait + Sync>(
     rt: &R,
     watch: &mut Stopwatch<'_, R>,
     case: &Case,
 ) -> Result<()> {
-    for (workers, stage) in [
-        (1, "judge with 1 worker"),
-        (2, "judge with 2 workers"),
-        (4, "judge with 4 workers"),
-    ] {
-        let pieces = pieces_by(rt, case, workers)?;
-        watch.lap(stage)?;
-        drop(pieces);
-        watch.restart()?;
-    }
+    judging_by(rt, watch, case, 1, "judge with 1 worker")?;
+    judging_by(rt, watch, case, 2, "judge with 2 workers")?;
+    judging_by(rt, watch, case, 4, "judge with 4 workers")
+}
+
+fn judging_by<R: Clock + Files + Print + AllocGlobal + Threads + Wait + Sync>(
+    rt: &R,
+    watch: &mut Stopwatch<'_, R>,
+    case: &Case,
+    workers: usize,
+    stage: &str,
+) -> Result<()>
+    requires { (1 ≤ workers) × (workers ≤ 64) }
+{
+    let pieces = pieces_by(rt, case, workers)?;
+    watch.lap(stage)?;
+    drop(pieces);
+    watch.restart()
+}
+
+/// The collecting of the pieces of one worker.
+fn collecting<R: Clock + Files + Print + AllocGlobal + Threads + Wait + Sync>(
+    rt: &R,
+    watch: &mut Stopwatch<'_, R>,
+    case: &Case,
+) -> Result<()> {
     let pieces = pieces_by(rt, case, 1)?;
     watch.restart()?;
     let answers = collect(rt.alloc(), case, pieces)

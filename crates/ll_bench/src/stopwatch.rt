@@ -47,22 +47,26 @@ impl<'a, R: Clock + Files + Print + AllocGlobal> Stopwatch<'a, R> {
 /// and `stime` of proc_pid_stat(5).
 fn ticks<R: Files + AllocGlobal>(rt: &R) -> Result<u64> {
     let text = fs::read_to_string(rt, "/proc/self/stat")?;
-    let (_, fields) = text.rsplit_once(") ").context("/proc/self/stat")?;
+    ticks_in(&text).context("/proc/self/stat has no utime or stime")
+}
+
+fn ticks_in(stat: &str) -> Option<u64> {
+    let (_, fields) = stat.rsplit_once(") ")?;
     let mut times = fields.split_ascii_whitespace().skip(11);
-    let user: u64 = times.next().context("utime")?.parse()?;
-    let system: u64 = times.next().context("stime")?.parse()?;
-    Ok(user.saturating_add(system))
+    let user: u64 = times.next()?.parse().ok()?;
+    let system: u64 = times.next()?.parse().ok()?;
+    Some(user.saturating_add(system))
 }
 
 /// The most memory that the process has had so far, in KiB: `VmHWM` of proc_pid_status(5).
 fn peak_kib<R: Files + AllocGlobal>(rt: &R) -> Result<u64> {
     let text = fs::read_to_string(rt, "/proc/self/status")?;
-    let words = text
-        .lines()
-        .find_map(|line| line.strip_prefix("VmHWM:"))
-        .context("/proc/self/status has no VmHWM")?;
-    let number = words.trim().strip_suffix(" kB").context("VmHWM in kB")?;
-    Ok(number.parse()?)
+    peak_in(&text).context("/proc/self/status has no VmHWM in kB")
+}
+
+fn peak_in(status: &str) -> Option<u64> {
+    let words = status.lines().find_map(|line| line.strip_prefix("VmHWM:"))?;
+    words.trim().strip_suffix(" kB")?.parse().ok()
 }
 
 /// The quicker of two.

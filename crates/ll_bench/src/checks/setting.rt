@@ -29,28 +29,37 @@ fn way_down(alloc: Global, depth: u32) -> Result<String> {
     Ok(path)
 }
 
-/// Lists a chain of directories, with objects at each depth, and directories beside it.
-fn listing(alloc: Global) -> Result<String> {
-    let mut lines = String::new(alloc);
+/// Lists the directories beside the way down.
+fn list_aside(lines: &mut String) -> Result<()> {
     for number in 0..ASIDE {
-        let line = format!(in alloc; "{{\"path\":\"/r{number}\",\"kind\":\"dir\"}}\n")?;
-        lines.push_str(&line)?;
+        writeln!(lines, "{{\"path\":\"/r{number}\",\"kind\":\"dir\"}}")?;
     }
+    Ok(())
+}
+
+/// Lists the objects in a directory of the way, and the next directory.
+fn list_in(lines: &mut String, way: &str) -> Result<()> {
+    writeln!(lines, "{{\"path\":\"{way}d\",\"kind\":\"dir\"}}")?;
+    for number in 0..OBJECTS {
+        writeln!(lines, "{{\"path\":\"{way}f{number}\",\"kind\":\"reg\"}}")?;
+    }
+    Ok(())
+}
+
+/// Lists a chain of directories, with objects at each depth.
+fn list_down(alloc: Global, lines: &mut String) -> Result<()> {
     for depth in 0..DEEPEST {
         let way = way_down(alloc, depth)?;
-        let line = format!(in alloc; "{{\"path\":\"{way}d\",\"kind\":\"dir\"}}\n")?;
-        lines.push_str(&line)?;
-        for number in 0..OBJECTS {
-            let line = format!(in alloc; "{{\"path\":\"{way}f{number}\",\"kind\":\"reg\"}}\n")?;
-            lines.push_str(&line)?;
-        }
+        list_in(lines, &way)?;
     }
-    Ok(lines)
+    Ok(())
 }
 
 /// The tree that is checked.
 pub(crate) fn deep_tree(alloc: Global) -> Result<Tree> {
-    let lines = listing(alloc)?;
+    let mut lines = String::new(alloc);
+    list_aside(&mut lines)?;
+    list_down(alloc, &mut lines)?;
     Tree::read(alloc, lines.as_bytes())
         .ok()
         .context("the tree reads")
@@ -91,47 +100,93 @@ pub(crate) struct Layers<'t> {
     pub filtered: Vec<FilteredLayer>,
 }
 
-/// Stacks one layer, and answers its other forms: it handles every right, reads in half of the directories beside the
-/// way down, and where `granting` in the first directory of the way.
-fn stack_one(
+/// The path of the directory of this number beside the way down, or else of the first one on the way.
+fn path_of(alloc: Global, number: u32) -> Result<String> {
+    if number < ASIDE {
+        Ok(format!(in alloc; "/r{number}")?)
+    } else {
+        Ok(String::from_str(alloc, "/d")?)
+    }
+}
+
+/// Whether the layer of a number has a rule on that directory.
+fn has_rule(aside: u32, number: u32, granting: bool) -> bool {
+    if aside < ASIDE {
+        aside % 2 == number % 2
+    } else {
+        granting
+    }
+}
+
+/// Grants reading in a directory, in each form.
+fn grant(
+    sandbox: &mut Sandbox<'_>,
+    plain: &mut PlainLayer,
+    filtered: &mut FilteredLayer,
+    path: &str,
+) -> Result<()> {
+    let node = node_named(sandbox.tree, path)?;
+    sandbox
+        .grant(node, Fs::READ_FILE)
+        .ok()
+        .context("the rule is added")?;
+    plain.grant(node, Fs::READ_FILE)?;
+    filtered.grant(node, Fs::READ_FILE)?;
+    Ok(())
+}
+
+/// Grants reading in the directories that the layer of a number has rules on.
+fn grant_all(
     alloc: Global,
     sandbox: &mut Sandbox<'_>,
+    plain: &mut PlainLayer,
+    filtered: &mut FilteredLayer,
     number: u32,
     granting: bool,
-) -> Result<(PlainLayer, FilteredLayer)> {
+) -> Result<()> {
+    for aside in 0..ASIDE + 1 {
+        if has_rule(aside, number, granting) {
+            let path = path_of(alloc, aside)?;
+            grant(sandbox, plain, filtered, &path)?;
+        }
+    }
+    Ok(())
+}
+
+/// Stacks the layer of a number: it handles every right, reads in half of the directories beside the way down, and
+/// where `granting` in the first directory of the way.
+fn stack_one(alloc: Global, layers: &mut Layers<'_>, number: u32, granting: bool) -> Result<()> {
     let handled = Fs::from_bits_retain(0xffff);
-    sandbox
+    layers
+        .lanes
         .create(alloc, handled, Net::NONE)
         .ok()
         .context("the ruleset is created")?;
     let mut plain = PlainLayer::new(alloc, handled);
     let mut filtered = FilteredLayer::new(alloc, handled);
-    for aside in 0..ASIDE + 1 {
-        let path = if aside == ASIDE {
-            String::from_str(alloc, "/d")?
-        } else {
-            format!(in alloc; "/r{aside}")?
-        };
-        let is_wanted = if aside == ASIDE {
-            granting
-        } else {
-            (aside ^ number) % 2 == 0
-        };
-        if is_wanted {
-            let node = node_named(sandbox.tree, &path)?;
-            sandbox
-                .grant(node, Fs::READ_FILE)
-                .ok()
-                .context("the rule is added")?;
-            plain.grant(node, Fs::READ_FILE)?;
-            filtered.grant(node, Fs::READ_FILE)?;
-        }
-    }
-    sandbox
+    grant_all(
+        alloc,
+        &mut layers.lanes,
+        &mut plain,
+        &mut filtered,
+        number,
+        granting,
+    )?;
+    layers.plain.push(plain)?;
+    layers.filtered.push(filtered)?;
+    layers
+        .lanes
         .restrict(alloc)
         .ok()
-        .context("the layer is stacked")?;
-    Ok((plain, filtered))
+        .context("the layer is stacked")
+}
+
+/// Stacks this many layers, at most sixteen.
+fn stack(alloc: Global, layers: &mut Layers<'_>, count: u32, granting: bool) -> Result<()> {
+    for number in 0..count.min(16) {
+        stack_one(alloc, layers, number, granting)?;
+    }
+    Ok(())
 }
 
 /// This many layers, at most sixteen.
@@ -141,17 +196,11 @@ pub(crate) fn layers_of<'t>(
     count: u32,
     granting: bool,
 ) -> Result<Layers<'t>> {
-    let mut lanes = Sandbox::new(alloc, tree);
-    let mut plain = Vec::new(alloc);
-    let mut filtered = Vec::new(alloc);
-    for number in 0..count.min(16) {
-        let (plain_layer, filtered_layer) = stack_one(alloc, &mut lanes, number, granting)?;
-        plain.push(plain_layer)?;
-        filtered.push(filtered_layer)?;
-    }
-    Ok(Layers {
-        lanes,
-        plain,
-        filtered,
-    })
+    let mut layers = Layers {
+        lanes: Sandbox::new(alloc, tree),
+        plain: Vec::new(alloc),
+        filtered: Vec::new(alloc),
+    };
+    stack(alloc, &mut layers, count, granting)?;
+    Ok(layers)
 }
