@@ -26,7 +26,7 @@ use Rattle.ll_explanations.specs.declared.explanation.Explanation.TheVariants.{N
 use Rattle.ll_explanations.specs.declared.objection.LayerObjection.{LayerObjection}
 use Rattle.ll_explanations.proofs.FindingTells.{tells}
 use Rattle.ll_explain.specs.Words.{line_of}
-use Rattle.ll_explain.proofs.FindingSays.{line_there, opened_there}
+use Rattle.ll_explain.proofs.SaidLater.{line_there, opened_there}
 use Rattle.ll_json.specs.Layering.{head_of, next_tokens, objections_from, opening}
 use Rattle.ll_json.specs.Parts.{named_tokens}
 use Rattle.ll_json.specs.Records.{answer_members, layers_json, members_at, members_of_both, members_with, why_members}
