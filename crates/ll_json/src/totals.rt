@@ -52,7 +52,7 @@ fn write_counts(out: &mut JsonText, abi: u64, totals: &Totals)
 fn write_total(out: &mut JsonText, abi: u64, finding: &Finding)
     ensures { out.new ≡ writing out.old (json_tokens (total_json abi (answered finding.now))) }
 {
-    let totals = Totals::of(finding.answers());
+    let totals = Totals::of(finding);
     write_counts(out, abi, &totals);
 }
 

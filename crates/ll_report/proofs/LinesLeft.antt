@@ -1,7 +1,10 @@
 -- The lines of records and answers, from a place on and counted.
-use Rattle.std.proofs.Common.{◌≡◌, ◌∙◌, ℕ, suc, List, [], ◌∷◌, ◌++◌, length, Bool, cond, refl, sym, ap, arith}
+use Rattle.std.proofs.Common.{◌≡◌, ◌∙◌, ◌+◌, ◌<◌, ℕ, suc, List, [], ◌∷◌, ◌++◌, get_or, length, take, Bool, cond, refl, sym, ap, ap₂, arith}
 use Rattle.std.specs.List.{count_by}
-use Rattle.std.proofs.lemmas.List.Sums.{sum_by-cons}
+use Rattle.std.specs.Prelude.{slice_get, unwrap_or}
+use Rattle.std.proofs.lemmas.List.{take_more}
+use Rattle.std.proofs.lemmas.List.Sums.{fold_push, sum_by-cons}
+use Rattle.std.proofs.lemmas.Option.{unwrap_or-slice_get}
 use Rattle.ll_trace.specs.declared.op.Record.{Record}
 use Rattle.ll_semantics.specs.declared.answer.Answer.{Answer}
 use Rattle.ll_report.specs.declared.options.Shown.{Shown}
@@ -33,6 +36,16 @@ count_of-answers test (r ∷ others) (answer ∷ answers) same =
       sum_by-cons (λ (said : ReportLine). cond (test said.verdict) 1 0) (line_of r answer) (lines_of others answers),
       sum_by-cons (λ (a : Answer). cond (test (verdict_of a)) 1 0) answer answers,
     )
+
+-- one answer more is counted
+pub one_more_counted : {X : Type 0} (test : X → Bool) (all : List X) (place : ℕ) (other x : X) (count : ℕ) (is : Bool) (more : ℕ) → place < length all
+    → count ≡ count_by test (take place all) → x ≡ unwrap_or (slice_get all place) other → is ≡ test x → more ≡ cond is 1 0
+    → count + more ≡ count_by test (take (place + 1) all)
+one_more_counted test all place other x count is more within counted read tested adds =
+    let here : is ≡ test (get_or all place other) = tested ∙ ap test (read ∙ unwrap_or-slice_get all place other) in
+    ap₂ (λ (m n : ℕ). m + n) counted (adds ∙ ap (λ b. cond b 1 0) here)
+    ∙ sym (fold_push (λ n y. n + cond (test y) 1 0) 0 (take place all) (get_or all place other))
+    ∙ sym (ap (count_by test) (take_more all place other within))
 
 -- the text of a report, from what is shown of the records and its totals
 pub whole_text : (shown : Shown) (explained : ℕ → List ℕ) (records : List Record) (answers : List Answer) (blocks text : List ℕ) (all passed denied idle : ℕ)

@@ -81,6 +81,6 @@ impl Rows for Blocks {
 
     #[tactic(auto, unfolding(crate::specs::Blocks::total_of))]
     fn push_last(&mut self, text: &mut TextBuffer) {
-        Totals::of(self.finding.answers()).push_to(text);
+        Totals::of(&self.finding).push_to(text);
     }
 }

@@ -10,6 +10,7 @@ ghost use Rattle.ll_report.specs.Lines as spec;
 
 use crate::names::error_name;
 use ll_explain::{TextBuffer, push_number, push_words};
+use ll_explanations::Finding;
 use ll_process::Answer;
 use ll_rules::{Errno, LayerSet, MOST_LAYERS};
 use ll_trace::Record;
@@ -151,6 +152,13 @@ fn is_moot(answer: &Answer) -> bool
     matches!(answer, Answer::Moot)
 }
 
+/// One for an answer that passes a test, and none for another one.
+fn one_if(passes: bool) -> u64
+    ensures { result ≡ if passes then 1 else 0 }
+{
+    if passes { 1 } else { 0 }
+}
+
 /// How many answers there are of each kind.
 #[derive(Clone, Copy, Debug)]
 pub struct Totals {
@@ -165,22 +173,30 @@ pub struct Totals {
 }
 
 impl Totals {
-    /// How many of these answers there are of each kind.
-    pub fn of(answers: &[Answer]) -> Totals
-        ensures all { result.all ≡ length answers.now }
+    /// How many of the answers of a version there are of each kind.
+    pub fn of(finding: &Finding) -> Totals
+        ensures all { result.all ≡ length finding.now.answers }
         ensures allowed { result.allowed
-            ≡ count_by (λ answer. words.is_allowed (verdict_of answer)) answers.now }
+            ≡ count_by (λ answer. words.is_allowed (verdict_of answer)) finding.now.answers }
         ensures refused { result.refused
-            ≡ count_by (λ answer. words.is_refused (verdict_of answer)) answers.now }
+            ≡ count_by (λ answer. words.is_refused (verdict_of answer)) finding.now.answers }
         ensures moot { result.moot
-            ≡ count_by (λ answer. words.is_moot (verdict_of answer)) answers.now }
+            ≡ count_by (λ answer. words.is_moot (verdict_of answer)) finding.now.answers }
     {
-        Totals {
-            all: answers.len() as u64,
-            allowed: answers.iter().filter(|answer| is_allowed(answer)).count() as u64,
-            refused: answers.iter().filter(|answer| is_refused(answer)).count() as u64,
-            moot: answers.iter().filter(|answer| is_moot(answer)).count() as u64,
+        let mut totals = Totals {
+            all: 0,
+            allowed: 0,
+            refused: 0,
+            moot: 0,
+        };
+        for place in 0..finding.count() {
+            let answer = finding.answer(place);
+            totals.all += 1;
+            totals.allowed += one_if(is_allowed(&answer));
+            totals.refused += one_if(is_refused(&answer));
+            totals.moot += one_if(is_moot(&answer));
         }
+        totals
     }
 
     /// Adds the last line.

@@ -82,7 +82,7 @@ pub fn text_report(
     requires { Finds shown.explanations case.tree case.abi case.records finding }
     ensures { IfOk result (λ report. report ≡ told_of shown case.tree case.abi case.records) }
 {
-    let refused = Totals::of(finding.answers()).refused;
+    let refused = Totals::of(&finding).refused;
     let blocks = Blocks {
         case,
         finding,

@@ -81,7 +81,7 @@ impl VersionRows {
 fn push_total_under(text: &mut TextBuffer, abi: u64, finding: &Finding)
     ensures { text.new ≡ adding text.old (total_under_text abi (answered finding.now)) }
 {
-    Totals::of(finding.answers()).push_under(text, abi);
+    Totals::of(finding).push_under(text, abi);
 }
 
 /// Adds the last lines, one a version, of which the first has this number.

@@ -10,5 +10,5 @@ returns c =
     let made = c.of-totals.ensures in
     let totals = c.of-totals.result in
     let is : total_with c.args.abi totals.all totals.allowed totals.refused totals.moot ≡ total_json c.args.abi (answered c.args.finding.now) =
-    rw (made.all, made.allowed, made.refused, made.moot, c.answers.ensures) refl in
+    rw (made.all, made.allowed, made.refused, made.moot) refl in
     wrote_as c.args.out.now c.write_counts.new.out _ _ (ap json_tokens is) c.write_counts.ensures

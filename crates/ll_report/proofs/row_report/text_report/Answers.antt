@@ -15,8 +15,8 @@ pub returns : goal.returns
 returns c =
     let cv : CaseValue = c.args.case in
     let finding : FindingValue = c.args.finding in
-    let counted : List Answer = c.answers.result.now in
-    let are : counted ≡ judged cv.tree cv.abi cv.records = c.answers.ensures ∙ c.requires.answers in
+    let counted : List Answer = finding.answers in
+    let are : counted ≡ judged cv.tree cv.abi cv.records = c.requires.answers in
     let refused : c.of-refused.result.refused ≡ refused_among cv.records (judged cv.tree cv.abi cv.records) =
     refused_count cv.records counted c.of-refused.result.refused (ap length are ∙ length-judged cv.tree cv.abi cv.records) c.of-refused.ensures.refused
     ∙ ap (refused_among cv.records) are in
