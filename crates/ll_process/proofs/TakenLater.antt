@@ -14,6 +14,7 @@ use Rattle.ll_trace.specs.declared.op.Op.TheVariants as calls
 use Rattle.ll_trace.specs.declared.op.RuleType.TheVariants.{PathBeneath, NetPort}
 use Rattle.ll_trace.specs.declared.op.Record.{Record}
 use Rattle.ll_trace.specs.BestEffort.{at_best_effort, names_rights, record_at_best_effort, records_at_best_effort}
+use Rattle.ll_trace.proofs.Dropping.{op_stays}
 use Rattle.ll_process.specs.TakenLater.{AreTakenLater, IsTakenLater, is_of_rights}
 
 -- ---- one record
@@ -55,13 +56,6 @@ unfolding is_of_rights
 port_added true rs port net = refl
 port_added false rs port net = refl
 
-unchanged : (abi : Abi) (op : Op) → names_rights op ≡ false → at_best_effort abi op ≡ op
-unfolding names_rights at_best_effort
-unchanged abi (calls.Create rs fs net) none = absurd (true≢false none)
-unchanged abi (calls.AddPath rs path fs) none = absurd (true≢false none)
-unchanged abi (calls.AddPort rs port net) none = absurd (true≢false none)
-unchanged abi op none = refl
-
 still_of_rights : (abi : Abi) (op : Op) → names_rights op ≡ true → is_of_rights (at_best_effort abi op) ≡ true
 unfolding names_rights at_best_effort
 still_of_rights abi (calls.Create rs fs net) named =
@@ -74,7 +68,7 @@ still_of_rights abi (calls.AddPort rs port net) named =
 still_of_rights abi op named = absurd (true≢false (sym named))
 
 one_at_best_effort : (abi : Abi) (r : Record) → IsTakenLater (record_at_best_effort abi r) r
-one_at_best_effort abi r = record { line = refl; process = refl; pid = refl; same = unchanged abi r.op; other = still_of_rights abi r.op }
+one_at_best_effort abi r = record { line = refl; process = refl; pid = refl; same = op_stays abi r.op; other = still_of_rights abi r.op }
 
 -- ---- all records
 

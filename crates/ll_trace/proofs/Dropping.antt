@@ -41,7 +41,7 @@ map_fixed f (x ∷ xs) fixed = ap (λ y. y ∷ map f xs) (fixed 0 x refl) ∙ ap
 twice : (abi : Abi) (r : Record) → record_at_best_effort abi (record_at_best_effort abi r) ≡ record_at_best_effort abi r
 twice abi r = ap (λ (op : Op). record r { op = op }) (call-older abi abi (omega arith) r.op)
 
-op_stays : (abi : Abi) (op : Op) → names_rights op ≡ false → at_best_effort abi op ≡ op
+pub op_stays : (abi : Abi) (op : Op) → names_rights op ≡ false → at_best_effort abi op ≡ op
 unfolding at_best_effort names_rights
 op_stays abi (calls.Create rs fs net) other = absurd (true≢false other)
 op_stays abi (calls.AddPath rs path fs) other = absurd (true≢false other)

@@ -240,5 +240,4 @@ unfoldable pub without_records : Unit {0}
 unfolding
     Rattle.ll_trace.specs.Processes.process_count Rattle.ll_trace.specs.Processes.own_from Rattle.ll_trace.specs.Processes.own_records
     Rattle.ll_trace.specs.Processes.number_if Rattle.ll_trace.specs.Processes.started_at Rattle.ll_trace.specs.Processes.parents
-    Rattle.ll_trace.specs.Indexed.HaveRights
 without_records = tt

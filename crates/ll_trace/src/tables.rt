@@ -23,7 +23,7 @@ impl Tables {
     ghost use Rattle.ll_trace.specs.BestEffort.{names_rights};
     ghost use Rattle.ll_trace.specs.Indexed.{Adds, Indexes, lists, places_noted};
 
-    #[tactic(auto, unfolding(crate::proofs::TableLemmas::without_records))]
+    #[tactic(auto, unfolding(crate::proofs::TableLemmas::without_records, crate::specs::Indexed::HaveRights))]
     fn new(alloc: Global) -> Tables
         ensures { Indexes result [] }
     {
