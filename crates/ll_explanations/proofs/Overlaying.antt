@@ -153,9 +153,6 @@ module _ {A : Type 0} (changes : List A) where
 
 -- ---- findings
 
-same_finding : (one other : FindingValue) → one.answers ≡ other.answers → one.explanations ≡ other.explanations → one ≡ other
-same_finding one other answers explanations = λ i. record { answers = answers i; explanations = explanations i }
-
 -- without slots all stays
 pub all_stays : (base found changes : FindingValue) (slots : List ℕ) → base ≡ found → slots ≡ [] → with_changes base slots changes ≡ found
 unfolding overlay

@@ -57,11 +57,7 @@ impl Finding {
         } else {
             Vec::new(alloc)
         };
-        let found = Found {
-            answers,
-            explanations,
-        };
-        Ok(Finding::keep(alloc, found, newer)?)
+        Ok(Finding::keep(alloc, answers, explanations, newer)?)
     }
 
     /// What is found of the records of a case, as [`Finding::of`] finds it, by the calling thread alone.
@@ -80,11 +76,7 @@ impl Finding {
         } else {
             Vec::new(alloc)
         };
-        let found = Found {
-            answers,
-            explanations,
-        };
-        Ok(Finding::keep(alloc, found, newer)?)
+        Ok(Finding::keep(alloc, answers, explanations, newer)?)
     }
 
     /// What was found, all of which is kept.
@@ -113,9 +105,19 @@ impl Finding {
     }
 
     /// What was found; if there is a newer version, only the changes to its base are kept.
-    fn keep(alloc: Global, found: Found, newer: Option<&Finding>) -> Result<Finding, AllocError>
-        ensures { IfOk result (λ finding. finding ≡ found) }
+    fn keep(
+        alloc: Global,
+        answers: Vec<Answer>,
+        explanations: Vec<SharedExplanation>,
+        newer: Option<&Finding>,
+    ) -> Result<Finding, AllocError>
+        ensures { IfOk result (λ finding. finding
+            ≡ record { answers = answers.items; explanations = explanations.items }) }
     {
+        let found = Found {
+            answers,
+            explanations,
+        };
         match newer {
             Some(newer) if found.is_as_long(&newer.base) => {
                 Finding::by_changes(alloc, &newer.base, &found)
