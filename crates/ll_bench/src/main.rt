@@ -58,7 +58,7 @@ fn measure<R: Clock + Files + Print + AllocGlobal + Threads + Wait + Sync>(
 }
 
 /// What the program ends with on these words.
-fn ended<R: Clock + Files + Print + AllocGlobal + Threads + Wait + Sync>(
+fn ended<R: Clock + Files + Print + Eprint + AllocGlobal + Threads + Wait + Sync>(
     rt: &R,
     words: &[String],
 ) -> Result<ExitCode> {

@@ -195,15 +195,18 @@ struct Times {
     ordered: Duration,
 }
 
-/// One run in each map. Both have the same entries.
-fn run<R: Clock>(
-    rt: &R,
-    shared: &SharedMap<u64>,
-    ordered: &BTreeMap<u64, u64>,
+/// Two maps with the same entries, of these keys.
+#[derive(Clone, Copy)]
+struct Both<'m> {
+    shared: &'m SharedMap<u64>,
+    ordered: &'m BTreeMap<u64, u64>,
     keys: Keys,
-) -> Result<Times> {
-    let (first, quick) = in_shared(rt, shared, keys)?;
-    let (second, other) = in_ordered(rt, ordered, keys)?;
+}
+
+/// One run in each map.
+fn run<R: Clock>(rt: &R, maps: &Both<'_>) -> Result<Times> {
+    let (first, quick) = in_shared(rt, maps.shared, maps.keys)?;
+    let (second, other) = in_ordered(rt, maps.ordered, maps.keys)?;
     if first != second {
         return None.context("both maps have the same entries");
     }
@@ -214,15 +217,10 @@ fn run<R: Clock>(
 }
 
 /// The quickest run in each map.
-fn quickest<R: Clock>(
-    rt: &R,
-    shared: &SharedMap<u64>,
-    ordered: &BTreeMap<u64, u64>,
-    keys: Keys,
-) -> Result<Times> {
-    let mut least = run(rt, shared, ordered, keys)?;
+fn quickest<R: Clock>(rt: &R, maps: &Both<'_>) -> Result<Times> {
+    let mut least = run(rt, maps)?;
     for _ in 0..RUNS {
-        let next = run(rt, shared, ordered, keys)?;
+        let next = run(rt, maps)?;
         least = Times {
             shared: quicker(least.shared, next.shared),
             ordered: quicker(least.ordered, next.ordered),
@@ -234,7 +232,12 @@ fn quickest<R: Clock>(
 /// The quickest look-ups in a map that shares, and in an ordered map of the same entries.
 fn times_of<R: Clock + AllocGlobal>(rt: &R, map: &SharedMap<u64>, keys: Keys) -> Result<Times> {
     let ordered = ordered_map(rt.alloc(), keys)?;
-    quickest(rt, map, &ordered, keys)
+    let maps = Both {
+        shared: map,
+        ordered: &ordered,
+        keys,
+    };
+    quickest(rt, &maps)
 }
 
 fn print_line<R: Print>(rt: &R, name: &str, bytes: Bytes, times: Times) -> Result<()> {

@@ -24,6 +24,14 @@ pub(crate) struct Run<'a> {
     pub(crate) trace: &'a str,
 }
 
+/// The bytes of the two files, and the version of the interface.
+#[derive(Clone, Copy)]
+struct Input<'a> {
+    abi: Abi,
+    tree: &'a [u8],
+    trace: &'a [u8],
+}
+
 /// Audits stage by stage and then as a whole, and prints a line for each stage and a line on the run.
 pub(crate) fn measure<R: Clock + Files + Print + AllocGlobal + Threads + Wait + Sync>(
     rt: &R,
@@ -32,32 +40,34 @@ pub(crate) fn measure<R: Clock + Files + Print + AllocGlobal + Threads + Wait + 
     let mut watch = Stopwatch::start(rt)?;
     let tree = fs::read(rt, run.tree)?;
     let trace = fs::read(rt, run.trace)?;
-    of_files(rt, &mut watch, run.abi, &tree, &trace)
+    let input = Input {
+        abi: run.abi,
+        tree: &tree,
+        trace: &trace,
+    };
+    of_files(rt, &mut watch, &input)
 }
 
 /// Audits the files' bytes, once they are read.
 fn of_files<R: Clock + Files + Print + AllocGlobal + Threads + Wait + Sync>(
     rt: &R,
     watch: &mut Stopwatch<'_, R>,
-    abi: Abi,
-    tree: &[u8],
-    trace: &[u8],
+    input: &Input<'_>,
 ) -> Result<()> {
     watch.lap("read both files")?;
-    by_stages(rt, watch, abi, tree, trace)?;
+    by_stages(rt, watch, input)?;
     watch.lap("give the memory back")?;
-    as_a_whole(rt, watch, abi, tree, trace)
+    as_a_whole(rt, watch, input)
 }
 
 fn as_a_whole<R: Clock + Files + Print + AllocGlobal + Threads + Wait + Sync>(
     rt: &R,
     watch: &mut Stopwatch<'_, R>,
-    abi: Abi,
-    tree: &[u8],
-    trace: &[u8],
+    input: &Input<'_>,
 ) -> Result<()> {
     let cut = Cut::Grain(64);
-    let report = audit(rt, rt.alloc(), tree, trace, abi, 1, cut, &Idle)
+    let (alloc, abi) = (rt.alloc(), input.abi);
+    let report = audit(rt, alloc, input.tree, input.trace, abi, 1, cut, &Idle)
         .ok()
         .context("audit")?;
     watch.lap("audit as a whole")?;
@@ -70,26 +80,25 @@ fn as_a_whole<R: Clock + Files + Print + AllocGlobal + Threads + Wait + Sync>(
 fn by_stages<R: Clock + Files + Print + AllocGlobal + Threads + Wait + Sync>(
     rt: &R,
     watch: &mut Stopwatch<'_, R>,
-    abi: Abi,
-    tree: &[u8],
-    trace: &[u8],
+    input: &Input<'_>,
 ) -> Result<()> {
-    let tree = Tree::read(rt.alloc(), tree).ok().context("the tree")?;
+    let tree = Tree::read(rt.alloc(), input.tree).ok().context("the tree")?;
     watch.lap("make the tree")?;
-    on_tree(rt, watch, abi, tree, trace)
+    on_tree(rt, watch, input, tree)
 }
 
 /// The stages from the tree to the answers.
 fn on_tree<R: Clock + Files + Print + AllocGlobal + Threads + Wait + Sync>(
     rt: &R,
     watch: &mut Stopwatch<'_, R>,
-    abi: Abi,
+    input: &Input<'_>,
     tree: Tree,
-    trace: &[u8],
 ) -> Result<()> {
-    let trace = Trace::read(rt.alloc(), trace).ok().context("the trace")?;
+    let trace = Trace::read(rt.alloc(), input.trace)
+        .ok()
+        .context("the trace")?;
     watch.lap("make the trace")?;
-    let case = Case::new(rt.alloc(), tree, trace, abi)
+    let case = Case::new(rt.alloc(), tree, trace, input.abi)
         .ok()
         .context("the rulebook")?;
     watch.lap("make the rulebook")?;
