@@ -1,3 +1,5 @@
+use Rattle.std.proofs.Common.{◌≡◌, rules}
+use Rattle.std.proofs.lemmas.List.Elements.{All-push}
 use denote.Param.Send.{sendable}
 use Rattle.std.proofs.Crossing.{crosses}
 use Rattle.ll_pool.proofs.Crossing.{hand_send, worked_send}
@@ -10,3 +12,15 @@ spawn_with-requires-send-F g c κs within = search (hand_send, sendable) depth 6
 
 pub spawn_with-requires-send-T : goal.spawn_with-requires-send-T
 spawn_with-requires-send-T g c κs within = search (worked_send, result.the_send, no_memory.the_send, crosses, sendable) depth 60
+
+pub loop-started-preserved : goal.loop-started-preserved
+loop-started-preserved g c = record {
+  queue = search rules;
+  given = search rules;
+  taken = search rules;
+  its_case = search rules;
+  count = search rules;
+  parts = search rules;
+  promised = rw (c.push_reserved.ensures.items, c.reserve.ensures.items)
+      (All-push (λ handle. handle.promise.queue.now ≡ c.args.pool.now.queue) c.loop-started.handles.items c.in-Ok.handle c.loop-started.invariant.promised (search rules));
+}
