@@ -21,6 +21,7 @@ loop-started-preserved g c = record {
   its_case = search rules;
   count = search rules;
   parts = search rules;
-  promised = rw (c.push_reserved.ensures.items, c.reserve.ensures.items)
-      (All-push (λ handle. handle.promise.queue.now ≡ c.args.pool.now.queue) c.loop-started.handles.items c.in-Ok.handle c.loop-started.invariant.promised (search rules));
+  promised =
+      let on_queue = All-push (λ handle. handle.promise.queue.now ≡ c.args.pool.now.queue) c.loop-started.handles.items c.in-Ok.handle in
+      rw (c.push_reserved.ensures.items, c.reserve.ensures.items) (on_queue c.loop-started.invariant.promised (search rules));
 }
