@@ -61,20 +61,18 @@ fn a_map_and_its_clone(rt: HostRuntime) -> Result<(), Fail> {
     Ok(())
 }
 
-/// A map with a fork of the keys 0 and 4, which it shares with a clone; nothing where memory runs out for the fork.
-fn forked(alloc: Global) -> Option<SharedMap<u8>> {
+/// A map with a fork of the keys 0 and 4, and a clone that shares it; nothing where memory runs out.
+fn forked(alloc: Global) -> Option<(SharedMap<u8>, SharedMap<u8>)> {
     let mut map = SharedMap::new(alloc);
     map.insert(0, 10).ok()?;
     map.insert(4, 14).ok()?;
-    Some(map)
+    let copy = map.clone().ok()?;
+    Some((map, copy))
 }
 
 #[test]
 fn insert_without_memory(rt: HostRuntime) {
-    let Some(mut map) = forked(rt.alloc()) else {
-        return;
-    };
-    let Ok(copy) = map.clone() else {
+    let Some((mut map, copy)) = forked(rt.alloc()) else {
         return;
     };
     if map.insert(16, 26).is_err() {
@@ -88,10 +86,7 @@ fn insert_without_memory(rt: HostRuntime) {
 
 #[test]
 fn remove_without_memory(rt: HostRuntime) {
-    let Some(mut map) = forked(rt.alloc()) else {
-        return;
-    };
-    let Ok(copy) = map.clone() else {
+    let Some((mut map, copy)) = forked(rt.alloc()) else {
         return;
     };
     if map.remove(4).is_err() {
