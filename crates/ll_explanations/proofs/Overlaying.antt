@@ -21,36 +21,35 @@ module _ {A : Type 0} (one other : List A) (place : ℕ) where
   pub neither_there : length one ≤ place → length other ≤ place → slice_get one place ≡ slice_get other place
   neither_there past others_past = slice_get_past one place past ∙ sym (slice_get_past other place others_past)
 
-module _ {A : Type 0} (changes base : List A) (slots : List ℕ) where
-  overlaid_at : (base : List A) (slots : List ℕ) (place : ℕ)
-      → slice_get (overlay base slots changes) place ≡ option_map (one_overlaid changes (get_or slots place 0)) (slice_get base place)
-  unfolding overlay
-  overlaid_at [] [] place = refl
-  overlaid_at (stays ∷ base) [] zero = refl
-  overlaid_at (stays ∷ base) [] (suc place) = overlaid_at base [] place
-  overlaid_at [] (slot ∷ slots) place = refl
-  overlaid_at (stays ∷ base) (slot ∷ slots) zero = refl
-  overlaid_at (stays ∷ base) (slot ∷ slots) (suc place) = overlaid_at base slots place
+overlaid_at : {A : Type 0} (changes base : List A) (slots : List ℕ) (place : ℕ)
+    → slice_get (overlay base slots changes) place ≡ option_map (one_overlaid changes (get_or slots place 0)) (slice_get base place)
+unfolding overlay
+overlaid_at changes [] [] place = refl
+overlaid_at changes (stays ∷ base) [] zero = refl
+overlaid_at changes (stays ∷ base) [] (suc place) = overlaid_at changes base [] place
+overlaid_at changes [] (slot ∷ slots) place = refl
+overlaid_at changes (stays ∷ base) (slot ∷ slots) zero = refl
+overlaid_at changes (stays ∷ base) (slot ∷ slots) (suc place) = overlaid_at changes base slots place
 
-  module _ (place : ℕ) where
-    pub nothing_there : length base ≤ place → None ≡ slice_get (overlay base slots changes) place
-    nothing_there past =
-        sym (overlaid_at base slots place ∙ ap (option_map (one_overlaid changes (get_or slots place 0))) (slice_get_past base place past))
+module _ {A : Type 0} (changes base : List A) (slots : List ℕ) (place : ℕ) where
+  pub nothing_there : length base ≤ place → None ≡ slice_get (overlay base slots changes) place
+  nothing_there past =
+      sym (overlaid_at changes base slots place ∙ ap (option_map (one_overlaid changes (get_or slots place 0))) (slice_get_past base place past))
 
-    there : (stays : A) (change : Option A) → place < length base → stays ≡ get_or base place stays → change ≡ change_at changes (get_or slots place 0)
-        → Some (unwrap_or change stays) ≡ slice_get (overlay base slots changes) place
-    there stays change within is slot =
-        ap (λ o. Some (unwrap_or o stays)) slot
-        ∙ sym (overlaid_at base slots place
-        ∙ ap (option_map (one_overlaid changes (get_or slots place 0))) (slice_get_read base (length base) place stays refl within is))
+  there : (stays : A) (change : Option A) → place < length base → stays ≡ get_or base place stays → change ≡ change_at changes (get_or slots place 0)
+      → Some (unwrap_or change stays) ≡ slice_get (overlay base slots changes) place
+  there stays change within is slot =
+      ap (λ o. Some (unwrap_or o stays)) slot
+      ∙ sym (overlaid_at changes base slots place
+      ∙ ap (option_map (one_overlaid changes (get_or slots place 0))) (slice_get_read base (length base) place stays refl within is))
 
-    pub stays_there : (stays : A) → place < length base → stays ≡ get_or base place stays → None ≡ change_at changes (get_or slots place 0)
-        → Some stays ≡ slice_get (overlay base slots changes) place
-    stays_there stays = there stays None
+  pub stays_there : (stays : A) → place < length base → stays ≡ get_or base place stays → None ≡ change_at changes (get_or slots place 0)
+      → Some stays ≡ slice_get (overlay base slots changes) place
+  stays_there stays = there stays None
 
-    pub change_there : (stays change : A) → place < length base → stays ≡ get_or base place stays
-        → Some change ≡ change_at changes (get_or slots place 0) → Some change ≡ slice_get (overlay base slots changes) place
-    change_there stays change = there stays (Some change)
+  pub change_there : (stays change : A) → place < length base → stays ≡ get_or base place stays
+      → Some change ≡ change_at changes (get_or slots place 0) → Some change ≡ slice_get (overlay base slots changes) place
+  change_there stays change = there stays (Some change)
 
 -- as many as in the base
 as_many : {A : Type 0} (changes base : List A) (slots : List ℕ) → length (overlay base slots changes) ≡ length base
