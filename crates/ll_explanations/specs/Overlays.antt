@@ -12,7 +12,8 @@ change_at changes (suc index) = slice_get changes index
 abbrev pub one_overlaid : {A : Type 0} → List A → ℕ → A → A
 one_overlaid changes slot stays = unwrap_or (change_at changes slot) stays
 
--- the whole list: behind the last slot all stays
+-- The whole list, by the base, the slots and the changes, which is as long as the base: behind the last slot all stays.
+-- So a list that is kept without slots is its base.
 unfoldable pub overlay : {A : Type 0} → List A → List ℕ → List A → List A
 overlay base [] changes = base
 overlay [] (slot ∷ slots) changes = []
