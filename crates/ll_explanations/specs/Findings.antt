@@ -1,7 +1,7 @@
 -- What is found of the records of a trace under one version: the answers, and the explanations as values, if they are
 -- kept.
 -- Source: docs/FORMATS.md, "Explanations" and "Several versions"; the layout of a finding is the code's own.
-use Rattle.std.specs.Prelude.{◌≡◌, ◌≤◌, ◌<◌, ◌^◌, ℕ, Bool, List, Option, Some, None, if◌then◌else◌, length, slice_get, unwrap_or}
+use Rattle.std.specs.Prelude.{◌≡◌, ◌<◌, ◌^◌, ℕ, Bool, List, Option, Some, None, if◌then◌else◌, length, slice_get, unwrap_or}
 use Rattle.ll_rights.specs.declared.abi.Abi.{Abi}
 use Rattle.ll_tree.specs.Trees.{Entry}
 use Rattle.ll_trace.specs.declared.op.Record.{Record}
@@ -28,11 +28,11 @@ with_changes base slots changes = record {
   explanations = overlay base.explanations slots changes.explanations;
 }
 
--- two are about as many records, each of which can have a slot of 32 bits
+-- two are about as many records, each with its explanation and few enough for slots of 32 bits
 pub record AreAsLong (one other : FindingValue) : Type 0 where
   pub answers : length one.answers ≡ length other.answers
   pub explanations : length one.explanations ≡ length other.explanations
-  pub within : length one.explanations ≤ length one.answers
+  pub explained : length one.explanations ≡ length one.answers
   pub few : length one.answers < 2 ^ 32
 
 -- the answer to the record at a place

@@ -18,9 +18,9 @@ use std::marker::Model;
 use std::sync::Arc;
 use std::thread::Threads;
 
-/// What is found under a version: the answers to all records, and their explanations, if these are kept. All versions
-/// of a case have one base, which is all that the newest one finds. Each other one has a slot for each record: 0 where
-/// it finds the same, and else one more than the index of what it finds among its changes.
+/// What is found under a version: the answers to all records, and their explanations, if these are kept. An older version
+/// may share its base with a newer one. Then it has a slot for each record: 0 where it finds what the base has, and else
+/// one more than the index of what it finds among its changes. A version without slots finds what its base has.
 #[derive(Drop)]
 pub struct Finding {
     base: Arc<Found>,
@@ -91,12 +91,14 @@ impl Finding {
         })
     }
 
-    /// What was found, of which only the changes to a base about as many records are kept.
-    fn by_changes(alloc: Global, base: &Arc<Found>, found: &Found) -> Result<Finding, AllocError>
-        requires { AreAsLong found.now base.now.value }
-        ensures { IfOk result (λ finding. finding ≡ found.now) }
+    /// What was found, of which only the changes to a base about as many records are kept if they are few.
+    fn by_changes(alloc: Global, base: &Arc<Found>, found: Found) -> Result<Finding, AllocError>
+        requires { AreAsLong found base.now.value }
+        ensures { IfOk result (λ finding. finding ≡ found) }
     {
-        let (slots, changes) = found.differences(alloc, base)?;
+        let Some((slots, changes)) = found.differences(alloc, base)? else {
+            return Finding::whole(alloc, found);
+        };
         Ok(Finding {
             base: Arc::try_clone(base)?,
             slots,
@@ -120,7 +122,7 @@ impl Finding {
         };
         match newer {
             Some(newer) if found.is_as_long(&newer.base) => {
-                Finding::by_changes(alloc, &newer.base, &found)
+                Finding::by_changes(alloc, &newer.base, found)
             }
             _ => Finding::whole(alloc, found),
         }

@@ -1,6 +1,6 @@
 //! Answers to records, and what is kept of their explanations.
 
-ghost use Rattle.std.specs.Prelude.{◌≡◌, ◌≤◌, ◌∷◌, ◌++◌, [], IfOk, OnOk, length, slice_get, true};
+ghost use Rattle.std.specs.Prelude.{◌≡◌, ◌≤◌, ◌∷◌, ◌++◌, [], IfOk, IfSome, OnOk, length, slice_get, true};
 ghost use Rattle.std.specs.Bool.{OnTrue};
 ghost use Rattle.ll_explanations.specs.Findings.{AreAsLong, answer_in, kept_at, with_changes};
 
@@ -8,6 +8,9 @@ use crate::explained::SharedExplanation;
 use ll_semantics::Answer;
 use std::alloc::{AllocError, Global};
 use std::marker::Model;
+
+/// Changes are kept if they are no more than one record in so many.
+const RECORDS_A_CHANGE: usize = 4;
 
 /// The answers to records, and what is kept of their explanations, if explanations are kept.
 #[derive(Drop)]
@@ -73,13 +76,13 @@ impl Found {
         self.answers.len()
     }
 
-    /// Whether another one is about as many records, few enough for slots of 32 bits.
+    /// Whether another one is about as many records, each with its explanation and few enough for slots of 32 bits.
     pub(crate) fn is_as_long(&self, other: &Found) -> bool
         ensures { OnTrue result (AreAsLong self.now other.now) }
     {
         self.answers.len() == other.answers.len()
             && self.explanations.len() == other.explanations.len()
-            && self.explanations.len() <= self.answers.len()
+            && self.explanations.len() == self.answers.len()
             && self.answers.len() <= u32::MAX as usize
     }
 
@@ -114,18 +117,23 @@ impl Found {
         Ok(())
     }
 
-    /// What differs from a base about as many records: a slot for each record, and the changes.
+    /// What differs from a base about as many records: a slot for each record, and the changes. None if more than a
+    /// quarter of the records differ: to keep all takes less memory then.
     pub(crate) fn differences(
         &self,
         alloc: Global,
         base: &Found,
-    ) -> Result<(Vec<u32>, Found), AllocError>
+    ) -> Result<Option<(Vec<u32>, Found)>, AllocError>
         requires { AreAsLong self.now base.now }
-        ensures { IfOk result (λ both. with_changes base.now both.0.items both.1 ≡ self.now) }
+        ensures { IfOk result (λ some. IfSome some
+            (λ both. with_changes base.now both.0.items both.1 ≡ self.now)) }
     {
         let mut slots = Vec::with_capacity(alloc, self.count())?;
         let mut changes = Found::nothing(alloc);
         for place in 0..self.count() {
+            if changes.count() > self.count() / RECORDS_A_CHANGE {
+                return Ok(None);
+            }
             if base.agrees(self, place) {
                 slots.push(0)?;
             } else {
@@ -133,6 +141,6 @@ impl Found {
                 slots.push(changes.count() as u32)?;
             }
         }
-        Ok((slots, changes))
+        Ok(Some((slots, changes)))
     }
 }
