@@ -11,6 +11,7 @@ pub mod Wanting
 pub mod Explaining
 pub mod FindingTells
 pub mod Overlaying
+pub mod Changing
 pub mod KeepingAll
 pub mod Grouping
 pub mod Stretching

@@ -1,5 +1,5 @@
 use Rattle.std.proofs.Common.{◌∙◌, ◌++◌, [], ◌∷◌, length, ap, refl, sym}
-use Rattle.ll_explanations.proofs.Overlaying.{change_kept, none_kept, same_kept}
+use Rattle.ll_explanations.proofs.Changing.{change_kept, none_kept, same_kept}
 use Rattle.ll_explanations.proofs.found.Found.differences.Goals.{else-agrees+in_ok-push_from+in_ok-push-2, then-agrees+in_ok-push}
 use Rattle.ll_explanations.proofs.found.Found.differences.Goals as goal
 

@@ -1,4 +1,4 @@
-use Rattle.ll_explanations.proofs.Overlaying.{AreKeptUpto}
+use Rattle.ll_explanations.proofs.Changing.{AreKeptUpto}
 use Rattle.ll_explanations.proofs.found.Found.differences.Given as goal
 
 abbrev pub invariant-loop-place : goal.invariant-loop-place
