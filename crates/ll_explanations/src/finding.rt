@@ -91,7 +91,7 @@ impl Finding {
         })
     }
 
-    /// What was found, of which only the changes to a base about as many records are kept if they are few.
+    /// What was found. Only the changes to a base about as many records are kept if they are few.
     fn by_changes(alloc: Global, base: &Arc<Found>, found: Found) -> Result<Finding, AllocError>
         requires { AreAsLong found base.now.value }
         ensures { IfOk result (λ finding. finding ≡ found) }

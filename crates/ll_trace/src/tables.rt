@@ -8,8 +8,8 @@ use std::alloc::{AllocError, Global};
 
 /// The parent of each process, the places of its records, and the place of the record that starts it,
 /// in the order of the processes' numbers. So the places in `starts` rise, and the process that a
-/// record starts is found by a binary search. The calls that name rights are at the places in `rights`, where
-/// other calls may be too.
+/// record starts is found by a binary search. `rights` has the places of the calls that name rights, and may
+/// have places of other calls.
 #[derive(Drop)]
 pub struct Tables {
     pub parents: Vec<Option<ProcessId>>,

@@ -153,7 +153,7 @@ impl Trace {
         records.as_slice()
     }
 
-    /// The places of the calls that name rights, in ascending order, among which there may be places of other calls.
+    /// The places of the calls that name rights. There may be places of other calls among them.
     pub fn rights(&self) -> &[u32]
         ensures { HaveRights result.now self.now }
     {
