@@ -49,10 +49,10 @@ module _ (options : Options) (abi : Abi) (asked : is_in options.abis abi ≡ tru
     later_is = sym comes.1 ∙ records ∙ taken_as_asked located.trace;
     adds = record {
       one = λ _. (
-        comes.2,
-        comes.3 ∙ ap (λ newer. comes.2 ∷ newer) none,
+        comes.2.0,
+        comes.2.1 ∙ ap (λ newer. comes.2.0 ∷ newer) none,
         same_finds options.shown.explanations next.case.tree entries next.case.abi abi next.case.records (taken options.effort abi located.trace)
-            comes.2 comes.0 version records comes.4,
+            comes.2.0 comes.0 version records comes.2.2,
       );
       none = λ unasked. absurd (true≢false (sym asked ∙ unasked));
     };
@@ -66,14 +66,14 @@ module _ (options : Options) (abi : Abi) (asked : is_in options.abis abi ≡ tru
   goes_on one finding tree records newer finds = λ entries later after comes. record {
     records = one.case.records;
     findings = finding ∷ one.newer.items;
-    came = (sym tree ∙ comes.0, refl, finding, refl, finds);
+    came = (sym tree ∙ comes.0, refl, (finding, refl, finds));
     later_is = sym comes.1 ∙ records ∙ taken_as_asked one.case.records;
     adds = record {
       one = λ _. (
-        comes.2,
-        comes.3 ∙ ap (λ all. comes.2 ∷ all) newer,
+        comes.2.0,
+        comes.2.1 ∙ ap (λ all. comes.2.0 ∷ all) newer,
         same_finds options.shown.explanations next.case.tree entries next.case.abi abi next.case.records (taken options.effort abi one.case.records)
-            comes.2 comes.0 version records comes.4,
+            comes.2.0 comes.0 version records comes.2.2,
       );
       none = λ unasked. absurd (true≢false (sym asked ∙ unasked));
     };

@@ -1,14 +1,15 @@
 -- An audit under several versions, the newest first: what is found if it ends now, and how it goes on.
 -- Source: docs/FORMATS.md, "Several versions"; that a version is explained while the next one judges is the code's own.
-use Rattle.std.specs.Prelude.{◌≡◌, List, [], ◌∷◌, true, false, if◌then◌else◌, map}
+use Rattle.std.specs.Prelude.{◌≡◌, List, [], true, false, if◌then◌else◌, map}
 use Rattle.ll_rights.specs.declared.abi.Abi.{Abi}
 use Rattle.ll_rights.specs.AbiRanges.{is_in}
 use Rattle.ll_tree.specs.Trees.{Entry}
 use Rattle.ll_trace.specs.declared.op.Record.{Record}
-use Rattle.ll_explanations.specs.Findings.{FindingValue, Finds}
+use Rattle.ll_explanations.specs.Findings.{FindingValue}
 use Rattle.ll_json.specs.Judged.{AreFound}
 use Rattle.ll_json.specs.Records.{about}
 use Rattle.ll_report.specs.declared.options.Options.{Options}
+use Rattle.ll_audit.specs.Cases.{AddsFinding, StandsInFront}
 use Rattle.ll_audit.specs.ShownReports.{taken, versions_by}
 use Rattle.ll_audit.specs.declared.ranging.Progress.{Progress}
 use Rattle.ll_audit.specs.declared.ranging.Progress.TheVariants as progress
@@ -17,13 +18,12 @@ use Rattle.ll_audit.specs.declared.ranging.Progress.TheVariants as progress
 abbrev pub ComesTo : Options → Progress → List Entry → List Record → List FindingValue → Type 0
 ComesTo options (progress.Begun located) tree records findings = (located.tree ≡ tree) × (located.trace ≡ records) × (findings ≡ [])
 ComesTo options (progress.Judged one) tree records findings = (one.case.tree ≡ tree) × (one.case.records ≡ records)
-    × (finding : FindingValue) × (findings ≡ finding ∷ one.newer.items)
-    × Finds options.shown.explanations one.case.tree one.case.abi one.case.records finding
+    × AddsFinding options.shown.explanations one.case one.newer.items findings
 
 -- what is found under a version, if it is asked for, stands in front of what was found before
 pub record Adds (options : Options) (abi : Abi) (tree : List Entry) (records : List Record) (before after : List FindingValue) : Type 0 where
-  pub one : is_in options.abis abi ≡ true → (finding : FindingValue) × (after ≡ finding ∷ before)
-      × Finds options.shown.explanations tree abi (taken options.effort abi records) finding
+  pub one : is_in options.abis abi ≡ true
+      → StandsInFront options.shown.explanations tree abi (taken options.effort abi records) before after
   pub none : is_in options.abis abi ≡ false → after ≡ before
 
 -- the records as a version takes them, if it is asked for

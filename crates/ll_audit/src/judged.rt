@@ -1,6 +1,7 @@
 //! A case that is judged, and not explained yet.
 
 ghost use Rattle.std.specs.Prelude.{◌≡◌, IfOk, IfErr};
+ghost use Rattle.std.specs.Thread.{IsSync};
 ghost use Rattle.ll_semantics.specs.Worlds.{judged};
 ghost use Rattle.ll_process.specs.{Cases.IsCase, PastCases.as_it_was};
 ghost use Rattle.ll_audit.specs.Causes.{IsWant};
@@ -10,7 +11,7 @@ ghost use Rattle.ll_audit.specs.Cases.{AddsFinding, FindsIn, judged_in};
 
 use crate::fault::Fault;
 use crate::ranging::{Audit, Audited, case_under, in_front};
-use crate::workers::answers_by_one;
+use crate::workers::answers_by;
 use ll_explanations::Finding;
 use ll_pool::Gate;
 use ll_process::{Answer, Case, CaseView, PastCase};
@@ -31,14 +32,16 @@ pub(crate) struct Judged {
 }
 
 /// What is found of a past case, by the case that has its trace now, the answers to it, and what was found under newer
-/// versions, the oldest first. The calling thread explains it.
-fn explain_past(
+/// versions, the oldest first. At most this many threads explain it.
+fn explain_past<R: Threads + Sync>(
+    rt: &R,
     alloc: Global,
     now: &Case,
     past: &PastCase,
     answers: Vec<Answer>,
     explains: bool,
     newer: &[Finding],
+    threads: u64,
 ) -> Result<Finding, NoMemory>
     requires past { IsCase (as_it_was now.now.tree now.now.records past.now) }
     requires answers { answers.items
@@ -46,10 +49,11 @@ fn explain_past(
     ensures { IfOk result (FindsIn explains (as_it_was now.now.tree now.now.records past.now)) }
 {
     let view = CaseView::past(now, past);
-    Finding::alone(alloc, &view, answers, explains, newer.first())
+    let threads = threads as usize;
+    Finding::of(rt, alloc, &view, answers, explains, newer.first(), threads)
 }
 
-/// Explains a past case in a thread of its own, while one worker judges the case that has its trace now.
+/// Explains a past case while the workers judge the case that has its trace now.
 fn explain_beside<R: Threads + Wait + Sync, G: Gate + Sync>(
     audit: &Audit<'_, R, G>,
     now: &Case,
@@ -57,6 +61,7 @@ fn explain_beside<R: Threads + Wait + Sync, G: Gate + Sync>(
     answers: Vec<Answer>,
     newer: &[Finding],
 ) -> Result<(Finding, Vec<Answer>), Fault>
+    requires crew { IsCrew audit.now.workers.now.count }
     requires past { IsCase (as_it_was now.now.tree now.now.records past.now) }
     requires answers { answers.items
         ≡ judged_in (as_it_was now.now.tree now.now.records past.now) }
@@ -67,10 +72,16 @@ fn explain_beside<R: Threads + Wait + Sync, G: Gate + Sync>(
 {
     let (rt, alloc, gate) = (audit.workers.rt, audit.workers.alloc, audit.workers.gate);
     let (explains, cuts) = (audit.options.shown.explanations, audit.cuts);
+    let count = audit.workers.count;
     let (finding, judged) = join(
         rt,
-        move || explain_past(alloc, now, past, answers, explains, newer),
-        move || answers_by_one(rt, alloc, now, cuts, gate),
+        move ||
+            requires sync { IsSync R.row }
+            requires past { IsCase (as_it_was now.now.tree now.now.records past.now) }
+            requires answers { answers.items
+                ≡ judged_in (as_it_was now.now.tree now.now.records past.now) }
+        { explain_past(rt, alloc, now, past, answers, explains, newer, count) },
+        move || requires { IsCrew count } { answers_by(rt, alloc, count, gate, now, cuts) },
     );
     Ok((finding?, judged?))
 }
@@ -100,12 +111,13 @@ impl Judged {
         })
     }
 
-    /// Judges under an older version, while another thread explains this one.
+    /// Judges under an older version, while other threads explain this one.
     fn next_beside<R: Threads + Wait + Sync, G: Gate + Sync>(
         self,
         audit: &Audit<'_, R, G>,
         abi: Abi,
     ) -> Result<Judged, Fault>
+        requires { IsCrew audit.now.workers.now.count }
         ensures tree { IfOk result (λ next. next.case.tree ≡ self.case.tree) }
         ensures abi { IfOk result (λ next. next.case.abi ≡ abi) }
         ensures records { IfOk result (λ next. next.case.records
@@ -129,8 +141,8 @@ impl Judged {
         })
     }
 
-    /// Explains this version and judges under an older one: at the same time where one worker judges, and else one after
-    /// the other, each by all workers.
+    /// Explains this version while the workers judge under an older one. Without explanations this version's case is given
+    /// up first.
     pub(crate) fn next<R: Threads + Wait + Sync, G: Gate + Sync>(
         self,
         audit: &Audit<'_, R, G>,
@@ -145,7 +157,7 @@ impl Judged {
         ensures abi { IfOk result (λ next. next.case.abi ≡ abi) }
         ensures fault { IfErr result IsWant }
     {
-        if audit.options.shown.explanations && audit.workers.count == 1 {
+        if audit.options.shown.explanations {
             return self.next_beside(audit, abi);
         }
         let newer = self.finish(audit, audit.workers.count)?;

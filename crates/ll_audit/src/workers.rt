@@ -85,19 +85,26 @@ impl<'a, R: Threads + Wait + Sync, G: Gate + Sync> Workers<'a, R, G> {
     }
 }
 
-/// The answers to all records of a case, whose work is cut at these processes, by one worker.
-pub(crate) fn answers_by_one<R: Threads + Wait + Sync, G: Gate + Sync>(
+/// The answers to all records of a case, whose work is cut at these processes, by so many workers.
+pub(crate) fn answers_by<R: Threads + Wait + Sync, G: Gate + Sync>(
     rt: &R,
     alloc: Global,
+    count: u64,
+    gate: &G,
     case: &Case,
     cuts: &[bool],
-    gate: &G,
 ) -> Result<Vec<Answer>, Fault>
+    requires { IsCrew count }
     ensures answers { IfOk result (λ answers. answers.items ≡ judged_in case.now) }
     ensures fault { IfErr result IsWant }
 {
-    let pieces = run(rt, alloc, case, 1, cuts, gate)?;
-    Ok(collect_whole(alloc, case, pieces)?)
+    let workers = Workers {
+        rt,
+        alloc,
+        count,
+        gate,
+    };
+    workers.answers(case, cuts)
 }
 
 /// A gate that lets every job through at once.

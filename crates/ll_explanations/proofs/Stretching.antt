@@ -98,11 +98,3 @@ pub whole_stretches : (case other : CaseValue) (from end last : ℕ) (stretches 
 whole_stretches case other from end last stretches of_case at ends are =
     subst (λ n. AreStretches case 0 n stretches) ends (subst (λ n. AreStretches case n end stretches) at
     (subst (λ cv. AreStretches cv from end stretches) of_case are))
-
--- one stretch that is the whole
-pub extends_whole : (case other : CaseValue) (from end last : ℕ) (all : List (Option Explained)) → other ≡ case → from ≡ 0 → end ≡ last
-    → Extends other from end all → AreAllKept case last all
-extends_whole case other from end last all of_case at ends extends = record {
-  as_many = omega (arith, extends.as_many, at, ends);
-  kept = subst (λ cv. AreFirstKept cv all) of_case (extends.kept [] (sym at) (none_kept other));
-}

@@ -8,7 +8,7 @@ use crate::explained::SharedExplanation;
 use crate::explanation::Explanation;
 use crate::found::Found;
 use crate::overlay::overlaid;
-use crate::stretches::{explain_all, explain_alone};
+use crate::stretches::explain_all;
 use ll_process::CaseView;
 use ll_rules::NoMemory;
 use ll_semantics::Answer;
@@ -54,25 +54,6 @@ impl Finding {
     {
         let explanations = if explains {
             explain_all(rt, alloc, case, &answers, newer, workers)?
-        } else {
-            Vec::new(alloc)
-        };
-        Ok(Finding::keep(alloc, answers, explanations, newer)?)
-    }
-
-    /// What is found of the records of a case, as [`Finding::of`] finds it, by the calling thread alone.
-    pub fn alone(
-        alloc: Global,
-        case: &CaseView<'_>,
-        answers: Vec<Answer>,
-        explains: bool,
-        newer: Option<&Finding>,
-    ) -> Result<Finding, NoMemory>
-        requires { answers.items ≡ judged case.now.tree case.now.abi case.now.records }
-        ensures { IfOk result (Finds explains case.now.tree case.now.abi case.now.records) }
-    {
-        let explanations = if explains {
-            explain_alone(alloc, case, &answers, newer)?
         } else {
             Vec::new(alloc)
         };

@@ -223,22 +223,6 @@ fn join_parts(alloc: Global, parts: Vec<Explaining>) -> Result<Vec<SharedExplana
     Ok(all)
 }
 
-/// What is kept of the explanations of all records of a case, worked out by the calling thread.
-pub(crate) fn explain_alone(
-    alloc: Global,
-    case: &CaseView<'_>,
-    answers: &[Answer],
-    newer: Option<&Finding>,
-) -> Explaining
-    requires { answers.now ≡ judged case.now.tree case.now.abi case.now.records }
-    ensures as_many { IfOk result (λ all. length all.items ≡ length case.now.records) }
-    ensures each { IfOk result
-        (λ all. AreKept case.now.tree case.now.abi case.now.records all.items) }
-{
-    let whole = Stretch::whole(alloc, case, answers, newer);
-    whole.explained(alloc)
-}
-
 /// The number of stretches in which the records of a case are explained. Each takes a copy of what is known of all
 /// processes.
 fn stretches_of(case: &CaseView<'_>, workers: usize) -> usize {
