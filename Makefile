@@ -11,6 +11,13 @@ CHECK := $(CURDIR)/crates/landaudit/out/check.txt
 # The commit that `make test` passed on, and the last line of `rt ci`.
 GATE := $(CURDIR)/crates/landaudit/out/gate.txt
 
+# How many checks `rt ci` makes at a time: one a processor, if there are 4 GiB of memory for each.
+RT_JOBS ?= $(shell awk -v most="$$(nproc)" '/^MemAvailable:/ { jobs = int($$2 / 4194304); \
+	print jobs < 1 ? 1 : jobs < most ? jobs : most }' /proc/meminfo)
+
+# What `make test` tries once everything is proved.
+TRIED := test-record test-packaging refuse-memory refuse-tests
+
 # What `make example` audits: `make example TREE=.. TRACE=.. ABI=..` takes your own files.
 TREE := examples/first-path/tree.jsonl
 TRACE := examples/first-path/trace.jsonl
@@ -34,7 +41,7 @@ PACKAGES := packaging/out
 IS_BUILT = $(if $(wildcard $(PROGRAM)),,$(error landaudit is not built: run 'make landaudit' first))
 IS_PROVED = $(if $(wildcard $(CHECK)),,$(error nothing says that $(PROGRAM) is proved: run 'make landaudit' first))
 
-.PHONY: example landaudit install uninstall deb dist test live
+.PHONY: example landaudit install uninstall deb dist test $(TRIED) live
 
 # Builds landaudit without its proofs, and runs it; a refused call (status 1) is an answer as good as another.
 example:
@@ -86,17 +93,26 @@ dist:
 	$(IS_PROVED)
 	@packaging/package dist '$(PROGRAM)' '$(CHECK)' '$(GATE)' '$(PACKAGES)'
 
-# Tests the recorder and the packaging, proves everything and runs every test; then refuses the built program, and
-# the tests made for it, each of their requests for memory, and drives the program through faults of the system
-# around it.
+# Proves everything and runs every test of the crates. Then, beside one another, tests the recorder and the packaging
+# with the built program, and refuses it, and the tests made for this, each of their requests for memory. At last drives
+# the program through faults of the system around it. What is tried after the proofs is only told if it fails.
 test:
-	$(call UNIT_TESTS,record)
-	$(call UNIT_TESTS,packaging)
-	packaging/gate '$(GATE)' rt ci
+	RT_JOBS='$(RT_JOBS)' packaging/gate '$(GATE)' rt ci
 	@log=$$(mktemp); \
-	{ bench/refuse-memory $$(ls $(PROGRAM)) & bench/refuse-tests; tests=$$?; \
-	wait $$! && test $$tests -eq 0 && bench/drive; } > $$log 2>&1; status=$$?; \
+	{ $(MAKE) --no-print-directory --output-sync --jobs 4 $(TRIED) && bench/drive; } > $$log 2>&1; status=$$?; \
 	test $$status -eq 0 || { cat $$log >&2; rm -f '$(GATE)'; }; rm -f $$log; exit $$status
+
+test-record:
+	$(call UNIT_TESTS,record)
+
+test-packaging:
+	$(call UNIT_TESTS,packaging)
+
+refuse-memory:
+	bench/refuse-memory $$(ls $(PROGRAM))
+
+refuse-tests:
+	bench/refuse-tests
 
 # What needs strace and a kernel with Landlock, and is no part of the gate; says what it skips and why. Then policies by
 # brute force, in smaller numbers than they have by themselves.

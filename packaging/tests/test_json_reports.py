@@ -12,7 +12,7 @@ from .places import TOP
 from .report_text import objects
 from .schema import CHECKS, SILENT, Validator
 
-DATA = TOP / "crates" / "ll_examples" / "data"
+DATA = TOP / "examples"
 SCHEMA = json.loads((TOP / "docs" / "report.schema.json").read_text(encoding="utf-8"))
 COMMAND = (TOP / "crates" / "ll_command" / "src" / "command.rt").read_text(encoding="utf-8")
 INDEX = [json.loads(line) for line in (DATA / "index.jsonl").read_text(encoding="utf-8").splitlines()]
