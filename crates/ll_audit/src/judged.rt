@@ -81,7 +81,9 @@ fn explain_beside<R: Threads + Wait + Sync, G: Gate + Sync>(
             requires answers { answers.items
                 ≡ judged_in (as_it_was now.now.tree now.now.records past.now) }
         { explain_past(rt, alloc, now, past, answers, explains, newer, count) },
-        move || requires { IsCrew count } { answers_by(rt, alloc, count, gate, now, cuts) },
+        move ||
+            requires { IsCrew count }
+        { answers_by(rt, alloc, count, gate, now, cuts) },
     );
     Ok((finding?, judged?))
 }
@@ -111,36 +113,6 @@ impl Judged {
         })
     }
 
-    /// Judges under an older version, while other threads explain this one.
-    fn next_beside<R: Threads + Wait + Sync, G: Gate + Sync>(
-        self,
-        audit: &Audit<'_, R, G>,
-        abi: Abi,
-    ) -> Result<Judged, Fault>
-        requires { IsCrew audit.now.workers.now.count }
-        ensures tree { IfOk result (λ next. next.case.tree ≡ self.case.tree) }
-        ensures abi { IfOk result (λ next. next.case.abi ≡ abi) }
-        ensures records { IfOk result (λ next. next.case.records
-            ≡ taken audit.now.options.now.effort abi self.case.records) }
-        ensures findings { IfOk result (λ next. AddsFinding
-            audit.now.options.now.shown.explanations self.case self.newer.items next.newer.items) }
-        ensures fault { IfErr result IsWant }
-    {
-        let Judged {
-            case,
-            answers,
-            newer,
-        } = self;
-        let (located, past) = case.into_past(audit.workers.alloc)?;
-        let case = case_under(audit, located, abi)?;
-        let (finding, answers) = explain_beside(audit, &case, &past, answers, &newer)?;
-        Ok(Judged {
-            case,
-            answers,
-            newer: in_front(finding, newer)?,
-        })
-    }
-
     /// Explains this version while the workers judge under an older one. Without explanations this version's case is given
     /// up first.
     pub(crate) fn next<R: Threads + Wait + Sync, G: Gate + Sync>(
@@ -157,11 +129,23 @@ impl Judged {
         ensures abi { IfOk result (λ next. next.case.abi ≡ abi) }
         ensures fault { IfErr result IsWant }
     {
-        if audit.options.shown.explanations {
-            return self.next_beside(audit, abi);
+        if !audit.options.shown.explanations {
+            let newer = self.finish(audit, audit.workers.count)?;
+            return Judged::of(newer, audit, abi);
         }
-        let newer = self.finish(audit, audit.workers.count)?;
-        Judged::of(newer, audit, abi)
+        let Judged {
+            case,
+            answers,
+            newer,
+        } = self;
+        let (located, past) = case.into_past(audit.workers.alloc)?;
+        let case = case_under(audit, located, abi)?;
+        let (finding, answers) = explain_beside(audit, &case, &past, answers, &newer)?;
+        Ok(Judged {
+            case,
+            answers,
+            newer: in_front(finding, newer)?,
+        })
     }
 
     /// Explains the version by at most this many threads.

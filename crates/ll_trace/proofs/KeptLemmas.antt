@@ -19,6 +19,10 @@ runs-cases true b new old live starts same = starts
 runs-cases false true new old live starts same = runs-stopped old
 runs-cases false false new old live starts same = same
 
+-- the latest process of a pid is the one kept
+pub owner_kept : (reader : Reader) (pid : ℕ) → IsKept reader → get reader.owners pid ≡ owner_of (past reader) pid
+owner_kept reader pid kept = kept.follows.owners pid
+
 pub is_running : (past : List Entry) (pid : ℕ) → runs (owner_of past pid) ≡ is_live past pid
 is_running [] pid = refl
 is_running (entry ∷ past) pid =

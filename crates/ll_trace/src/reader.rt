@@ -97,6 +97,7 @@ impl Reader {
         records
     }
 
+    #[tactic(auto, using(crate::proofs::KeptLemmas::owner_kept))]
     fn owner(&self, pid: u64) -> Option<Owner>
         requires { IsKept self.now }
         ensures { result ≡ owner_of (past self.now) pid }

@@ -2,7 +2,7 @@ use Rattle.std.proofs.Common.{◌∙◌, ap, subst, sym}
 use Rattle.ll_process.specs.Cases.{IsCase}
 use Rattle.ll_audit.specs.Cases.{FindsIn, judged_in}
 use Rattle.ll_audit.proofs.GoingOn.{still_that}
-use Rattle.ll_audit.proofs.judged.Judged.next_beside.Goals as goal
+use Rattle.ll_audit.proofs.judged.Judged.next.Goals as goal
 
 pub explain_beside-requires-clause-past : goal.explain_beside-requires-clause-past
 explain_beside-requires-clause-past g c κs within =
