@@ -1,4 +1,4 @@
-use denote.Param.Send.{AllSend, IsSend, IsSync, sendable, param_send, arg_send, recorded_send, struct_send}
+use denote.Param.Send.{AllSend, IsSend, sendable, param_send, arg_send, recorded_send, struct_send}
 use denote.Exit.{no}
 use denote.RattleType.{RattleType}
 use denote.Struct.Declared.{shape}
