@@ -10,8 +10,9 @@ pub mod Beyond
 pub mod Wanting
 pub mod Explaining
 pub mod FindingTells
+pub mod Rising
 pub mod Overlaying
-pub mod Changing
+pub mod Covering
 pub mod KeepingAll
 pub mod Grouping
 pub mod Stretching

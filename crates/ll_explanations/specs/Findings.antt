@@ -1,7 +1,7 @@
 -- What is found of the records of a trace under one version: the answers, and the explanations as values, if they are
 -- kept.
 -- Source: docs/FORMATS.md, "Explanations" and "Several versions"; the layout of a finding is the code's own.
-use Rattle.std.specs.Prelude.{◌≡◌, ◌<◌, ◌^◌, ℕ, Bool, List, Option, Some, None, if◌then◌else◌, length, slice_get, unwrap_or}
+use Rattle.std.specs.Prelude.{◌≡◌, ◌⊎◌, ◌++◌, ◌∷◌, [], ℕ, Bool, List, Option, Some, None, if◌then◌else◌, length, slice_get, unwrap_or}
 use Rattle.ll_rights.specs.declared.abi.Abi.{Abi}
 use Rattle.ll_tree.specs.Trees.{Entry}
 use Rattle.ll_trace.specs.declared.op.Record.{Record}
@@ -11,7 +11,7 @@ use Rattle.ll_semantics.specs.declared.answer.Answer.TheVariants.{Moot}
 use Rattle.ll_semantics.specs.Worlds.{judged}
 use Rattle.ll_explanations.specs.Explained.{IsExplanationOf}
 use Rattle.ll_explanations.specs.Kept.{if_said, kept_of}
-use Rattle.ll_explanations.specs.Overlays.{overlay}
+use Rattle.ll_explanations.specs.Overlays.{change_at, overlay}
 use Rattle.ll_explanations.specs.declared.explanation.Explanation.{Explanation}
 use Rattle.ll_explanations.specs.declared.explained.Explained.{Explained}
 
@@ -21,19 +21,51 @@ pub record FindingValue : Type 0 where
   pub answers : List Answer
   pub explanations : List (Option Explained)
 
--- what is found, where only the changes to a base are kept, with the slots of the records
+-- What is found otherwise than in a base: the places of these records, in rising order, and what is found of each.
+pub record ChangesValue : Type 0 where
+  pub places : List ℕ
+  pub found : FindingValue
+
+-- what is found, where only the changes to a base are kept
 abbrev pub with_changes : FindingValue → List ℕ → FindingValue → FindingValue
-with_changes base slots changes = record {
-  answers = overlay base.answers slots changes.answers;
-  explanations = overlay base.explanations slots changes.explanations;
+with_changes base places changes = record {
+  answers = overlay base.answers places changes.answers;
+  explanations = overlay base.explanations places changes.explanations;
 }
 
--- two are about as many records, each with its explanation and few enough for slots of 32 bits
-pub record AreAsLong (one other : FindingValue) : Type 0 where
-  pub answers : length one.answers ≡ length other.answers
-  pub explanations : length one.explanations ≡ length other.explanations
-  pub explained : length one.explanations ≡ length one.answers
-  pub few : length one.answers < 2 ^ 32
+-- what is found of some records, and of others behind them
+abbrev pub both_found : FindingValue → FindingValue → FindingValue
+both_found one other = record {
+  answers = one.answers ++ other.answers;
+  explanations = one.explanations ++ other.explanations;
+}
+
+abbrev pub both_changed : ChangesValue → ChangesValue → ChangesValue
+both_changed one other = record {
+  places = one.places ++ other.places;
+  found = both_found one.found other.found;
+}
+
+-- what is found of one record
+abbrev pub found_once : Answer → Option Explained → FindingValue
+found_once answer kept = record { answers = answer ∷ []; explanations = kept ∷ [] }
+
+abbrev pub changed_once : ℕ → Answer → Option Explained → ChangesValue
+changed_once place answer kept = record { places = place ∷ []; found = found_once answer kept }
+
+-- this is found of the record at a place
+abbrev pub IsFoundAt : FindingValue → ℕ → Answer → Option Explained → Type 0
+IsFoundAt finding place answer kept = (slice_get finding.answers place ≡ Some answer) × (slice_get finding.explanations place ≡ Some kept)
+
+-- what is found of a record is added to the changes, unless the base has the same
+abbrev pub Notes : FindingValue → ℕ → Answer → Option Explained → ChangesValue → ChangesValue → Type 0
+Notes base place answer kept before after =
+    (IsFoundAt base place answer kept × (after ≡ before)) ⊎ (after ≡ both_changed before (changed_once place answer kept))
+
+-- so many records are answered and explained
+pub record IsAboutAll (count : ℕ) (finding : FindingValue) : Type 0 where
+  pub answers : length finding.answers ≡ count
+  pub explanations : length finding.explanations ≡ count
 
 -- the answer to the record at a place
 abbrev pub answer_in : FindingValue → ℕ → Answer
@@ -48,6 +80,13 @@ abbrev pub said_by : Option Record → Option Explained → Option (Op × Explan
 said_by (Some r) (Some kept) = Some (unwrap_or kept.call r.op, kept.explanation)
 said_by (Some r) None = None
 said_by None kept = None
+
+-- the same, by a base and the changes to it
+abbrev pub answer_over : FindingValue → ChangesValue → ℕ → Answer
+answer_over base changes place = unwrap_or (change_at place changes.places changes.found.answers) (answer_in base place)
+
+abbrev pub kept_over : FindingValue → ChangesValue → ℕ → Option Explained
+kept_over base changes place = unwrap_or (change_at place changes.places changes.found.explanations) (kept_at base place)
 
 -- the call and the explanation of the record at a place, by the records at hand
 abbrev pub said_in : List Record → FindingValue → ℕ → Option (Op × Explanation)

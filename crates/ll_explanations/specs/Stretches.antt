@@ -1,10 +1,13 @@
 -- Consecutive records of a case, and what is kept of their explanations.
 -- Source: docs/FORMATS.md, "Explanations"; the cutting of a trace into stretches is the code's own.
-use Rattle.std.specs.Prelude.{◌≡◌, ℕ, ◌+◌, List, [], ◌∷◌, ◌++◌, Option, Result, Vec, IfOk, length}
+use Rattle.std.specs.Prelude.{◌≡◌, ◌≤◌, ◌<◌, ℕ, ◌+◌, List, [], ◌∷◌, ◌++◌, Option, Some, Result, Vec, IfOk, length, slice_get}
+use Rattle.std.specs.List.{All}
 use Rattle.std.specs.declared.alloc.Global.{Global}
 use Rattle.ll_process.specs.Cases.{CaseValue}
 use Rattle.ll_rules.specs.declared.errno.NoMemory.{NoMemory}
-use Rattle.ll_explanations.specs.Findings.{AreKept}
+use Rattle.ll_semantics.specs.Worlds.{judged}
+use Rattle.ll_explanations.specs.Findings.{AreKept, ChangesValue, FindingValue, IsKept, answer_over, kept_over}
+use Rattle.ll_explanations.specs.Overlays.{Rise}
 use Rattle.ll_explanations.specs.declared.explained.Explained.{Explained}
 use Rattle.ll_explanations.specs.declared.stretch.Stretch.{Stretch}
 
@@ -34,3 +37,23 @@ AreStretches case from end (stretch ∷ others) = (stretch.case.now ≡ case) ×
 pub record AreAllKept (case : CaseValue) (count : ℕ) (all : List (Option Explained)) : Type 0 where
   pub as_many : length all ≡ count
   pub kept : AreFirstKept case all
+
+-- ---- records of which only what differs from a base is kept
+
+-- a base and the changes to it have the answer to the record at a place, and what is kept of its explanation
+pub record IsCovered (case : CaseValue) (base : FindingValue) (changes : ChangesValue) (place : ℕ) : Type 0 where
+  pub answer : slice_get (judged case.tree case.abi case.records) place ≡ Some (answer_over base changes place)
+  pub kept : IsKept case.tree case.abi case.records place (answer_over base changes place) (kept_over base changes place)
+
+-- changes to a base cover the records from one index to another, and are about these alone
+pub record Covers (case : CaseValue) (base : FindingValue) (from end : ℕ) (changes : ChangesValue) : Type 0 where
+  pub ordered : from ≤ end
+  pub rise : Rise from changes.places
+  pub below : All (λ place. place < end) changes.places
+  pub answers : length changes.found.answers ≡ length changes.places
+  pub explanations : length changes.found.explanations ≡ length changes.places
+  pub covered : (place : ℕ) → from ≤ place → place < end → IsCovered case base changes place
+
+-- what is found of the records of a stretch otherwise than in a base, unless memory ran out
+abbrev pub IsCompared : FindingValue → Stretch → Result ChangesValue NoMemory → Type 0
+IsCompared base stretch result = IfOk result (Covers stretch.case.now base stretch.from stretch.end)

@@ -2,12 +2,15 @@
 
 ghost use Rattle.std.specs.Prelude.{◌≡◌, IfOk, length, option_map, slice_get, true};
 ghost use Rattle.ll_semantics.specs.Worlds.{judged};
-ghost use Rattle.ll_explanations.specs.Findings.{AreAsLong, Finds, answer_in, kept_at, said_in};
+ghost use Rattle.ll_explanations.specs.Findings.{Finds, IsAboutAll, answer_in, kept_at, said_in};
 
+use crate::changes::Changes;
+use crate::comparing::compare_all;
 use crate::explained::SharedExplanation;
 use crate::explanation::Explanation;
 use crate::found::Found;
 use crate::overlay::overlaid;
+use crate::places::Places;
 use crate::stretches::explain_all;
 use ll_process::CaseView;
 use ll_rules::NoMemory;
@@ -19,12 +22,12 @@ use std::sync::Arc;
 use std::thread::Threads;
 
 /// What is found under a version: the answers to all records, and their explanations, if these are kept. An older version
-/// may share its base with a newer one. Then it has a slot for each record: 0 where it finds what the base has, and else
-/// one more than the index of what it finds among its changes. A version without slots finds what its base has.
+/// may share its base with a newer one: then it keeps only what it finds otherwise, and of which records. A version
+/// without changes finds what its base has.
 #[derive(Drop)]
 pub struct Finding {
     base: Arc<Found>,
-    slots: Vec<u32>,
+    places: Places,
     changes: Found,
 }
 
@@ -34,7 +37,7 @@ impl Model for Finding {
     ghost Value = { FindingValue };
 
     ghost view = { λ finding.
-        with_changes finding.base.value finding.slots.items finding.changes };
+        with_changes finding.base.value finding.places finding.changes };
 }
 
 impl Finding {
@@ -52,47 +55,26 @@ impl Finding {
         requires { answers.items ≡ judged case.now.tree case.now.abi case.now.records }
         ensures { IfOk result (Finds explains case.now.tree case.now.abi case.now.records) }
     {
-        let explanations = if explains {
-            explain_all(rt, alloc, case, &answers, newer, workers)?
-        } else {
-            Vec::new(alloc)
-        };
-        Ok(Finding::keep(alloc, answers, explanations, newer)?)
+        if !explains {
+            return Ok(Finding::whole(alloc, answers, Vec::new(alloc))?);
+        }
+        match newer {
+            Some(newer) if newer.base.is_about_all(answers.len()) => {
+                Finding::by_changes(rt, alloc, case, &answers, newer, &newer.base, workers)
+            }
+            _ => {
+                let explanations = explain_all(rt, alloc, case, &answers, newer, workers)?;
+                Ok(Finding::whole(alloc, answers, explanations)?)
+            }
+        }
     }
 
     /// What was found, all of which is kept.
     #[tactic(auto, using(crate::proofs::Overlaying::all_stays))]
-    fn whole(alloc: Global, found: Found) -> Result<Finding, AllocError>
-        ensures { IfOk result (λ finding. finding ≡ found) }
-    {
-        Ok(Finding {
-            base: Arc::new(alloc, found)?,
-            slots: Vec::new(alloc),
-            changes: Found::nothing(alloc),
-        })
-    }
-
-    /// What was found. Only the changes to a base about as many records are kept if they are few.
-    fn by_changes(alloc: Global, base: &Arc<Found>, found: Found) -> Result<Finding, AllocError>
-        requires { AreAsLong found base.now.value }
-        ensures { IfOk result (λ finding. finding ≡ found) }
-    {
-        let Some((slots, changes)) = found.differences(alloc, base)? else {
-            return Finding::whole(alloc, found);
-        };
-        Ok(Finding {
-            base: Arc::try_clone(base)?,
-            slots,
-            changes,
-        })
-    }
-
-    /// What was found; if there is a newer version, only the changes to its base are kept.
-    fn keep(
+    fn whole(
         alloc: Global,
         answers: Vec<Answer>,
         explanations: Vec<SharedExplanation>,
-        newer: Option<&Finding>,
     ) -> Result<Finding, AllocError>
         ensures { IfOk result (λ finding. finding
             ≡ record { answers = answers.items; explanations = explanations.items }) }
@@ -101,12 +83,35 @@ impl Finding {
             answers,
             explanations,
         };
-        match newer {
-            Some(newer) if found.is_as_long(&newer.base) => {
-                Finding::by_changes(alloc, &newer.base, found)
-            }
-            _ => Finding::whole(alloc, found),
-        }
+        Ok(Finding {
+            base: Arc::new(alloc, found)?,
+            places: Places::none(alloc),
+            changes: Found::nothing(alloc),
+        })
+    }
+
+    /// What is found of the records of a case, of which only the changes to a base are kept.
+    #[tactic(auto, using(crate::proofs::Covering::by_changes_finds))]
+    fn by_changes<R: Threads + Sync>(
+        rt: &R,
+        alloc: Global,
+        case: &CaseView<'_>,
+        answers: &[Answer],
+        newer: &Finding,
+        base: &Arc<Found>,
+        workers: usize,
+    ) -> Result<Finding, NoMemory>
+        requires judged { answers.now ≡ judged case.now.tree case.now.abi case.now.records }
+        requires base { IsAboutAll (length answers.now) base.now.value }
+        ensures { IfOk result (Finds true case.now.tree case.now.abi case.now.records) }
+    {
+        let changes = compare_all(rt, alloc, case, answers, newer, base, workers)?;
+        let Changes { places, found } = changes;
+        Ok(Finding {
+            base: Arc::try_clone(base)?,
+            places: Places::of(alloc, places)?,
+            changes: found,
+        })
     }
 
     /// How many records are answered.
@@ -123,7 +128,7 @@ impl Finding {
     {
         match overlaid(
             &self.base.answers,
-            &self.slots,
+            &self.places,
             &self.changes.answers,
             place,
         ) {
@@ -138,7 +143,7 @@ impl Finding {
     {
         overlaid(
             &self.base.explanations,
-            &self.slots,
+            &self.places,
             &self.changes.explanations,
             place,
         )

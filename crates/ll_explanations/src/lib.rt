@@ -3,6 +3,8 @@
 
 mod asked;
 mod call;
+mod changes;
+mod comparing;
 mod condition;
 mod confinement;
 mod explained;
@@ -16,6 +18,7 @@ mod mootness;
 mod moved;
 mod objection;
 mod overlay;
+mod places;
 mod ports;
 mod same;
 mod stretch;

@@ -1,6 +1,6 @@
 //! The explanations of all records of a case: several threads work them out, each for a stretch of the records.
 
-ghost use Rattle.std.specs.Prelude.{◌≡◌, ◌<◌, ◌≤◌, ℕ, IfOk, List, OnOk, length};
+ghost use Rattle.std.specs.Prelude.{◌≡◌, ◌<◌, ◌≤◌, ◌^◌, ℕ, IfOk, List, OnOk, length};
 ghost use Rattle.std.specs.List.{AllZip};
 ghost use Rattle.ll_semantics.specs.Worlds.{judged};
 ghost use Rattle.ll_process.specs.Cases.{CaseValue};
@@ -31,7 +31,7 @@ const RECORDS_EACH: usize = 8;
 pub(crate) type Explaining = Result<Vec<SharedExplanation>, NoMemory>;
 
 /// What is kept of the explanation of the record at a place of a case.
-fn explain_one(
+pub(crate) fn explain_one(
     alloc: Global,
     case: &CaseView<'_>,
     trails: &TraceOrigins,
@@ -42,7 +42,9 @@ fn explain_one(
     requires place { place < length case.now.records }
     requires answer { IsAnswerAt case.now place answer }
     requires trails { AreTrailsAt case.now place trails.now }
-    ensures { IfOk result (IsKept case.now.tree case.now.abi case.now.records place answer) }
+    ensures kept { IfOk result
+        (IsKept case.now.tree case.now.abi case.now.records place answer) }
+    ensures few { OnOk result (place < 2 ^ 32) }
 {
     let explanation = explain(alloc, case, trails, place, answer)?;
     let (op, _) = case.call(place);
@@ -55,7 +57,7 @@ fn explain_one(
 }
 
 /// The answer to the record at a place of a case.
-fn answer_at(case: &CaseView<'_>, answers: &[Answer], place: usize) -> Answer
+pub(crate) fn answer_at(case: &CaseView<'_>, answers: &[Answer], place: usize) -> Answer
     requires judged { answers.now ≡ judged case.now.tree case.now.abi case.now.records }
     requires within { place < length answers.now }
     ensures answer { IsAnswerAt case.now place result }
@@ -168,7 +170,7 @@ impl<'a> Stretch<'a> {
 }
 
 /// Cuts a stretch into so many stretches of about one size; 0 counts as one.
-fn cut_all<'a>(
+pub(crate) fn cut_all<'a>(
     alloc: Global,
     whole: Stretch<'a>,
     count: usize,
@@ -225,7 +227,7 @@ fn join_parts(alloc: Global, parts: Vec<Explaining>) -> Result<Vec<SharedExplana
 
 /// The number of stretches in which the records of a case are explained. Each takes a copy of what is known of all
 /// processes.
-fn stretches_of(case: &CaseView<'_>, workers: usize) -> usize {
+pub(crate) fn stretches_of(case: &CaseView<'_>, workers: usize) -> usize {
     let processes = case.processes().max(1) as usize;
     let worth = case.count() / processes / RECORDS_EACH;
     workers.min(MOST_STRETCHES).min(worth.max(1))

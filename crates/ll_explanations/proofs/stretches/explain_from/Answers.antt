@@ -14,6 +14,6 @@ loop-place-preserved c =
     c.push_reserved.ensures.items ∙ ap (λ all. all ++ c.in_ok-kept.kept ∷ []) c.in_ok-reserve.ensures.items in
     record {
       kept = extends_more c.args.case.now c.args.from c.loop-place.place c.loop-place.all.items c.push_reserved.new.self.items c.in_ok-kept.kept
-          c.answer_at-answer.result c.loop-place.invariant.kept pushed c.answer_at-answer.ensures.answer c.in_ok-kept.ensures;
+          c.answer_at-answer.result c.loop-place.invariant.kept pushed c.answer_at-answer.ensures.answer c.in_ok-kept.ensures.kept;
       trails = c.in_ok-follow.ensures;
     }

@@ -3,8 +3,8 @@ use Rattle.ll_trace.specs.declared.op.Op.{Op}
 use Rattle.ll_explanations.specs.Kept.{kept_of}
 use Rattle.ll_explanations.proofs.stretches.explain_one.Goals as goal
 
-pub returns : goal.returns
-returns c r read = (
+pub returns-clause-kept : goal.returns-clause-kept
+returns-clause-kept c r read = (
   c.in_ok-explanation.explanation,
   c.in_ok-kept.ensures ∙ ap (λ (op : Op). kept_of op c.in_ok-explanation.explanation) (c.call.ensures.op r read),
   c.in_ok-explanation.ensures r read,
