@@ -10,6 +10,7 @@ pub mod Suiting
 pub mod SpansLeft
 pub mod SpansSaid
 pub mod SpansTold
+pub mod SpansCompared
 pub mod SpansWhole
 pub mod SaidAlike
 pub mod RowsSaid

@@ -33,6 +33,12 @@ pub record ScratchValue : Type 0 where
 abbrev pub is_apart : ScratchValue → ℕ → Bool
 is_apart scratch place = unwrap_or (slice_get scratch.apart place) false
 
+-- how long a text can be held, the text that is held, and the next, which is compared with it
+pub record PairValue : Type 0 where
+  pub room : ℕ
+  pub held : List ℕ
+  pub next : List ℕ
+
 -- how an answer is told
 abbrev pub verdict_told : List Entry → List Record → FindingValue → ℕ → List ℕ
 verdict_told tree records finding place = verdict_text (verdict_of (answer_in finding place))

@@ -15,6 +15,7 @@ mod sayings;
 mod scratch;
 mod spans;
 mod telling;
+mod text_pair;
 mod version_rows;
 mod writing;
 

@@ -15,6 +15,7 @@ use crate::sayings::Sayings;
 use crate::scratch::Scratch;
 use crate::spans::Form;
 use crate::telling::{InWords, Verdicts};
+use crate::text_pair::TextPair;
 use ll_explain::{TextBuffer, push_words};
 use ll_explanations::Finding;
 use ll_trace::Record;
@@ -45,11 +46,11 @@ fn is_passed_over(shown: Shown, findings: &[Finding], place: usize) -> bool
 }
 
 /// Whether a record about which versions may differ is left out of what is shown.
-fn is_apart_left_out(shown: Shown, sayings: &Sayings<'_>, scratch: &mut Scratch) -> bool
-    requires { FitIn scratch.old.room (said_by verdict_told sayings.now) }
+fn is_apart_left_out(shown: Shown, sayings: &Sayings<'_>, pair: &mut TextPair) -> bool
+    requires { FitIn pair.old.room (said_by verdict_told sayings.now) }
     ensures out { result
         ≡ is_row_left_out shown (answers_in sayings.now.findings.now) sayings.now.place }
-    ensures scratch { scratch.new ≡ scratch.old }
+    ensures room { pair.new.room ≡ pair.old.room }
 {
     if is_passed_over(shown, sayings.findings, sayings.place) {
         return true;
@@ -57,7 +58,7 @@ fn is_apart_left_out(shown: Shown, sayings: &Sayings<'_>, scratch: &mut Scratch)
     if !shown.differing_alone {
         return false;
     }
-    sayings.agree::<Verdicts>(scratch)
+    sayings.agree::<Verdicts>(pair)
 }
 
 /// Whether a record about which versions agree is left out of what is shown.
@@ -84,7 +85,7 @@ pub fn is_left_out(shown: Shown, sayings: &Sayings<'_>, scratch: &mut Scratch) -
     ensures scratch { scratch.new ≡ scratch.old }
 {
     if scratch.is_apart(sayings.place) {
-        is_apart_left_out(shown, sayings, scratch)
+        is_apart_left_out(shown, sayings, &mut scratch.pair)
     } else {
         is_alike_left_out(shown, sayings)
     }
@@ -119,14 +120,14 @@ impl<'f> Row<'f> {
     }
 
     /// Adds what is shown of the record, where versions may differ.
-    fn push_apart(&self, text: &mut TextBuffer, scratch: &mut Scratch)
+    fn push_apart(&self, text: &mut TextBuffer, pair: &mut TextPair)
         requires few { self.now.oldest + length self.now.sayings.findings.now < 2 ^ 64 }
-        requires verdicts { FitIn scratch.old.room (said_by verdict_told self.now.sayings) }
-        requires texts { FitIn scratch.old.room (said_by text_told self.now.sayings) }
+        requires verdicts { FitIn pair.old.room (said_by verdict_told self.now.sayings) }
+        requires texts { FitIn pair.old.room (said_by text_told self.now.sayings) }
         ensures text { text.new ≡ adding text.old (row_of self.now) }
-        ensures scratch { scratch.new ≡ scratch.old }
+        ensures room { pair.new.room ≡ pair.old.room }
     {
-        if is_apart_left_out(self.shown, &self.sayings, scratch) {
+        if is_apart_left_out(self.shown, &self.sayings, pair) {
             return;
         }
         push_record(
@@ -136,11 +137,11 @@ impl<'f> Row<'f> {
             self.record.op.name(),
         );
         self.sayings
-            .push_versions::<Verdicts>(text, scratch, Form::Answers, self.oldest);
+            .push_versions::<Verdicts>(text, pair, Form::Answers, self.oldest);
         push_words(text, "\n");
         if self.shown.explanations {
             self.sayings
-                .push_versions::<InWords>(text, scratch, Form::Explanations, self.oldest);
+                .push_versions::<InWords>(text, pair, Form::Explanations, self.oldest);
         }
     }
 
@@ -158,7 +159,7 @@ impl<'f> Row<'f> {
         ensures scratch { scratch.new ≡ scratch.old }
     {
         if scratch.is_apart(self.sayings.place) {
-            self.push_apart(text, scratch);
+            self.push_apart(text, &mut scratch.pair);
         } else {
             self.push_alike(text);
         }

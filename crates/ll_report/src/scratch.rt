@@ -1,10 +1,11 @@
 //! What is kept to compare what versions say of a record.
 
-ghost use Rattle.std.specs.Prelude.{◌≡◌, ◌<◌, ◌^◌, IfOk, bytes_eq, get_or, length, nat_eq, []};
+ghost use Rattle.std.specs.Prelude.{◌≡◌, ◌<◌, ◌^◌, IfOk, bytes_eq, get_or, length, []};
 ghost use Rattle.ll_report.specs.Scratches.{FitIn, Suits, is_apart, told_under};
 
 use crate::sayings::Sayings;
 use crate::telling::Telling;
+use crate::text_pair::TextPair;
 use ll_explain::TextBuffer;
 use ll_explanations::Finding;
 use ll_trace::Record;
@@ -12,25 +13,21 @@ use ll_tree::Tree;
 use std::alloc::{AllocError, Global};
 use std::marker::Model;
 
-/// Which records versions may differ about, and two buffers with room for whatever a version says of one of these. So
+/// Which records versions may differ about, and two texts with room for whatever a version says of one of these. So
 /// comparing what they say takes no memory.
 #[derive(Drop)]
 pub struct Scratch {
     apart: Vec<bool>,
-    one: TextBuffer,
-    other: TextBuffer,
+    pub(crate) pair: TextPair,
 }
 
 impl Model for Scratch {
-    ghost use Rattle.std.specs.Prelude.{◌≡◌};
     ghost use Rattle.ll_report.specs.Scratches.{ScratchValue};
 
     ghost Value = { ScratchValue };
 
     ghost view = { λ scratch.
-        record { apart = scratch.apart.items; room = scratch.one.room } };
-
-    ghost invariant = { λ scratch. scratch.other.room ≡ scratch.one.room };
+        record { apart = scratch.apart.items; room = scratch.pair.room } };
 }
 
 impl Scratch {
@@ -60,8 +57,7 @@ impl Scratch {
         }
         Ok(Scratch {
             apart,
-            one: TextBuffer::new(alloc, longest)?,
-            other: TextBuffer::new(alloc, longest)?,
+            pair: TextPair::new(alloc, longest)?,
         })
     }
 
@@ -90,34 +86,7 @@ impl Scratch {
         if sayings.find_alike::<T>(one, other) {
             return true;
         }
-        hold::<T>(&mut self.one, sayings, one);
-        hold::<T>(&mut self.other, sayings, other);
-        self.one.held() == self.other.held()
+        self.pair.hold::<T>(sayings, one);
+        self.pair.is_held::<T>(sayings, other)
     }
-
-    /// Whether a version says nothing of a record.
-    pub fn is_silent<T: Telling>(&mut self, sayings: &Sayings<'_>, version: usize) -> bool
-        requires within { version < length sayings.now.findings.now }
-        requires fit { FitIn self.old.room (told_under T.told sayings.now.tree.now
-            sayings.now.records.now sayings.now.findings.now sayings.now.place) }
-        ensures silent { result ≡ nat_eq (length (get_or (told_under T.told sayings.now.tree.now
-            sayings.now.records.now sayings.now.findings.now sayings.now.place) version [])) 0 }
-        ensures scratch { self.new ≡ self.old }
-    {
-        hold::<T>(&mut self.one, sayings, version);
-        self.one.held().is_empty()
-    }
-}
-
-/// Holds what a version says of a record, and nothing else.
-fn hold<T: Telling>(text: &mut TextBuffer, sayings: &Sayings<'_>, version: usize)
-    requires within { version < length sayings.now.findings.now }
-    requires fit { FitIn text.old.room (told_under T.told sayings.now.tree.now
-        sayings.now.records.now sayings.now.findings.now sayings.now.place) }
-    ensures held { text.new.held ≡ get_or (told_under T.told sayings.now.tree.now
-        sayings.now.records.now sayings.now.findings.now sayings.now.place) version [] }
-    ensures room { text.new.room ≡ text.old.room }
-{
-    text.clear();
-    sayings.push::<T>(text, version);
 }

@@ -1,14 +1,14 @@
 //! What is said of a record under neighbouring versions.
 #![tactic(auto, using(ll_explain::proofs::Buffering::adding_both))]
 
-ghost use Rattle.std.specs.Prelude.{◌≡◌, ◌+◌, ◌<◌, ◌^◌, [], get_or, length};
+ghost use Rattle.std.specs.Prelude.{◌≡◌, ◌+◌, ◌<◌, ◌^◌, length};
 ghost use Rattle.ll_explain.specs.Buffers.{adding};
 ghost use Rattle.ll_report.specs.Scratches.{FitIn, said_by};
 ghost use Rattle.ll_report.specs.Spans.{agree, alone_text, numbers_text, span_text, versions_text};
 
 use crate::sayings::Sayings;
-use crate::scratch::Scratch;
 use crate::telling::Telling;
+use crate::text_pair::TextPair;
 use ll_explain::{TextBuffer, push_number, push_words};
 
 /// What is said under each version.
@@ -31,107 +31,101 @@ fn push_numbers(text: &mut TextBuffer, first: u64, last: u64)
     }
 }
 
+/// Adds what is said under the versions from the first to the last.
+#[tactic(auto, using(ll_explain::proofs::Buffering::adding_both, crate::proofs::SpansTold::silent_span))]
+fn push_span(text: &mut TextBuffer, form: Form, first: u64, last: u64, said: &[u8])
+    ensures { text.new ≡ adding text.old (span_text form (record {
+      first = first;
+      last = last;
+      said = said.now;
+    })) }
+{
+    match form {
+        Form::Answers => {
+            push_words(text, " ");
+            push_numbers(text, first, last);
+            push_words(text, " ");
+            text.put(said);
+        }
+        Form::Explanations => {
+            if said.is_empty() {
+                return;
+            }
+            push_words(text, "    abi ");
+            push_numbers(text, first, last);
+            push_words(text, ":\n");
+            text.put(said);
+        }
+    }
+}
+
+/// Adds what all versions say.
+fn push_alone(text: &mut TextBuffer, form: Form, said: &[u8])
+    ensures { text.new ≡ adding text.old (alone_text form said.now) }
+{
+    match form {
+        Form::Answers => {
+            push_words(text, " ");
+            text.put(said);
+        }
+        Form::Explanations => text.put(said),
+    }
+}
+
 impl<'f> Sayings<'f> {
     /// Whether all versions say the same.
-    pub(crate) fn agree<T: Telling>(&self, scratch: &mut Scratch) -> bool
-        requires { FitIn scratch.old.room (said_by T.told self.now) }
+    pub(crate) fn agree<T: Telling>(&self, pair: &mut TextPair) -> bool
+        requires { FitIn pair.old.room (said_by T.told self.now) }
         ensures agree { result ≡ agree (said_by T.told self.now) }
-        ensures scratch { scratch.new ≡ scratch.old }
+        ensures room { pair.new.room ≡ pair.old.room }
     {
+        if self.findings.is_empty() {
+            return true;
+        }
+        pair.hold::<T>(self, 0);
         for version in 1..self.findings.len() {
-            if !scratch.same::<T>(self, 0, version) {
+            if !pair.same::<T>(self, 0, version) {
                 return false;
             }
         }
         true
     }
 
-    /// Adds what a version says under the versions from the first to the last.
-    fn push_span<T: Telling>(
-        &self,
-        text: &mut TextBuffer,
-        scratch: &mut Scratch,
-        form: Form,
-        first: u64,
-        last: u64,
-        version: usize,
-    )
-        requires within { version < length self.now.findings.now }
-        requires fit { FitIn scratch.old.room (said_by T.told self.now) }
-        ensures text { text.new ≡ adding text.old (span_text form (record {
-          first = first;
-          last = last;
-          said = get_or (said_by T.told self.now) version [];
-        })) }
-        ensures scratch { scratch.new ≡ scratch.old }
-    {
-        match form {
-            Form::Answers => {
-                push_words(text, " ");
-                push_numbers(text, first, last);
-                push_words(text, " ");
-                self.push::<T>(text, version);
-            }
-            Form::Explanations => {
-                if scratch.is_silent::<T>(self, version) {
-                    return;
-                }
-                push_words(text, "    abi ");
-                push_numbers(text, first, last);
-                push_words(text, ":\n");
-                self.push::<T>(text, version);
-            }
-        }
-    }
-
-    /// Adds what all versions say.
-    fn push_alone<T: Telling>(&self, text: &mut TextBuffer, form: Form)
-        requires { 0 < length self.now.findings.now }
-        ensures { text.new
-            ≡ adding text.old (alone_text form (get_or (said_by T.told self.now) 0 [])) }
-    {
-        match form {
-            Form::Answers => {
-                push_words(text, " ");
-                self.push::<T>(text, 0);
-            }
-            Form::Explanations => self.push::<T>(text, 0),
-        }
-    }
-
-    /// Adds what is said: once, where all say the same, and else span after span. The oldest version
-    /// has this number.
+    /// Adds what is said: once, where all say the same, and else span after span. The oldest version has this number.
+    /// What a version says is held while it is compared, and copied from there.
     pub(crate) fn push_versions<T: Telling>(
         &self,
         text: &mut TextBuffer,
-        scratch: &mut Scratch,
+        pair: &mut TextPair,
         form: Form,
         oldest: u64,
     )
         requires few { oldest + length self.now.findings.now < 2 ^ 64 }
-        requires fit { FitIn scratch.old.room (said_by T.told self.now) }
+        requires fit { FitIn pair.old.room (said_by T.told self.now) }
         ensures text { text.new ≡ adding text.old
             (versions_text form oldest (said_by T.told self.now)) }
-        ensures scratch { scratch.new ≡ scratch.old }
+        ensures room { pair.new.room ≡ pair.old.room }
     {
         if self.findings.is_empty() {
             return;
         }
-        if self.agree::<T>(scratch) {
-            self.push_alone::<T>(text, form);
-            return;
-        }
+        pair.hold::<T>(self, 0);
         let mut current = 0;
         let mut first = oldest;
         let mut last = oldest;
         for version in 1..self.findings.len() {
-            if !scratch.same::<T>(self, current, version) {
-                self.push_span::<T>(text, scratch, form, first, last, current);
+            if !pair.same::<T>(self, current, version) {
+                push_span(text, form, first, last, pair.held());
+                pair.hold_next();
                 first = last + 1;
                 current = version;
             }
             last += 1;
         }
-        self.push_span::<T>(text, scratch, form, first, last, current);
+        if current == 0 {
+            push_alone(text, form, pair.held());
+        } else {
+            push_span(text, form, first, last, pair.held());
+        }
     }
 }

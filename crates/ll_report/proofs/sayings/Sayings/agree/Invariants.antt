@@ -1,5 +1,5 @@
--- all agree just where those that are left agree
-use Rattle.std.proofs.Common.{◌≡◌}
+-- the oldest is held, and all agree just where those that are left agree with it
+use Rattle.std.proofs.Common.{◌≡◌, [], get_or}
 use Rattle.ll_report.specs.Scratches.{said_by}
 use Rattle.ll_report.specs.Spans.{agree}
 use Rattle.ll_report.proofs.SpansSaid.{rest_agrees}
@@ -7,4 +7,5 @@ use Rattle.ll_report.proofs.sayings.Sayings.agree.Given as goal
 
 abbrev pub invariant-loop-version : goal.invariant-loop-version
 invariant-loop-version g l =
-    (l.scratch ≡ l.fn.scratch) × (agree (said_by g.T.Telling.told l.self) ≡ rest_agrees (said_by g.T.Telling.told l.self) l.version)
+    let texts = said_by g.T.Telling.told l.self in
+    (l.pair.room ≡ l.fn.pair.room) × (l.pair.held ≡ get_or texts 0 []) × (agree texts ≡ rest_agrees texts l.version)

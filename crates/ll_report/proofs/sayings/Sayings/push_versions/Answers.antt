@@ -1,42 +1,40 @@
-use Rattle.std.proofs.Common.{rules, ◌≡◌, ◌∙◌, ◌+◌, ◌<◌, ◌≤◌, List, ℕ, [], true, false, get_or, length, sym, ap, arith}
-use Rattle.std.specs.Prelude.{bytes_eq}
+use Rattle.std.proofs.Common.{rules, ◌≡◌, ◌∙◌, ◌<◌, ◌≤◌, List, ℕ, false, length, sym, ap, arith}
 use Rattle.ll_explain.specs.Buffers.{adding}
-use Rattle.ll_explain.proofs.Buffering.{adding_nothing, goes_on}
-use Rattle.ll_report.specs.Scratches.{said_by}
+use Rattle.ll_explain.proofs.Buffering.{adding_nothing}
+use Rattle.ll_report.specs.Scratches.{PairValue, said_by}
 use Rattle.ll_report.proofs.Holding.{each_told}
-use Rattle.ll_report.proofs.SpansSaid.{left, left_last, left_other, left_same, span_of}
-use Rattle.ll_report.proofs.SpansTold.{apart_said, none_said}
+use Rattle.ll_report.proofs.SpansCompared.{all_same, last_span, none_compared, one_other, one_same}
+use Rattle.ll_report.proofs.SpansTold.{none_said}
 use Rattle.ll_report.proofs.sayings.Sayings.push_versions.Goals as goal
 use Rattle.ll_report.proofs.sayings.Sayings.push_versions.Goals.{then-not-same, else-not-same}
+
+pub loop-version-init : goal.loop-version-init
+loop-version-init g c =
+    let texts : List (List ℕ) = said_by g.T.Telling.told c.args.self.now in
+    let many : length texts ≡ length c.args.self.now.findings.now = each_told g.T.Telling.told c.args.self.now in
+    let some : 0 < length c.args.self.now.findings.now = search rules in record {
+      room = c.hold.ensures.room;
+      compared = none_compared c.args.form c.args.oldest texts c.args.text.now _ (omega (arith, many, some)) c.hold.ensures.held;
+    }
 
 pub loop-version-preserved : goal.loop-version-preserved
 loop-version-preserved g c =
     let l = c.loop-version in
-    let form = c.args.form in
     let texts : List (List ℕ) = said_by g.T.Telling.told c.args.self.now in
-    let many = each_told g.T.Telling.told c.args.self.now in
-    let below : l.version < length texts = omega (arith, many, c.loop-version-test.true) in
-    let next : l.last + 1 + 1 ≡ c.args.oldest + (l.version + 1) = omega (arith, l.invariant.2) in
+    let below : l.version < length texts = omega (arith, each_told g.T.Telling.told c.args.self.now, c.loop-version-test.true) in
     elim c.if-not-same.branch [
       | then-not-same w ↦
-          let differs : bytes_eq (get_or texts l.current []) (get_or texts l.version []) ≡ false = sym c.same.ensures.same ∙ w.if-not-same.true in
-          let after : w.push_span.new.text ≡ adding l.text (span_of form texts l.first l.last l.current) = w.push_span.ensures.text in (
-            w.scratch-is ∙ w.push_span.ensures.scratch ∙ c.same.ensures.scratch ∙ l.invariant.0,
-            omega (arith, w.current-is, c.loop-version-test.true),
-            next,
-            rw (w.text-is, w.current-is, w.first-is)
-                (goes_on l.text w.push_span.new.text _ (span_of form texts l.first l.last l.current) (left form texts (l.version + 1) (l.last + 1)
-                (l.last + 1) l.version)
-                (ap (adding l.text) (sym (left_other form texts l.version l.first l.last l.current below differs)) ∙ l.invariant.3) after),
-          )
-      | else-not-same w ↦
-          let same : bytes_eq (get_or texts l.current []) (get_or texts l.version []) ≡ true = sym c.same.ensures.same ∙ w.if-not-same.false in (
-            w.scratch-is ∙ c.same.ensures.scratch ∙ l.invariant.0,
-            omega (arith, w.current-is, l.invariant.1),
-            next,
-            rw (w.text-is, w.current-is, w.first-is)
-                (ap (adding l.text) (sym (left_same form texts l.version l.first l.last l.current below same)) ∙ l.invariant.3),
-          )
+          let differs : c.same.result ≡ false = w.if-not-same.true in record {
+            room = ap (λ (p : PairValue). p.room) w.pair-is ∙ w.hold_next.ensures.room ∙ c.same.ensures.room ∙ l.invariant.room;
+            compared = rw (w.text-is, w.pair-is, w.current-is, w.first-is)
+                (one_other l.invariant.compared below (sym c.same.ensures.same ∙ differs) (w.held.ensures ∙ c.same.ensures.held)
+                (w.hold_next.ensures.held ∙ c.same.ensures.next differs) w.push_span.ensures);
+          }
+      | else-not-same w ↦ record {
+        room = ap (λ (p : PairValue). p.room) w.pair-is ∙ c.same.ensures.room ∙ l.invariant.room;
+        compared = rw (w.text-is, w.pair-is, w.current-is, w.first-is, c.same.ensures.held)
+            (one_same l.invariant.compared below (sym c.same.ensures.same ∙ w.if-not-same.false));
+      }
     ]
 
 pub returns-then-is_empty-clause-text : goal.returns-then-is_empty-clause-text
@@ -46,11 +44,16 @@ returns-then-is_empty-clause-text g c =
     let none : length c.args.self.now.findings.now ≡ 0 = search rules in
     adding_nothing c.args.text.now ∙ ap (adding c.args.text.now) (none_said c.args.form c.args.oldest texts (many ∙ none))
 
-pub returns-clause-text : goal.returns-clause-text
-returns-clause-text g c =
+pub returns-then-current-eq0-clause-text : goal.returns-then-current-eq0-clause-text
+returns-then-current-eq0-clause-text g c =
     let l = c.loop-version in
-    let form = c.args.form in
     let texts : List (List ℕ) = said_by g.T.Telling.told c.args.self.now in
     let past : length texts ≤ l.version = omega (arith, each_told g.T.Telling.told c.args.self.now, c.loop-version-test.false) in
-    c.push_span-2.ensures.text ∙ ap (adding l.text) (sym (left_last form texts l.version l.first l.last l.current past)) ∙ l.invariant.3
-    ∙ ap (adding c.args.text.now) (apart_said form c.args.oldest texts (sym c.agree.ensures.agree ∙ c.if-agree.false))
+    all_same l.invariant.compared past c.if-current-eq0.true c.held-then-current-eq0.ensures c.push_alone.ensures
+
+pub returns-else-current-eq0-clause-text : goal.returns-else-current-eq0-clause-text
+returns-else-current-eq0-clause-text g c =
+    let l = c.loop-version in
+    let texts : List (List ℕ) = said_by g.T.Telling.told c.args.self.now in
+    let past : length texts ≤ l.version = omega (arith, each_told g.T.Telling.told c.args.self.now, c.loop-version-test.false) in
+    last_span l.invariant.compared past (search rules) c.held-else-current-eq0.ensures c.push_span-else-current-eq0.ensures

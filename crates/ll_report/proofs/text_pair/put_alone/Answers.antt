@@ -1,7 +1,7 @@
 use Rattle.std.proofs.Common.{◌<◌, List, ℕ, [], get_or, length, arith}
 use Rattle.ll_report.specs.Scratches.{said_by}
 use Rattle.ll_report.proofs.Holding.{each_told, held_fitting}
-use Rattle.ll_report.proofs.scratch.hold.Goals as goal
+use Rattle.ll_report.proofs.text_pair.put_alone.Goals as goal
 
 pub returns : goal.returns
 returns g c =
