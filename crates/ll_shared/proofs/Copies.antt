@@ -1,11 +1,12 @@
 -- A fork that was copied before it is changed has what it had.
-use Rattle.std.proofs.Common.{◌≡◌, ℕ, ◌==◌, ◌⊎◌, inl, inr, Option, Ok, Err, if◌then◌else◌, OnErr, refl, ap, ◌∙◌}
+use Rattle.std.proofs.Common.{◌≡◌, ◌≢◌, ℕ, ◌==◌, ◌⊎◌, inl, inr, Option, Some, None, Bool, true, false, Ok, Err, if◌then◌else◌, OnErr, arith, refl, ap, ◌∙◌}
 use Rattle.std.specs.declared.result.Result.{Result}
+use Rattle.std.proofs.lemmas.Bool.Decides.{nat_tests}
 use Rattle.std.proofs.lemmas.Result.{IfErr-at_err}
 use Rattle.ll_shared.specs.declared.node.Four.{Four}
 use Rattle.ll_shared.specs.Nodes.{found_in, steps_in, SameFour}
 
-on_err : {T E P : Type 0} (result : Result T E) → P → OnErr result P
+pub on_err : {T E P : Type 0} (result : Result T E) → P → OnErr result P
 on_err (Ok x) is = tt
 on_err (Err e) is = is
 
@@ -35,3 +36,20 @@ module _ {V : Type 0} (old copy : Four V) where
       → ((q : ℕ) → found_in new q ≡ found_in copy q)
       → OnErr returned ((q : ℕ) → found_in held q ≡ found_in old q)
   kept returned held new same is told = on_err returned (λ q. ap (λ f. found_in f q) same ∙ told q ∙ found_in_copy is q)
+
+-- a leaf holds the value of its key
+pub held : {V : Type 0} (old : V) (known key : ℕ) → known ≡ key → Some old ≡ (if key == known then Some old else None)
+held old known key same = grind (arith, nat_tests)
+
+pub not_held : {V : Type 0} (old : V) (known key : ℕ) → known ≢ key → None ≡ (if key == known then Some old else None)
+not_held old known key other = grind (arith, nat_tests)
+
+module _ {V : Type 0} (new : Option V) (old : V) where
+  told_once : (is_key : Bool) → (if is_key then new else None) ≡ (if is_key then new else if is_key then Some old else None)
+  told_once true = refl
+  told_once false = refl
+
+  -- the entry of a key takes the place of that key's entry alone
+  pub replaced : (known key q : ℕ) (found : Option V) → found ≡ (if q == key then new else None) → known ≡ key
+      → found ≡ (if q == key then new else if q == known then Some old else None)
+  replaced known key q found is same = is ∙ rw same (told_once (q == key))
