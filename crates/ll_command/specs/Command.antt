@@ -1,6 +1,6 @@
 -- The command line: `landaudit --abi N[-M] [--workers N] [--grain N] [--best-effort] [--refused] [--differs] [--explain] [--json] TREE TRACE`, and what it asks for.
 -- Source: docs/FORMATS.md, "The command line".
-use Rattle.std.specs.Prelude.{◌≡◌, ◌≢◌, ◌⊎◌, ◌+◌, ◌-◌, ◌≤◌, ◌==◌, ◌&&◌, ◌||◌, ⊤, is_none, nat_le, nat_lt, ℕ, Bool, true, false, List, [], ◌∷◌, Option, Some, None, codes, length, if◌then◌else◌, option_and_then}
+use Rattle.std.specs.Prelude.{◌≡◌, ◌≢◌, ◌⊎◌, ◌+◌, ◌-◌, ◌≤◌, ◌==◌, ◌&&◌, ◌||◌, ⊤, is_none, nat_le, nat_lt, ℕ, Bool, true, false, List, [], ◌∷◌, Option, Some, None, codes, fold, length, if◌then◌else◌, option_and_then}
 use Rattle.std.specs.Str.{bytes_eq}
 use Rattle.std.specs.Str.Parse.{digits_value, without_leading_plus}
 use Rattle.clap.specs.declared.builder.action.ArgAction.{ArgAction}
@@ -61,18 +61,23 @@ file_argument name = required (argument name Set)
 abbrev pub with_version : App → App
 with_version app = on_top (λ shape. record shape { has_version = true }) app
 
+-- the arguments: options that have a value, flags, and the names of the files
+abbrev pub arguments : List Rule
+arguments =
+    required (text_option (codes "abi"))
+    ∷ with_default (codes "1") (number_option (codes "workers") 1 64)
+    ∷ with_default (codes "64") (number_option (codes "grain") 0 18446744073709551615)
+    ∷ flag (codes "best-effort")
+    ∷ flag (codes "refused")
+    ∷ flag (codes "differs")
+    ∷ flag (codes "explain")
+    ∷ flag (codes "json")
+    ∷ file_argument (codes "TREE")
+    ∷ file_argument (codes "TRACE")
+    ∷ []
+
 unfoldable pub command : App
-command = with_rule (with_rule (with_rule (with_rule (with_rule (with_rule (with_rule (with_rule (with_rule (with_rule (with_version (new_app (codes "landaudit")))
-    (required (text_option (codes "abi"))))
-    (with_default (codes "1") (number_option (codes "workers") 1 64)))
-    (with_default (codes "64") (number_option (codes "grain") 0 18446744073709551615)))
-    (flag (codes "best-effort")))
-    (flag (codes "refused")))
-    (flag (codes "differs")))
-    (flag (codes "explain")))
-    (flag (codes "json")))
-    (file_argument (codes "TREE")))
-    (file_argument (codes "TRACE"))
+command = fold with_rule (with_version (new_app (codes "landaudit"))) arguments
 
 -- what a run is asked to do
 pub record Request : Type 0 where

@@ -1,6 +1,7 @@
 //! The command line.
 
 ghost use Rattle.std.specs.Prelude.{if◌then◌else◌, ◌≡◌, ◌⊎◌, ◌≤◌, [], IfOk, IfSome, MatchResult, Some, false, is_some, map, option_map, string_bytes};
+ghost use Rattle.std.specs.List.{list_any};
 ghost use Rattle.clap.specs.Words.{HasKind, app_of, fault_of, first_of, found_of, kind_of, matches_of, rows_of, rule_of};
 ghost use Rattle.clap.specs.declared.error.kind.ErrorKind.TheVariants.{OutOfMemory};
 ghost use Rattle.ll_command.specs.Command as spec;
@@ -198,28 +199,36 @@ fn file_argument<'a>(alloc: Global, name: &'a str, help: Help) -> Arg<'a>
     argument(alloc, name, ArgAction::Set, help).required(true)
 }
 
+/// The arguments, with the texts of their help.
+fn arguments<'a>(alloc: Global) -> Result<Vec<Arg<'a>>, AllocError>
+    ensures rules { IfOk result (λ arguments. map rule_of arguments.items ≡ spec.arguments) }
+    ensures local { IfOk result (λ arguments.
+        list_any (λ argument. argument.global) arguments.items ≡ false) }
+{
+    Ok(vec![in alloc;
+        text_option(alloc, "abi", ABI_HELP).required(true),
+        number_option(alloc, "workers", 1, 64, WORKERS_HELP).default_value("1"),
+        number_option(alloc, "grain", 0, u64::MAX, GRAIN_HELP).default_value("64"),
+        option(alloc, "best-effort", ArgAction::SetTrue, EFFORT_HELP),
+        option(alloc, "refused", ArgAction::SetTrue, REFUSED_HELP),
+        option(alloc, "differs", ArgAction::SetTrue, DIFFERS_HELP),
+        option(alloc, "explain", ArgAction::SetTrue, EXPLAIN_HELP),
+        option(alloc, "json", ArgAction::SetTrue, JSON_HELP),
+        file_argument(alloc, "TREE", TREE_HELP),
+        file_argument(alloc, "TRACE", TRACE_HELP),
+    ]?)
+}
+
 /// The command, with the texts of its help.
 #[tactic(auto, unfolding(crate::specs::Command::command))]
 fn command<'a>(alloc: Global) -> Result<Command<'a>, AllocError>
     ensures { IfOk result (λ command. app_of command ≡ spec.command) }
 {
-    let abi = text_option(alloc, "abi", ABI_HELP);
-    let workers = number_option(alloc, "workers", 1, 64, WORKERS_HELP);
-    let grain = number_option(alloc, "grain", 0, u64::MAX, GRAIN_HELP);
     Command::new(alloc, "landaudit")
         .version(VERSION)
         .about(ABOUT)
         .after_long_help(MORE_HELP)
-        .arg(abi.required(true))?
-        .arg(workers.default_value("1"))?
-        .arg(grain.default_value("64"))?
-        .arg(option(alloc, "best-effort", ArgAction::SetTrue, EFFORT_HELP))?
-        .arg(option(alloc, "refused", ArgAction::SetTrue, REFUSED_HELP))?
-        .arg(option(alloc, "differs", ArgAction::SetTrue, DIFFERS_HELP))?
-        .arg(option(alloc, "explain", ArgAction::SetTrue, EXPLAIN_HELP))?
-        .arg(option(alloc, "json", ArgAction::SetTrue, JSON_HELP))?
-        .arg(file_argument(alloc, "TREE", TREE_HELP))?
-        .arg(file_argument(alloc, "TRACE", TRACE_HELP))
+        .args(arguments(alloc)?)
 }
 
 /// The version whose number a digit is.
@@ -345,13 +354,13 @@ fn run_of<'a>(matches: &ArgMatches<'a>) -> Option<Run<'a>>
 }
 
 /// The matches of the words.
-fn parse<'a>(command: &mut Command<'a>, words: &'a [String]) -> Result<ArgMatches<'a>, Error>
-    requires { app_of command.old ≡ spec.command }
+fn parse<'a>(alloc: Global, words: &'a [String]) -> Result<ArgMatches<'a>, Error>
     ensures { MatchResult result
         (λ matches. (fault_of spec.command (map string_bytes words.entry.now) ≡ [])
         × (rows_of (found_of matches) ≡ matches_of spec.command (map string_bytes words.entry.now)))
         (HasKind (spec.faults (map string_bytes words.entry.now))) }
 {
+    let mut command = command(alloc)?;
     command.try_get_matches_from_mut(words)
 }
 
@@ -375,8 +384,7 @@ fn read<'a>(alloc: Global, words: &'a [String]) -> Result<Plan<'a>, Error>
         (spec.IsPlanFor (map string_bytes words.entry.now))
         (HasKind (spec.faults (map string_bytes words.entry.now))) }
 {
-    let mut command = command(alloc)?;
-    let matches = parse(&mut command, words)?;
+    let matches = parse(alloc, words)?;
     if let Some(why) = misuse(&matches) {
         return Ok(Plan::Misuse(why));
     }

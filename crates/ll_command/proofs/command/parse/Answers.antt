@@ -28,4 +28,4 @@ parse_by_words app words (Err e) same kinds found =
 pub returns : goal.returns
 returns c =
     let parse = c.try_get_matches_from_mut in
-    parse_by_words _ _ parse.result c.requires parse.ensures.kinds (IfOk-weaker parse.result _ _ (λ m h. h.2) parse.ensures.ok)
+    parse_by_words _ _ parse.result c.in_ok-command.ensures parse.ensures.kinds (IfOk-weaker parse.result _ _ (λ m h. h.2) parse.ensures.ok)
