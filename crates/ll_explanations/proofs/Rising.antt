@@ -54,14 +54,6 @@ none_from place bound (first ∷ places) rise below =
     skipped place first places (λ same. omega (arith, same, below, rise.0))
     ∙ ap (option_map suc) (none_from place (suc first) places rise.1 (omega (arith, below, rise.0)))
 
-pub none_upto : (place bound : ℕ) (places : List ℕ) → All (λ at. at < bound) places → bound ≤ place → where_in place places ≡ None
-unfolding where_in
-none_upto place bound [] before behind = refl
-none_upto place bound (first ∷ places) before behind =
-    let lower : first < bound = All-head (λ at. at < bound) first places before in
-    skipped place first places (λ same. omega (arith, same, behind, lower))
-    ∙ ap (option_map suc) (none_upto place bound places (All-tail (λ at. at < bound) first places before) behind)
-
 pub found_there : (place bound index : ℕ) (places : List ℕ) → Rise bound places → slice_get places index ≡ Some place → Some index ≡ where_in place places
 unfolding Rise where_in
 found_there place bound index [] rise is = absurd (none-some place is)

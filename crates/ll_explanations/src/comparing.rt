@@ -59,15 +59,16 @@ impl<'a> Stretch<'a> {
     fn compared(self, alloc: Global, base: &Found) -> Comparing
         ensures { IsCompared base.now self.entry result }
     {
-        let Stretch {
-            case,
-            answers,
-            newer,
-            trails,
-            from,
-            end,
-        } = self;
-        compare_from(alloc, case, answers, newer, base, trails, from, end)
+        compare_from(
+            alloc,
+            self.case,
+            self.answers,
+            self.newer,
+            base,
+            self.trails,
+            self.from,
+            self.end,
+        )
     }
 }
 
