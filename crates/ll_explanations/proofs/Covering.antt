@@ -1,5 +1,6 @@
 -- Records of which only what differs from a base is kept, stretch after stretch.
-use Rattle.std.proofs.Common.{◌≡◌, ◌≢◌, ◌∙◌, ◌<◌, ◌≤◌, ◌+◌, ◌++◌, ℕ, suc, true, List, [], ◌∷◌, length, Option, Some, None, Result, Ok, refl, sym, ap, ap₂, subst, inl, inr, arith}
+use Rattle.std.proofs.Common.{◌≡◌, ◌≢◌, ◌∙◌, ◌<◌, ◌≤◌, ◌+◌, ◌++◌, ℕ, suc, true, List, [], ◌∷◌}
+use Rattle.std.proofs.Common.{length, Option, Some, None, Result, Ok, refl, sym, ap, ap₂, subst, inl, inr, arith}
 use Rattle.std.specs.Prelude.{option_map, slice_get, unwrap_or}
 use Rattle.std.specs.Option.{option_and_then}
 use Rattle.std.specs.List.{All, AllZip}
@@ -13,7 +14,8 @@ use Rattle.ll_semantics.specs.declared.answer.Answer.TheVariants.{Moot}
 use Rattle.ll_semantics.specs.Worlds.{judged}
 use Rattle.ll_semantics.proofs.Steps.{length-judged}
 use Rattle.ll_process.specs.Cases.{CaseValue}
-use Rattle.ll_explanations.specs.Findings.{ChangesValue, FindingValue, Finds, IsAboutAll, IsFoundAt, IsKept, Notes, answer_in, answer_over, both_changed, changed_once, kept_at, kept_over, with_changes}
+use Rattle.ll_explanations.specs.Findings.{ChangesValue, FindingValue, Finds, IsAboutAll, IsFoundAt, IsKept, Notes}
+use Rattle.ll_explanations.specs.Findings.{answer_in, answer_over, both_changed, changed_once, kept_at, kept_over, with_changes}
 use Rattle.ll_explanations.specs.Overlays.{Rise, change_at, overlay, where_in}
 use Rattle.ll_explanations.specs.Stretches.{AreStretches, Covers, IsCompared, IsCovered}
 use Rattle.ll_explanations.specs.declared.explained.Explained.{Explained}
