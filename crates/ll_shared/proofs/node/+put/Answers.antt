@@ -58,7 +58,9 @@ Node::put-returns-in_ok-new-in-Leaf-clause-ok g t c =
     ∙ ap (λ o. if q == c.args.key then c.args.value else o) (c.only-four.ensures.found q))
 
 pub Node::put-returns-then-known-key-clause-ok : goal.Node::put-returns-then-known-key-clause-ok
-Node::put-returns-then-known-key-clause-ok g t c = λ q. rw c.in-Leaf.is (replaced c.args.value c.in-Leaf.old c.in-Leaf.known c.args.key q _ (c.entry-then-known-key.ensures q) c.if-known-key.true)
+Node::put-returns-then-known-key-clause-ok g t c =
+    λ q. rw c.in-Leaf.is (replaced c.args.value c.in-Leaf.old c.in-Leaf.known c.args.key q _ (c.entry-then-known-key.ensures q)
+    c.if-known-key.true)
 
 pub Node::put-returns-then-known-key-clause-old : goal.Node::put-returns-then-known-key-clause-old
 Node::put-returns-then-known-key-clause-old g t c = rw c.in-Leaf.is (held c.in-Leaf.old c.in-Leaf.known c.args.key c.if-known-key.true)
