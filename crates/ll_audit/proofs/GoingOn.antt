@@ -41,7 +41,7 @@ module _ (options : Options) (abi : Abi) (asked : is_in options.abis abi ≡ tru
 
   -- the first version
   pub goes_on_from_none : (located : Located) → next.case.tree ≡ located.tree → next.case.records ≡ taken options.effort abi located.trace
-      → next.newer.items ≡ [] → GoesOn options abi (progress.Begun located) (progress.Judged next)
+      → next.newer ≡ [] → GoesOn options abi (progress.Begun located) (progress.Judged next)
   goes_on_from_none located tree records none = λ entries later after comes. record {
     records = located.trace;
     findings = [];
@@ -60,12 +60,12 @@ module _ (options : Options) (abi : Abi) (asked : is_in options.abis abi ≡ tru
 
   -- one version more
   pub goes_on : (one : Judged) (finding : FindingValue) → next.case.tree ≡ one.case.tree → next.case.records ≡ taken options.effort abi one.case.records
-      → next.newer.items ≡ finding ∷ one.newer.items
+      → next.newer ≡ finding ∷ one.newer
       → Finds options.shown.explanations one.case.tree one.case.abi one.case.records finding
       → GoesOn options abi (progress.Judged one) (progress.Judged next)
   goes_on one finding tree records newer finds = λ entries later after comes. record {
     records = one.case.records;
-    findings = finding ∷ one.newer.items;
+    findings = finding ∷ one.newer;
     came = (sym tree ∙ comes.0, refl, (finding, refl, finds));
     later_is = sym comes.1 ∙ records ∙ taken_as_asked one.case.records;
     adds = record {

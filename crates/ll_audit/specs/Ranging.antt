@@ -5,11 +5,11 @@ use Rattle.ll_rights.specs.declared.abi.Abi.{Abi}
 use Rattle.ll_rights.specs.AbiRanges.{is_in}
 use Rattle.ll_tree.specs.Trees.{Entry}
 use Rattle.ll_trace.specs.declared.op.Record.{Record}
-use Rattle.ll_explanations.specs.Findings.{FindingValue}
+use Rattle.ll_explanations.specs.Findings.{FindingValue, StandsInFront}
 use Rattle.ll_json.specs.Judged.{AreFound}
 use Rattle.ll_json.specs.Records.{about}
 use Rattle.ll_report.specs.declared.options.Options.{Options}
-use Rattle.ll_audit.specs.Cases.{AddsFinding, StandsInFront}
+use Rattle.ll_audit.specs.Cases.{AddsFinding}
 use Rattle.ll_audit.specs.ShownReports.{taken, versions_by}
 use Rattle.ll_audit.specs.declared.ranging.Progress.{Progress}
 use Rattle.ll_audit.specs.declared.ranging.Progress.TheVariants as progress
@@ -18,7 +18,7 @@ use Rattle.ll_audit.specs.declared.ranging.Progress.TheVariants as progress
 abbrev pub ComesTo : Options → Progress → List Entry → List Record → List FindingValue → Type 0
 ComesTo options (progress.Begun located) tree records findings = (located.tree ≡ tree) × (located.trace ≡ records) × (findings ≡ [])
 ComesTo options (progress.Judged one) tree records findings = (one.case.tree ≡ tree) × (one.case.records ≡ records)
-    × AddsFinding options.shown.explanations one.case one.newer.items findings
+    × AddsFinding options.shown.explanations one.case one.newer findings
 
 -- what is found under a version, if it is asked for, stands in front of what was found before
 pub record Adds (options : Options) (abi : Abi) (tree : List Entry) (records : List Record) (before after : List FindingValue) : Type 0 where

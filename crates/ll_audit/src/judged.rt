@@ -7,12 +7,12 @@ ghost use Rattle.ll_process.specs.{Cases.IsCase, PastCases.as_it_was};
 ghost use Rattle.ll_audit.specs.Causes.{IsWant};
 ghost use Rattle.ll_audit.specs.ShownReports.{taken};
 ghost use Rattle.ll_audit.specs.Audits.{IsCrew};
-ghost use Rattle.ll_audit.specs.Cases.{AddsFinding, FindsIn, judged_in};
+ghost use Rattle.ll_audit.specs.Cases.{AddsFinding, judged_in};
 
 use crate::fault::Fault;
-use crate::ranging::{Audit, Audited, case_under, in_front};
-use crate::workers::answers_by;
-use ll_explanations::Finding;
+use crate::ranging::{Audit, Audited, case_under};
+use crate::workers::{Workers, answers_by};
+use ll_explanations::Findings;
 use ll_pool::Gate;
 use ll_process::{Answer, Case, CaseView, PastCase};
 use ll_rights::Abi;
@@ -27,12 +27,12 @@ use std::thread::{Threads, join};
 pub(crate) struct Judged {
     pub(crate) case: Case,
     pub(crate) answers: Vec<Answer>,
-    pub(crate) newer: Vec<Finding>,
+    pub(crate) newer: Findings,
     ghost judged: { answers.items ≡ judged case.tree case.abi case.records },
 }
 
-/// What is found of a past case, by the case that has its trace now, the answers to it, and what was found under newer
-/// versions, the oldest first. At most this many threads explain it.
+/// What is found of a past case too, by the case that has its trace now, the answers to it, and what was found under
+/// newer versions. At most this many threads explain it.
 fn explain_past<R: Threads + Sync>(
     rt: &R,
     alloc: Global,
@@ -40,17 +40,17 @@ fn explain_past<R: Threads + Sync>(
     past: &PastCase,
     answers: Vec<Answer>,
     explains: bool,
-    newer: &[Finding],
+    newer: Findings,
     threads: u64,
-) -> Result<Finding, NoMemory>
+) -> Result<Findings, NoMemory>
     requires past { IsCase (as_it_was now.now.tree now.now.records past.now) }
     requires answers { answers.items
         ≡ judged_in (as_it_was now.now.tree now.now.records past.now) }
-    ensures { IfOk result (FindsIn explains (as_it_was now.now.tree now.now.records past.now)) }
+    ensures { IfOk result
+        (AddsFinding explains (as_it_was now.now.tree now.now.records past.now) newer) }
 {
     let view = CaseView::past(now, past);
-    let threads = threads as usize;
-    Finding::of(rt, alloc, &view, answers, explains, newer.first(), threads)
+    newer.with(rt, alloc, &view, answers, explains, threads as usize)
 }
 
 /// Explains a past case while the workers judge the case that has its trace now.
@@ -59,21 +59,21 @@ fn explain_beside<R: Threads + Wait + Sync, G: Gate + Sync>(
     now: &Case,
     past: &PastCase,
     answers: Vec<Answer>,
-    newer: &[Finding],
-) -> Result<(Finding, Vec<Answer>), Fault>
+    newer: Findings,
+) -> Result<(Findings, Vec<Answer>), Fault>
     requires crew { IsCrew audit.now.workers.now.count }
     requires past { IsCase (as_it_was now.now.tree now.now.records past.now) }
     requires answers { answers.items
         ≡ judged_in (as_it_was now.now.tree now.now.records past.now) }
-    ensures finding { IfOk result (λ both. FindsIn audit.now.options.now.shown.explanations
-        (as_it_was now.now.tree now.now.records past.now) both.0) }
+    ensures findings { IfOk result (λ both. AddsFinding audit.now.options.now.shown.explanations
+        (as_it_was now.now.tree now.now.records past.now) newer both.0) }
     ensures judged { IfOk result (λ both. both.1.items ≡ judged_in now.now) }
     ensures fault { IfErr result IsWant }
 {
     let (rt, alloc, gate) = (audit.workers.rt, audit.workers.alloc, audit.workers.gate);
     let (explains, cuts) = (audit.options.shown.explanations, audit.cuts);
     let count = audit.workers.count;
-    let (finding, judged) = join(
+    let (findings, judged) = join(
         rt,
         move ||
             requires sync { IsSync R.row }
@@ -85,7 +85,7 @@ fn explain_beside<R: Threads + Wait + Sync, G: Gate + Sync>(
             requires { IsCrew count }
         { answers_by(rt, alloc, count, gate, now, cuts) },
     );
-    Ok((finding?, judged?))
+    Ok((findings?, judged?))
 }
 
 impl Judged {
@@ -100,7 +100,7 @@ impl Judged {
         ensures abi { IfOk result (λ one. one.case.abi ≡ abi) }
         ensures records { IfOk result (λ one. one.case.records
             ≡ taken audit.now.options.now.effort abi newer.located.trace) }
-        ensures newer { IfOk result (λ one. one.newer.items ≡ newer.findings.items) }
+        ensures newer { IfOk result (λ one. one.newer ≡ newer.findings) }
         ensures fault { IfErr result IsWant }
     {
         let Audited { located, findings } = newer;
@@ -125,7 +125,7 @@ impl Judged {
             ≡ taken audit.now.options.now.effort abi self.case.records) }
         ensures tree { IfOk result (λ next. next.case.tree ≡ self.case.tree) }
         ensures findings { IfOk result (λ next. AddsFinding
-            audit.now.options.now.shown.explanations self.case self.newer.items next.newer.items) }
+            audit.now.options.now.shown.explanations self.case self.newer next.newer) }
         ensures abi { IfOk result (λ next. next.case.abi ≡ abi) }
         ensures fault { IfErr result IsWant }
     {
@@ -140,11 +140,11 @@ impl Judged {
         } = self;
         let (located, past) = case.into_past(audit.workers.alloc)?;
         let case = case_under(audit, located, abi)?;
-        let (finding, answers) = explain_beside(audit, &case, &past, answers, &newer)?;
+        let (findings, answers) = explain_beside(audit, &case, &past, answers, newer)?;
         Ok(Judged {
             case,
             answers,
-            newer: in_front(finding, newer)?,
+            newer: findings,
         })
     }
 
@@ -155,7 +155,7 @@ impl Judged {
         threads: u64,
     ) -> Result<Audited, Fault>
         ensures found { IfOk result (λ all. AddsFinding audit.now.options.now.shown.explanations
-            self.case self.newer.items all.findings.items) }
+            self.case self.newer all.findings) }
         ensures tree { IfOk result (λ all. all.located.tree ≡ self.case.tree) }
         ensures trace { IfOk result (λ all. all.located.trace ≡ self.case.records) }
         ensures fault { IfErr result IsWant }
@@ -167,12 +167,11 @@ impl Judged {
         } = self;
         let explains = audit.options.shown.explanations;
         let view = CaseView::of(&case);
-        let finding = audit
-            .workers
-            .explained(explains, &view, answers, newer.first(), threads)?;
+        let Workers { rt, alloc, .. } = audit.workers;
+        let findings = newer.with(*rt, *alloc, &view, answers, explains, threads as usize)?;
         Ok(Audited {
             located: case.into_located(),
-            findings: in_front(finding, newer)?,
+            findings,
         })
     }
 }

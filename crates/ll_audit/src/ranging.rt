@@ -16,7 +16,7 @@ use crate::fault::Fault;
 use crate::judged::Judged;
 use crate::workers::Workers;
 use ll_command::VERSION;
-use ll_explanations::Finding;
+use ll_explanations::Findings;
 use ll_json::{JsonRows, json_report};
 use ll_pool::Gate;
 use ll_process::Case;
@@ -37,12 +37,12 @@ pub(crate) struct Audit<'a, R, G> {
     pub(crate) cuts: &'a [bool],
 }
 
-/// A tree and a trace, and what was found of them under some versions, the oldest first. The trace is as its rulesets
+/// A tree and a trace, and what was found of them under some versions. The trace is as its rulesets
 /// are taken under the oldest of these. Where its paths lead is looked up once for all versions.
 #[derive(Drop)]
 pub(crate) struct Audited {
     pub(crate) located: Located,
-    pub(crate) findings: Vec<Finding>,
+    pub(crate) findings: Findings,
 }
 
 /// How far an audit under several versions is, the newest first.
@@ -70,7 +70,7 @@ impl Progress {
         }
         let judged = match self {
             Progress::Begun(located) => {
-                let findings = Vec::new(audit.workers.alloc);
+                let findings = Findings::none(audit.workers.alloc);
                 Judged::of(Audited { located, findings }, audit, abi)?
             }
             Progress::Judged(newer) => newer.next(audit, abi)?,
@@ -85,13 +85,13 @@ impl Progress {
         audit: &Audit<'_, R, G>,
     ) -> Result<Audited, Fault>
         ensures found { IfOk result (λ all. ComesTo audit.now.options.now self all.located.tree
-            all.located.trace all.findings.items) }
+            all.located.trace all.findings) }
         ensures fault { IfErr result IsWant }
     {
         match self {
             Progress::Begun(located) => Ok(Audited {
                 located,
-                findings: Vec::new(audit.workers.alloc),
+                findings: Findings::none(audit.workers.alloc),
             }),
             Progress::Judged(judged) => judged.finish(audit, audit.workers.count.max(2)),
         }
@@ -128,9 +128,9 @@ impl Audited {
         ensures tree { IfOk result (λ all. all.located.tree ≡ tree) }
         ensures findings { IfOk result
             (λ all. AreFound audit.now.options.now.shown.explanations tree all.located.trace
-            (versions_by audit.now.options.now trace) all.findings.items) }
+            (versions_by audit.now.options.now trace) all.findings) }
         ensures few { IfOk result (λ all. number_of audit.now.options.now.abis.oldest
-            + length all.findings.items < 2 ^ 64) }
+            + length all.findings < 2 ^ 64) }
         ensures records { IfOk result (λ all. map about all.located.trace ≡ map about trace) }
         ensures fault { IfErr result IsWant }
     {
@@ -147,13 +147,13 @@ impl Audited {
         alloc: Global,
         options: &Options,
     ) -> Result<RowReport<VersionRows>, AllocError>
-        requires { number_of options.now.abis.oldest + length self.findings.items < 2 ^ 64 }
+        requires { number_of options.now.abis.oldest + length self.findings < 2 ^ 64 }
         ensures text { IfOk result (λ report. report.text ≡ rows_text options.now.shown
             (number_of options.now.abis.oldest) (founds_in options.now.shown.explanations
-            self.located.tree self.located.trace self.findings.items) self.located.trace) }
+            self.located.tree self.located.trace self.findings) self.located.trace) }
         ensures refused { IfOk result (λ report. report.refused
             ≡ refused_under_some (founds_in options.now.shown.explanations
-            self.located.tree self.located.trace self.findings.items) self.located.trace) }
+            self.located.tree self.located.trace self.findings) self.located.trace) }
     {
         let Audited { located, findings } = self;
         let oldest = options.abis.oldest();
@@ -166,10 +166,10 @@ impl Audited {
         alloc: Global,
         options: &Options,
     ) -> Result<RowReport<JsonRows<'static>>, AllocError>
-        requires { number_of options.now.abis.oldest + length self.findings.items < 2 ^ 64 }
+        requires { number_of options.now.abis.oldest + length self.findings < 2 ^ 64 }
         ensures { IfOk result (λ report. (versions : List Version)
             → AreFound options.now.shown.explanations self.located.tree self.located.trace
-            versions self.findings.items
+            versions self.findings
             → IsJsonReport options.now.shown self.located.tree (number_of options.now.abis.oldest)
             versions self.located.trace VERSION.now report) }
     {
@@ -210,15 +210,4 @@ pub(crate) fn case_under<R: Threads + Wait + Sync, G: Gate + Sync>(
 {
     let located = as_taken(located, audit.options.effort, abi);
     Case::of_located(audit.workers.alloc, located, abi)
-}
-
-/// What was found under a version, in front of what was found under newer ones.
-pub(crate) fn in_front(
-    finding: Finding,
-    mut newer: Vec<Finding>,
-) -> Result<Vec<Finding>, AllocError>
-    ensures { IfOk result (λ all. all.items ≡ finding ∷ newer.items) }
-{
-    newer.insert(0, finding)?;
-    Ok(newer)
 }

@@ -5,7 +5,7 @@ ghost use Rattle.ll_semantics.specs.Worlds.{judged};
 ghost use Rattle.ll_explanations.specs.Findings.{Finds};
 ghost use Rattle.ll_audit.specs.Causes.{IsWant};
 ghost use Rattle.ll_audit.specs.Audits.{IsCrew};
-ghost use Rattle.ll_audit.specs.Cases.{FindsIn, judged_in};
+ghost use Rattle.ll_audit.specs.Cases.{judged_in};
 
 use crate::fault::Fault;
 use ll_explanations::Finding;
@@ -49,23 +49,6 @@ impl<'a, R: Threads + Wait + Sync, G: Gate + Sync> Workers<'a, R, G> {
         Ok(collect_whole(self.alloc, case, pieces)?)
     }
 
-    /// What is found of the records of a case, by the answers to them: the explanations too, if these are asked for, which
-    /// at most this many threads work out. What is found alike under a newer version is kept once.
-    pub(crate) fn explained(
-        &self,
-        explains: bool,
-        case: &CaseView<'_>,
-        answers: Vec<Answer>,
-        newer: Option<&Finding>,
-        threads: u64,
-    ) -> Result<Finding, NoMemory>
-        requires { answers.items ≡ judged_in case.now }
-        ensures { IfOk result (FindsIn explains case.now) }
-    {
-        let threads = threads as usize;
-        Finding::of(self.rt, self.alloc, case, answers, explains, newer, threads)
-    }
-
     /// What is found of the records of a case, whose work is cut at these processes: the answers, and the explanations
     /// if these are asked for.
     pub(crate) fn finding(
@@ -81,7 +64,8 @@ impl<'a, R: Threads + Wait + Sync, G: Gate + Sync> Workers<'a, R, G> {
     {
         let answers = self.answers(case, cuts)?;
         let view = CaseView::of(case);
-        Ok(self.explained(explains, &view, answers, None, self.count)?)
+        let threads = self.count as usize;
+        Ok(Finding::of(self.rt, self.alloc, &view, answers, explains, threads)?)
     }
 }
 

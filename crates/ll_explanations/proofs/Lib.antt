@@ -12,6 +12,7 @@ pub mod Explaining
 pub mod FindingTells
 pub mod Rising
 pub mod Overlaying
+pub mod Marking
 pub mod Covering
 pub mod KeepingAll
 pub mod Grouping

@@ -1,6 +1,7 @@
 -- Lists that are kept as changes to a base, and findings.
 use Rattle.std.proofs.Common.{◌≡◌, ◌∙◌, ◌<◌, ◌≤◌, ◌+◌, ℕ, zero, suc, List, [], ◌∷◌, length, get_or, Option, Some, None, refl, sym, ap, ap₂, arith}
 use Rattle.std.specs.Prelude.{option_map, slice_get, unwrap_or}
+use Rattle.std.specs.Option.{option_and_then}
 use Rattle.std.proofs.lemmas.Option.{slice_get_past, slice_get_read}
 use Rattle.ll_explanations.specs.Findings.{FindingValue, with_changes}
 use Rattle.ll_explanations.specs.Overlays.{change_at, overlay, overlay_from, where_in}
@@ -29,6 +30,17 @@ module _ {A : Type 0} (changes base : List A) (places : List ℕ) (place : ℕ) 
   pub nothing_there : length base ≤ place → None ≡ slice_get (overlay base places changes) place
   nothing_there past =
       sym (overlaid_at ∙ ap (option_map (λ stays. unwrap_or (change_at place places changes) stays)) (slice_get_past base place past))
+
+  -- where there is no change the base's element stands
+  pub as_in_base : where_in place places ≡ None → slice_get (overlay base places changes) place ≡ slice_get base place
+  as_in_base none =
+      overlaid_at
+      ∙ ap (λ o. option_map (λ stays. unwrap_or (option_and_then (slice_get changes) o) stays) (slice_get base place)) none
+      ∙ same_option (slice_get base place)
+    where
+      same_option : (o : Option A) → option_map (λ stays. stays) o ≡ o
+      same_option None = refl
+      same_option (Some stays) = refl
 
   there : (stays : A) (change : Option A) → place < length base → stays ≡ get_or base place stays → change ≡ change_at place places changes
       → Some (unwrap_or change stays) ≡ slice_get (overlay base places changes) place

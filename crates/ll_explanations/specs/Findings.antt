@@ -111,6 +111,11 @@ pub record Finds (explains : Bool) (tree : List Entry) (abi : Abi) (records : Li
   pub as_many : length finding.explanations ≡ (if explains then length records else 0)
   pub each : AreKept tree abi records finding.explanations
 
+-- what is found of records under a version stands in front of what was found under newer ones
+abbrev pub StandsInFront : Bool → List Entry → Abi → List Record → List FindingValue → List FindingValue → Type 0
+StandsInFront explains tree abi records newer all =
+    (finding : FindingValue) × (all ≡ finding ∷ newer) × Finds explains tree abi records finding
+
 -- what is said of the record at a place, which is answered so: its call and its explanation, if there is anything to explain
 abbrev pub Tells : List Entry → Abi → List Record → ℕ → Answer → Record → Option (Op × Explanation) → Type 0
 Tells tree abi records place answer r said = (e : Explanation) × (said ≡ if_said e (r.op, e)) × IsExplanationOf tree abi records place answer r e

@@ -8,4 +8,5 @@ pub mod Explained
 pub mod Kept
 pub mod Overlays
 pub mod Findings
+pub mod Alike
 pub mod Stretches

@@ -1,14 +1,18 @@
 //! What is found under one version: the answers to the records of a case, and their explanations as values.
 
 ghost use Rattle.std.specs.Prelude.{◌≡◌, IfOk, length, option_map, slice_get, true};
+ghost use Rattle.std.specs.Bool.{OnTrue};
 ghost use Rattle.ll_semantics.specs.Worlds.{judged};
-ghost use Rattle.ll_explanations.specs.Findings.{Finds, IsAboutAll, answer_in, kept_at, said_in};
+ghost use Rattle.ll_explanations.specs.Alike.{FindsAs, MarksUnless};
+ghost use Rattle.ll_explanations.specs.Findings.{Finds, answer_in, kept_at, said_in, with_changes};
+ghost use Rattle.ll_explanations.specs.Overlays.{Rise};
 
 use crate::changes::Changes;
 use crate::comparing::compare_all;
 use crate::explained::SharedExplanation;
 use crate::explanation::Explanation;
 use crate::found::Found;
+use crate::marks::{mark_all, mark_differing};
 use crate::overlay::overlaid;
 use crate::places::Places;
 use crate::stretches::explain_all;
@@ -41,15 +45,14 @@ impl Model for Finding {
 }
 
 impl Finding {
-    /// What is found of the records of a case, by the answers to them. An explanation shares the memory of a like one
-    /// that was found under a newer version. At most this many threads work the explanations out.
+    /// What is found of the records of a case, by the answers to them. At most this many threads work the explanations
+    /// out.
     pub fn of<R: Threads + Sync>(
         rt: &R,
         alloc: Global,
         case: &CaseView<'_>,
         answers: Vec<Answer>,
         explains: bool,
-        newer: Option<&Finding>,
         workers: usize,
     ) -> Result<Finding, NoMemory>
         requires { answers.items ≡ judged case.now.tree case.now.abi case.now.records }
@@ -58,15 +61,36 @@ impl Finding {
         if !explains {
             return Ok(Finding::whole(alloc, answers, Vec::new(alloc))?);
         }
-        match newer {
-            Some(newer) if newer.base.is_about_all(answers.len()) => {
-                Finding::by_changes(rt, alloc, case, &answers, newer, &newer.base, workers)
-            }
-            _ => {
-                let explanations = explain_all(rt, alloc, case, &answers, newer, workers)?;
-                Ok(Finding::whole(alloc, answers, explanations)?)
-            }
+        let explanations = explain_all(rt, alloc, case, &answers, workers)?;
+        Ok(Finding::whole(alloc, answers, explanations)?)
+    }
+
+    /// What is found under an older version, by the answers to its records. Marks the records of which this version finds
+    /// something else. An explanation shares the memory of a like one of this version.
+    pub(crate) fn older<R: Threads + Sync>(
+        &self,
+        rt: &R,
+        alloc: Global,
+        case: &CaseView<'_>,
+        answers: Vec<Answer>,
+        explains: bool,
+        marks: &mut Vec<bool>,
+        workers: usize,
+    ) -> Result<Finding, NoMemory>
+        requires { answers.items ≡ judged case.now.tree case.now.abi case.now.records }
+        ensures finds { IfOk result (Finds explains case.now.tree case.now.abi case.now.records) }
+        ensures marks { IfOk result (λ finding. MarksUnless (λ at. FindsAs finding at self.now)
+            marks.old.items marks.new.items) }
+    {
+        if explains && self.base.is_about_all(answers.len()) {
+            let changes = compare_all(rt, alloc, case, &answers, self, &self.base, workers)?;
+            mark_all(marks, &changes.places);
+            mark_all(marks, self.places.as_slice());
+            return Ok(Finding::over(alloc, &self.base, changes)?);
         }
+        let finding = Finding::of(rt, alloc, case, answers, explains, workers)?;
+        mark_differing(marks, &finding, self);
+        Ok(finding)
     }
 
     /// What was found, all of which is kept.
@@ -90,22 +114,12 @@ impl Finding {
         })
     }
 
-    /// What is found of the records of a case, of which only the changes to a base are kept.
-    #[tactic(auto, using(crate::proofs::Covering::by_changes_finds))]
-    fn by_changes<R: Threads + Sync>(
-        rt: &R,
-        alloc: Global,
-        case: &CaseView<'_>,
-        answers: &[Answer],
-        newer: &Finding,
-        base: &Arc<Found>,
-        workers: usize,
-    ) -> Result<Finding, NoMemory>
-        requires judged { answers.now ≡ judged case.now.tree case.now.abi case.now.records }
-        requires base { IsAboutAll (length answers.now) base.now.value }
-        ensures { IfOk result (Finds true case.now.tree case.now.abi case.now.records) }
+    /// What is found, of which only the changes to a base are kept.
+    fn over(alloc: Global, base: &Arc<Found>, changes: Changes) -> Result<Finding, AllocError>
+        requires { Rise 0 changes.places }
+        ensures { IfOk result (λ finding. finding
+            ≡ with_changes base.now.value changes.places changes.found) }
     {
-        let changes = compare_all(rt, alloc, case, answers, newer, base, workers)?;
         let Changes { places, found } = changes;
         Ok(Finding {
             base: Arc::try_clone(base)?,
@@ -168,14 +182,22 @@ impl Finding {
         Some((op, &explained.explanation))
     }
 
-    /// Whether another finding explains the record at a place by the same value. Explanations of calls that name rights
-    /// never count as the same.
+    /// Whether another finding explains the record at a place by the same value, or neither explains it. Explanations of
+    /// calls that name rights never count as the same.
     pub fn explains_as(&self, other: &Finding, place: usize) -> bool
         ensures { result ≡ true → kept_at self.now place ≡ kept_at other.now place }
     {
         match (self.kept(place), other.kept(place)) {
             (Some(kept), Some(others)) => kept.is_same(others),
+            (None, None) => true,
             _ => false,
         }
+    }
+
+    /// Whether the same is found of the record at a place as another finding has.
+    pub(crate) fn finds_as(&self, one: &Finding, place: usize) -> bool
+        ensures { OnTrue result (FindsAs one.now place self.now) }
+    {
+        self.answer(place) == one.answer(place) && self.explains_as(one, place)
     }
 }

@@ -62,6 +62,13 @@ impl Places {
         Ok(Places { places, hints })
     }
 
+    /// All places.
+    pub(crate) fn as_slice(&self) -> &[u32]
+        ensures { result.now ≡ self.now }
+    {
+        &self.places
+    }
+
     /// Whether all places before an index are below a place.
     fn is_behind(&self, index: usize, place: usize) -> bool
         ensures { OnTrue result ((at : ℕ) → at < index → get_or self.now at 0 < place) }

@@ -234,12 +234,11 @@ pub(crate) fn stretches_of(case: &CaseView<'_>, workers: usize) -> usize {
 }
 
 /// What is kept of the explanations of all records of a case, worked out by at most this many threads.
-pub(crate) fn explain_all<R: Threads + Sync>(
+pub(crate) fn explain_all<'a, R: Threads + Sync>(
     rt: &R,
     alloc: Global,
-    case: &CaseView<'_>,
-    answers: &[Answer],
-    newer: Option<&Finding>,
+    case: &'a CaseView<'a>,
+    answers: &'a [Answer],
     workers: usize,
 ) -> Result<Vec<SharedExplanation>, NoMemory>
     requires { answers.now ≡ judged case.now.tree case.now.abi case.now.records }
@@ -247,7 +246,7 @@ pub(crate) fn explain_all<R: Threads + Sync>(
     ensures each { IfOk result
         (λ all. AreKept case.now.tree case.now.abi case.now.records all.items) }
 {
-    let whole = Stretch::whole(alloc, case, answers, newer);
+    let whole = Stretch::whole(alloc, case, answers, None);
     let stretches = cut_all(alloc, whole, stretches_of(case, workers))?;
     let parts = explain_each(rt, alloc, stretches)?;
     join_parts(alloc, parts)

@@ -10,7 +10,7 @@ use crate::rows::push_line;
 use crate::said::{BareMembers, Members};
 use crate::totals::push_last;
 use ll_explain::TextBuffer;
-use ll_explanations::Finding;
+use ll_explanations::Findings;
 use ll_report::{RowReport, Rows, Sayings, Scratch, Shown, is_left_out, refused_under_some};
 use ll_trace::Located;
 use std::alloc::{AllocError, Global};
@@ -22,7 +22,7 @@ use std::marker::Model;
 #[derive(Drop)]
 pub struct JsonRows<'p> {
     located: Located,
-    findings: Vec<Finding>,
+    findings: Findings,
     shown: Shown,
     oldest: u64,
     program: &'p str,
@@ -37,28 +37,28 @@ impl<'p> Model for JsonRows<'p> {
     ghost Value = { Made };
 
     ghost view = { λ rows. json_made rows.shown rows.oldest rows.located.tree rows.located.trace
-        rows.findings.items rows.program.now };
+        rows.findings rows.program.now };
 
-    ghost invariant = { λ rows. (rows.oldest + length rows.findings.items < 2 ^ 64)
-        × Suits (members_told rows.shown.explanations) rows.shown.explanations
-        rows.located.tree rows.located.trace rows.findings.items rows.scratch };
+    ghost invariant = { λ rows. (rows.oldest + length rows.findings < 2 ^ 64)
+        × Suits (members_told rows.shown.explanations) rows.located.tree rows.located.trace
+        rows.findings rows.scratch };
 }
 
 /// For what versions find of the records of a trace, and say with explanations or without.
 fn scratch_for(
     alloc: Global,
     located: &Located,
-    findings: &[Finding],
+    findings: &Findings,
     explains: bool,
 ) -> Result<Scratch, AllocError>
-    ensures { IfOk result (Suits (members_told explains) explains located.now.tree
-        located.now.trace findings.now) }
+    ensures { IfOk result
+        (Suits (members_told explains) located.now.tree located.now.trace findings.now) }
 {
     let records = located.trace.records();
     if explains {
-        Scratch::of::<Members>(alloc, &located.tree, records, findings, true)
+        Scratch::of::<Members>(alloc, &located.tree, records, findings)
     } else {
-        Scratch::of::<BareMembers>(alloc, &located.tree, records, findings, false)
+        Scratch::of::<BareMembers>(alloc, &located.tree, records, findings)
     }
 }
 
@@ -76,7 +76,7 @@ impl<'p> Rows for JsonRows<'p> {
         let sayings = Sayings {
             tree,
             records,
-            findings: &self.findings,
+            findings: self.findings.as_slice(),
             place,
         };
         if is_left_out(self.shown, &sayings, &mut self.scratch) {
@@ -93,7 +93,7 @@ impl<'p> Rows for JsonRows<'p> {
     }
 
     fn push_last(&mut self, text: &mut TextBuffer) {
-        push_last(text, self.oldest, &self.findings, self.program);
+        push_last(text, self.oldest, self.findings.as_slice(), self.program);
     }
 }
 
@@ -103,14 +103,14 @@ impl<'p> Rows for JsonRows<'p> {
 pub fn json_report<'p>(
     alloc: Global,
     located: Located,
-    findings: Vec<Finding>,
+    findings: Findings,
     shown: Shown,
     oldest: u64,
     program: &'p str,
 ) -> Result<RowReport<JsonRows<'p>>, AllocError>
-    requires { oldest + length findings.items < 2 ^ 64 }
+    requires { oldest + length findings < 2 ^ 64 }
     ensures { IfOk result (λ report. (versions : List Version)
-        → AreFound shown.explanations located.tree located.trace versions findings.items
+        → AreFound shown.explanations located.tree located.trace versions findings
         → IsJsonReport shown located.tree oldest versions located.trace program.now report) }
 {
     let refused = refused_under_some(&findings, located.trace.records().len());

@@ -4,7 +4,8 @@
 ghost use Rattle.std.specs.Prelude.{◌≡◌, ◌+◌, ◌<◌, ◌^◌, false, length, true};
 ghost use Rattle.json.specs.Print.{print};
 ghost use Rattle.ll_explain.specs.Buffers.{adding};
-ghost use Rattle.ll_report.specs.Scratches.{AreAlike, FitIn, is_apart, said_by};
+ghost use Rattle.ll_explanations.specs.Alike.{AreAlike};
+ghost use Rattle.ll_report.specs.Scratches.{FitIn, is_apart, said_by};
 ghost use Rattle.ll_json.specs.Rows.{head_tokens, line_of};
 ghost use Rattle.ll_json.specs.{Telling.AreComparable, Telling.members_told, Writing.writing};
 
@@ -69,7 +70,7 @@ pub(crate) fn push_line(
 )
     requires few { oldest + length sayings.now.findings.now < 2 ^ 64 }
     requires alike { is_apart scratch.old sayings.now.place ≡ false
-        → AreAlike explains sayings.now.findings.now sayings.now.place }
+        → AreAlike sayings.now.findings.now sayings.now.place }
     requires fit { is_apart scratch.old sayings.now.place ≡ true
         → FitIn scratch.old.room (said_by (members_told explains) sayings.now) }
     ensures text { text.new ≡ adding text.old

@@ -16,7 +16,8 @@ use Rattle.ll_explanations.specs.Findings.{FindingValue, answer_in, kept_at, sai
 use Rattle.ll_explain.specs.Told.{said_text, text_told}
 use Rattle.ll_report.specs.declared.options.Shown.{Shown}
 use Rattle.ll_report.specs.declared.spans.Form.TheVariants.{Answers, Explanations}
-use Rattle.ll_report.specs.Scratches.{AnswerAs, AreAlike, told_under, verdict_told}
+use Rattle.ll_explanations.specs.Alike.{AreAlike, FindsAs}
+use Rattle.ll_report.specs.Scratches.{told_under, verdict_told}
 use Rattle.ll_report.specs.Blocks.{block_of}
 use Rattle.ll_report.specs.Found.{Found, answer_at, explanation_at}
 use Rattle.ll_report.specs.Lines.{line_of, verdict_of}
@@ -106,31 +107,27 @@ alike_said said seen same (finding ∷ others) all = (
   alike_said said seen same others (All-tail (λ f. said (seen f) ≡ same) finding others all),
 )
 
-pub weaker : (explains : Bool) (findings : List FindingValue) (place : ℕ) → AreAlike explains findings place → AreAlike false findings place
-weaker explains [] place are = are
-weaker explains (first ∷ others) place are = (are.0, λ is. absurd (false≢true is))
-
 answer_so : (seen : FindingValue → Found) (place : ℕ) → ((f : FindingValue) → answer_at (seen f) place ≡ answer_in f place)
-    → (one : FindingValue) (others : List FindingValue) → AnswerAs one others place
+    → (one : FindingValue) (others : List FindingValue) → All (FindsAs one place) others
     → IsSaid (λ (found : Found). answer_at found place) (answer_in one place) (map seen (one ∷ others))
 answer_so seen place same one others are = (
   omega arith,
   alike_said (λ (found : Found). answer_at found place) seen (answer_in one place) (one ∷ others)
       (All-cons (λ f. answer_at (seen f) place ≡ answer_in one place) one others (same one)
-      (All-weaker (λ f. answer_in f place ≡ answer_in one place) (λ f. answer_at (seen f) place ≡ answer_in one place) (λ f is. same f ∙ is) others are)),
+      (All-weaker (FindsAs one place) (λ f. answer_at (seen f) place ≡ answer_in one place) (λ f is. same f ∙ is.0) others are)),
 )
 
 -- whether it is left out
-pub alike_out : (shown : Shown) (explains : Bool) (findings : List FindingValue) (place : ℕ) (one : FindingValue) (others : List FindingValue)
-    → findings ≡ one ∷ others → AreAlike explains findings place
+pub alike_out : (shown : Shown) (findings : List FindingValue) (place : ℕ) (one : FindingValue) (others : List FindingValue)
+    → findings ≡ one ∷ others → AreAlike findings place
     → is_left_out shown (verdict_of (answer_in one place)) ≡ is_row_left_out shown (answers_in findings) place
-alike_out shown explains findings place one others is are =
+alike_out shown findings place one others is are =
     sym (left_out_alike shown (answers_in (one ∷ others)) place (answer_in one place)
-    (answer_so answered place (λ f. refl) one others (subst (λ fs. AreAlike explains fs place) is are).0))
+    (answer_so answered place (λ f. refl) one others (subst (λ fs. AreAlike fs place) is are)))
     ∙ ap (λ fs. is_row_left_out shown (answers_in fs) place) (sym is)
 
 module _ (tree : List Entry) (records : List Record) (place oldest : ℕ) (one : FindingValue) (others : List FindingValue) where
-  behind_same : (explains : Bool) → AreAlike explains (one ∷ others) place
+  behind_same : (explains : Bool) → AreAlike (one ∷ others) place
       → behind_line explains (text_told tree records one place)
       ≡ behind_line explains (versions_text Explanations oldest (explanations_said (founds_in explains tree records (one ∷ others)) place))
   behind_same false are = refl
@@ -138,8 +135,7 @@ module _ (tree : List Entry) (records : List Record) (place oldest : ℕ) (one :
       let said : FindingValue → Type 0 = λ f. explanation_at (found_in true tree records f) place ≡ text_told tree records one place in
       let all : All said (one ∷ others) =
       All-cons said one others (explained_in tree records one place)
-      (All-weaker (λ f. kept_at f place ≡ kept_at one place) said (λ f same. explained_in tree records f place ∙ same_text tree records f one place same) others
-      (are.1 refl)) in
+      (All-weaker (FindsAs one place) said (λ f same. explained_in tree records f place ∙ same_text tree records f one place same.1) others are) in
       sym (versions_alike (λ (found : Found). explanation_at found place) (λ (text : List ℕ). text) (text_told tree records one place) Explanations oldest
       (founds_in true tree records (one ∷ others)) (
         omega arith,
@@ -147,7 +143,7 @@ module _ (tree : List Entry) (records : List Record) (place oldest : ℕ) (one :
             (one ∷ others) all,
       ))
 
-  first_shown : (shown : Shown) (r : Record) → AreAlike shown.explanations (one ∷ others) place
+  first_shown : (shown : Shown) (r : Record) → AreAlike (one ∷ others) place
       → block_of shown tree records one place r ≡ row_text shown oldest (founds_in shown.explanations tree records (one ∷ others)) place (told_of r)
   first_shown shown r are =
       go (cases_Bool (is_left_out shown (verdict_of answer))) where
@@ -158,7 +154,7 @@ module _ (tree : List Entry) (records : List Record) (place oldest : ℕ) (one :
         founds = founds_in shown.explanations tree records (one ∷ others)
 
         said : IsSaid (λ (found : Found). answer_at found place) answer founds
-        said = answer_so (found_in shown.explanations tree records) place (λ f. refl) one others are.0
+        said = answer_so (found_in shown.explanations tree records) place (λ f. refl) one others are
 
         go : (is_left_out shown (verdict_of answer) ≡ true) ⊎ (is_left_out shown (verdict_of answer) ≡ false)
             → block_of shown tree records one place r ≡ row_text shown oldest founds place (told_of r)
@@ -169,10 +165,10 @@ module _ (tree : List Entry) (records : List Record) (place oldest : ℕ) (one :
 
 -- what is shown of a record of which all versions find the same, is what one of them shows
 pub shown_alike : (shown : Shown) (oldest : ℕ) (tree : List Entry) (records : List Record) (findings : List FindingValue) (place : ℕ) (r : Record)
-    (one : FindingValue) (others : List FindingValue) → findings ≡ one ∷ others → AreAlike shown.explanations findings place
+    (one : FindingValue) (others : List FindingValue) → findings ≡ one ∷ others → AreAlike findings place
     → block_of shown tree records one place r ≡ row_text shown oldest (founds_in shown.explanations tree records findings) place (told_of r)
 shown_alike shown oldest tree records findings place r one others is are =
-    first_shown tree records place oldest one others shown r (subst (λ fs. AreAlike shown.explanations fs place) is are)
+    first_shown tree records place oldest one others shown r (subst (λ fs. AreAlike fs place) is are)
     ∙ ap (λ fs. row_text shown oldest (founds_in shown.explanations tree records fs) place (told_of r)) (sym is)
 
 -- ---- records about which versions may differ
@@ -260,6 +256,27 @@ count_same p q same (x ∷ xs) =
     ) where
       one : cond {A = ℕ} (p x) 1 0 ≡ cond (q x) 1 0
       one = ap {B = ℕ} (λ (b : Bool). cond b 1 0) (same x)
+
+-- where versions find the same, some version refuses exactly when the first one does
+abbrev refused_by : ℕ → FindingValue → Bool
+refused_by place finding = is_refused (verdict_of (answer_in finding place))
+
+none_refuses : (place : ℕ) (one : FindingValue) (others : List FindingValue) → All (FindsAs one place) others → refused_by place one ≡ false
+    → some_refuses others place ≡ false
+none_refuses place one [] are none = refl
+none_refuses place one (other ∷ more) are none =
+    let same : refused_by place other ≡ false =
+    ap (λ (answer : Answer). is_refused (verdict_of answer)) (All-head (FindsAs one place) other more are).0 ∙ none in
+    rw same (none_refuses place one more (All-tail (FindsAs one place) other more are) none)
+
+pub first_refuses : (place : ℕ) (one : FindingValue) (others findings : List FindingValue) → findings ≡ one ∷ others → AreAlike findings place
+    → is_refused (verdict_of (answer_in one place)) ≡ some_refuses findings place
+first_refuses place one others findings is are =
+    by_cases (cases_Bool (refused_by place one)) ∙ ap (λ (fs : List FindingValue). some_refuses fs place) (sym is)
+  where
+    by_cases : (refused_by place one ≡ true) ⊎ (refused_by place one ≡ false) → refused_by place one ≡ some_refuses (one ∷ others) place
+    by_cases (inl refused) = rw refused refl
+    by_cases (inr none) = none ∙ sym (rw none (none_refuses place one others (subst (λ (fs : List FindingValue). AreAlike fs place) is are) none))
 
 pub same_refused : (explains : Bool) (tree : List Entry) (records : List Record) (findings : List FindingValue) (count : ℕ)
     → count_by (some_refuses findings) (range_with_len 0 count)

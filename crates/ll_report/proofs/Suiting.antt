@@ -8,7 +8,8 @@ use Rattle.std.specs.Prelude.{unwrap_or}
 use Rattle.ll_tree.specs.Trees.{Entry}
 use Rattle.ll_trace.specs.declared.op.Record.{Record}
 use Rattle.ll_explanations.specs.Findings.{FindingValue}
-use Rattle.ll_report.specs.Scratches.{AreAlike, FitIn, told_under, verdict_told}
+use Rattle.ll_explanations.specs.Alike.{AreAlike}
+use Rattle.ll_report.specs.Scratches.{FitIn, told_under, verdict_told}
 
 abbrev pub found_apart : List Bool → ℕ → Bool
 found_apart apart place = unwrap_or (slice_get apart place) false
@@ -17,10 +18,10 @@ found_apart apart place = unwrap_or (slice_get apart place) false
 abbrev pub Telling : Type 0
 Telling = List Entry → List Record → FindingValue → ℕ → List ℕ
 
-pub record IsSuitedBefore (told : Telling) (explains : Bool) (tree : List Entry) (records : List Record) (findings : List FindingValue)
+pub record IsSuitedBefore (told : Telling) (tree : List Entry) (records : List Record) (findings : List FindingValue)
     (apart : List Bool) (longest place : ℕ) : Type 0 where
   pub as_many : length apart ≡ place
-  pub alike : (k : ℕ) → k < place → found_apart apart k ≡ false → AreAlike explains findings k
+  pub alike : (k : ℕ) → k < place → found_apart apart k ≡ false → AreAlike findings k
   pub verdicts : longest < 2 ^ 63 → (k : ℕ) → found_apart apart k ≡ true → FitIn longest (told_under verdict_told tree records findings k)
   pub texts : longest < 2 ^ 63 → (k : ℕ) → found_apart apart k ≡ true → FitIn longest (told_under told tree records findings k)
 
@@ -48,8 +49,8 @@ apart_here [] one = refl
 apart_here (first ∷ others) one = apart_here others one
 
 -- one more record is measured
-module _ (told : Telling) (explains : Bool) (tree : List Entry) (records : List Record) (findings : List FindingValue) (apart after : List Bool) (one : Bool)
-    (longest next place : ℕ) (so_far : IsSuitedBefore told explains tree records findings apart longest place) (pushed : after ≡ apart ++ one ∷ [])
+module _ (told : Telling) (tree : List Entry) (records : List Record) (findings : List FindingValue) (apart after : List Bool) (one : Bool)
+    (longest next place : ℕ) (so_far : IsSuitedBefore told tree records findings apart longest place) (pushed : after ≡ apart ++ one ∷ [])
     (greater : longest ≤ next) where
   later : (form : Telling) → (longest < 2 ^ 63 → (k : ℕ) → found_apart apart k ≡ true → FitIn longest (told_under form tree records findings k))
       → (one ≡ true → next < 2 ^ 63 → FitIn next (told_under form tree records findings place))
@@ -60,10 +61,10 @@ module _ (told : Telling) (explains : Bool) (tree : List Entry) (records : List 
         subst (λ n. FitIn next (told_under form tree records findings n)) (sym (last.0 ∙ so_far.as_many)) (new last.1 small)
   ]
 
-  pub one_more : (one ≡ false → AreAlike explains findings place)
+  pub one_more : (one ≡ false → AreAlike findings place)
       → (one ≡ true → next < 2 ^ 63 → FitIn next (told_under verdict_told tree records findings place))
       → (one ≡ true → next < 2 ^ 63 → FitIn next (told_under told tree records findings place))
-      → IsSuitedBefore told explains tree records findings after next (place + 1)
+      → IsSuitedBefore told tree records findings after next (place + 1)
   one_more alike verdicts texts = record {
     as_many = ap length pushed ∙ length-append apart (one ∷ []) ∙ ap (λ n. n + 1) so_far.as_many;
     alike = λ k below is. elim (cases_lt k place) [
@@ -72,7 +73,7 @@ module _ (told : Telling) (explains : Bool) (tree : List Entry) (records : List 
       | inr here ↦
           let same : k ≡ place = omega (arith, here, below) in
           let none : one ≡ false = sym (apart_here apart one) ∙ ap₂ found_apart (sym pushed) (so_far.as_many ∙ sym same) ∙ is in
-          subst (AreAlike explains findings) (sym same) (alike none)
+          subst (AreAlike findings) (sym same) (alike none)
     ];
     verdicts = later verdict_told so_far.verdicts verdicts;
     texts = later told so_far.texts texts;

@@ -1,27 +1,13 @@
--- What versions find alike of a record, what is kept to compare what they say of it, and what they say.
+-- What is kept to compare what versions say of a record, and what they say.
 -- Source: docs/FORMATS.md, "Several versions"; the buffers are the code's own.
 use Rattle.std.specs.Prelude.{◌≡◌, ◌<◌, ◌≤◌, ℕ, Bool, [], ◌∷◌, true, false, List, All, length, map, slice_get, unwrap_or}
 use Rattle.ll_tree.specs.Trees.{Entry}
 use Rattle.ll_trace.specs.declared.op.Record.{Record}
-use Rattle.ll_explanations.specs.Findings.{FindingValue, answer_in, kept_at}
+use Rattle.ll_explanations.specs.Alike.{AreAlike}
+use Rattle.ll_explanations.specs.Findings.{FindingValue, answer_in}
 use Rattle.ll_report.specs.Lines.{verdict_of}
 use Rattle.ll_report.specs.Report.{verdict_text}
 use Rattle.ll_report.specs.declared.sayings.Sayings.{Sayings}
-
--- ---- what versions find alike of a record
-
--- each version answers the record at a place as one does
-abbrev pub AnswerAs : FindingValue → List FindingValue → ℕ → Type 0
-AnswerAs one findings place = All (λ finding. answer_in finding place ≡ answer_in one place) findings
-
--- each version explains it by the same value
-abbrev pub ExplainAs : FindingValue → List FindingValue → ℕ → Type 0
-ExplainAs one findings place = All (λ finding. kept_at finding place ≡ kept_at one place) findings
-
--- there is a version, and all answer alike, and explain alike if explanations are kept
-abbrev pub AreAlike : Bool → List FindingValue → ℕ → Type 0
-AreAlike explains [] place = ⊥
-AreAlike explains (first ∷ others) place = AnswerAs first others place × (explains ≡ true → ExplainAs first others place)
 
 -- ---- what is kept to compare what versions say
 
@@ -52,9 +38,9 @@ abbrev pub FitIn : ℕ → List (List ℕ) → Type 0
 FitIn room texts = All (λ text. length text ≤ room) texts
 
 -- versions find alike of a record, or what they say of it can be held
-pub record Suits (told : List Entry → List Record → FindingValue → ℕ → List ℕ) (explains : Bool) (tree : List Entry) (records : List Record)
+pub record Suits (told : List Entry → List Record → FindingValue → ℕ → List ℕ) (tree : List Entry) (records : List Record)
     (findings : List FindingValue) (scratch : ScratchValue) : Type 0 where
-  pub alike : (place : ℕ) → place < length records → is_apart scratch place ≡ false → AreAlike explains findings place
+  pub alike : (place : ℕ) → place < length records → is_apart scratch place ≡ false → AreAlike findings place
   pub verdicts : (place : ℕ) → is_apart scratch place ≡ true → FitIn scratch.room (told_under verdict_told tree records findings place)
   pub texts : (place : ℕ) → is_apart scratch place ≡ true → FitIn scratch.room (told_under told tree records findings place)
 

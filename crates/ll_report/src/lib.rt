@@ -1,7 +1,6 @@
 //! The report: of each record its line and its explanation, and the totals, under one version and over several.
 #![tactic(auto)]
 
-mod alike;
 mod blocks;
 mod laws;
 mod made;

@@ -4,7 +4,8 @@ ghost use Rattle.std.specs.Prelude.{◌≡◌, ◌+◌, ◌<◌, ◌^◌, ◌&&�
 ghost use Rattle.std.specs.List.{range_with_len};
 ghost use Rattle.ll_explain.specs.Buffers.{adding};
 ghost use Rattle.ll_report.specs.Rows.{is_row_left_out};
-ghost use Rattle.ll_report.specs.Scratches.{AreAlike, FitIn, is_apart, said_by, verdict_told};
+ghost use Rattle.ll_explanations.specs.Alike.{AreAlike};
+ghost use Rattle.ll_report.specs.Scratches.{FitIn, is_apart, said_by, verdict_told};
 ghost use Rattle.ll_report.specs.Versions.{answers_in, row_of, some_refuses};
 ghost use Rattle.ll_explain.specs.Told.{text_told};
 
@@ -17,7 +18,7 @@ use crate::spans::Form;
 use crate::telling::{InWords, Verdicts};
 use crate::text_pair::TextPair;
 use ll_explain::{TextBuffer, push_words};
-use ll_explanations::Finding;
+use ll_explanations::{Finding, Findings};
 use ll_trace::Record;
 
 /// Whether some version refuses the record at a place.
@@ -29,12 +30,25 @@ fn some_refuses(findings: &[Finding], place: usize) -> bool
         .any(|finding| is_refused(&finding.answer(place)))
 }
 
+/// Whether some version refuses the record at a place. Where they find the same, the first one tells.
+fn is_refused_under_some(findings: &Findings, place: usize) -> bool
+    ensures { result ≡ some_refuses findings.now place }
+{
+    if findings.is_apart(place) {
+        return some_refuses(findings.as_slice(), place);
+    }
+    match findings.as_slice().split_first() {
+        Some((first, _)) => is_refused(&first.answer(place)),
+        None => false,
+    }
+}
+
 /// How many records some version refuses, of this many.
-pub fn refused_under_some(findings: &[Finding], records: usize) -> u64
+pub fn refused_under_some(findings: &Findings, records: usize) -> u64
     ensures { result ≡ count_by (some_refuses findings.now) (range_with_len 0 records) }
 {
     (0..records)
-        .filter(|place| some_refuses(findings, *place))
+        .filter(|place| is_refused_under_some(findings, *place))
         .count() as u64
 }
 
@@ -63,7 +77,7 @@ fn is_apart_left_out(shown: Shown, sayings: &Sayings<'_>, pair: &mut TextPair) -
 
 /// Whether a record about which versions agree is left out of what is shown.
 fn is_alike_left_out(shown: Shown, sayings: &Sayings<'_>) -> bool
-    requires { AreAlike false sayings.now.findings.now sayings.now.place }
+    requires { AreAlike sayings.now.findings.now sayings.now.place }
     ensures { result
         ≡ is_row_left_out shown (answers_in sayings.now.findings.now) sayings.now.place }
 {
@@ -77,7 +91,7 @@ fn is_alike_left_out(shown: Shown, sayings: &Sayings<'_>) -> bool
 /// these findings.
 pub fn is_left_out(shown: Shown, sayings: &Sayings<'_>, scratch: &mut Scratch) -> bool
     requires alike { is_apart scratch.old sayings.now.place ≡ false
-        → AreAlike false sayings.now.findings.now sayings.now.place }
+        → AreAlike sayings.now.findings.now sayings.now.place }
     requires fit { is_apart scratch.old sayings.now.place ≡ true
         → FitIn scratch.old.room (said_by verdict_told sayings.now) }
     ensures out { result
@@ -103,8 +117,7 @@ pub(crate) struct Row<'f> {
 impl<'f> Row<'f> {
     /// Adds what is shown of the record, where all versions find the same.
     fn push_alike(&self, text: &mut TextBuffer)
-        requires { AreAlike self.now.shown.explanations self.now.sayings.findings.now
-            self.now.sayings.place }
+        requires { AreAlike self.now.sayings.findings.now self.now.sayings.place }
         ensures { text.new ≡ adding text.old (row_of self.now) }
     {
         let Some((first, _)) = self.sayings.findings.split_first() else {
@@ -149,8 +162,7 @@ impl<'f> Row<'f> {
     pub(crate) fn push_to(&self, text: &mut TextBuffer, scratch: &mut Scratch)
         requires few { self.now.oldest + length self.now.sayings.findings.now < 2 ^ 64 }
         requires alike { is_apart scratch.old self.now.sayings.place ≡ false
-            → AreAlike self.now.shown.explanations self.now.sayings.findings.now
-            self.now.sayings.place }
+            → AreAlike self.now.sayings.findings.now self.now.sayings.place }
         requires verdicts { is_apart scratch.old self.now.sayings.place ≡ true
             → FitIn scratch.old.room (said_by verdict_told self.now.sayings) }
         requires texts { is_apart scratch.old self.now.sayings.place ≡ true

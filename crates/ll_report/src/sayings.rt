@@ -1,10 +1,9 @@
 //! What versions say of a record.
 
-ghost use Rattle.std.specs.Prelude.{◌≡◌, ◌<◌, ◌≤◌, ◌-◌, ◌^◌, [], false, get_or, length, true};
+ghost use Rattle.std.specs.Prelude.{◌≡◌, ◌<◌, ◌≤◌, ◌-◌, ◌^◌, [], get_or, length, true};
 ghost use Rattle.ll_explain.specs.Buffers.{adding};
-ghost use Rattle.ll_report.specs.Scratches.{AreAlike, FitIn, said_by, told_under, verdict_told};
+ghost use Rattle.ll_report.specs.Scratches.{FitIn, said_by, told_under, verdict_told};
 
-use crate::alike::are_alike;
 use crate::telling::{Saying, Telling, Verdicts};
 use ll_explain::TextBuffer;
 use ll_explanations::Finding;
@@ -94,30 +93,28 @@ impl<'f> Sayings<'f> {
         longest
     }
 
-    /// Whether versions may differ about the record, and then a length that no text of it exceeds.
+    /// A length that no text of the record exceeds, if versions may differ about it, or another length that is greater. A
+    /// length from 2 ^ 63 on says nothing.
     pub(crate) fn measured<T: Telling>(
         &self,
         measure: &mut TextBuffer,
-        explains: bool,
+        is_apart: bool,
         least: usize,
-    ) -> (bool, usize)
+    ) -> usize
         requires { measure.old.room ≡ 0 }
-        ensures least { least ≤ result.1 }
-        ensures alike { result.0 ≡ false
-            → AreAlike explains self.now.findings.now self.now.place }
-        ensures verdicts { result.0 ≡ true → result.1 < 2 ^ 63 → FitIn result.1
+        ensures least { least ≤ result }
+        ensures verdicts { is_apart ≡ true → result < 2 ^ 63 → FitIn result
             (told_under verdict_told self.now.tree.now self.now.records.now
             self.now.findings.now self.now.place) }
-        ensures texts { result.0 ≡ true → result.1 < 2 ^ 63 → FitIn result.1
+        ensures texts { is_apart ≡ true → result < 2 ^ 63 → FitIn result
             (told_under T.told self.now.tree.now self.now.records.now
             self.now.findings.now self.now.place) }
         ensures room { measure.new.room ≡ 0 }
     {
-        if are_alike(self.findings, explains, self.place) {
-            return (false, least);
+        if !is_apart {
+            return least;
         }
         let verdicts = self.longest::<Verdicts>(measure, least);
-        let length = self.longest::<T>(measure, verdicts);
-        (true, length)
+        self.longest::<T>(measure, verdicts)
     }
 }

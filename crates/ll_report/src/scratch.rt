@@ -7,7 +7,7 @@ use crate::sayings::Sayings;
 use crate::telling::Telling;
 use crate::text_pair::TextPair;
 use ll_explain::TextBuffer;
-use ll_explanations::Finding;
+use ll_explanations::Findings;
 use ll_trace::Record;
 use ll_tree::Tree;
 use std::alloc::{AllocError, Global};
@@ -36,24 +36,23 @@ impl Scratch {
         alloc: Global,
         tree: &Tree,
         records: &[Record],
-        findings: &[Finding],
-        explains: bool,
+        findings: &Findings,
     ) -> Result<Scratch, AllocError>
-        ensures { IfOk result (Suits T.told explains tree.now records.now findings.now) }
+        ensures { IfOk result (Suits T.told tree.now records.now findings.now) }
     {
         let mut measure = TextBuffer::measure(alloc);
         let mut apart = Vec::with_capacity(alloc, records.len())?;
         let mut longest = 0;
         for place in 0..records.len() {
+            let is_apart = findings.is_apart(place);
             let sayings = Sayings {
                 tree,
                 records,
-                findings,
+                findings: findings.as_slice(),
                 place,
             };
-            let (is_apart, length) = sayings.measured::<T>(&mut measure, explains, longest);
+            longest = sayings.measured::<T>(&mut measure, is_apart, longest);
             apart.push(is_apart)?;
-            longest = length;
         }
         Ok(Scratch {
             apart,

@@ -14,7 +14,7 @@ use crate::sayings::Sayings;
 use crate::scratch::Scratch;
 use crate::telling::InWords;
 use ll_explain::TextBuffer;
-use ll_explanations::Finding;
+use ll_explanations::{Finding, Findings};
 use ll_trace::Located;
 use std::alloc::{AllocError, Global};
 use std::marker::Model;
@@ -24,7 +24,7 @@ use std::marker::Model;
 #[derive(Drop)]
 pub struct VersionRows {
     located: Located,
-    findings: Vec<Finding>,
+    findings: Findings,
     shown: Shown,
     oldest: u64,
     scratch: Scratch,
@@ -39,12 +39,11 @@ impl Model for VersionRows {
     ghost Value = { Made };
 
     ghost view = { λ rows. rows_made rows.shown rows.oldest (founds_in rows.shown.explanations
-        rows.located.tree rows.located.trace rows.findings.items) rows.located.trace };
+        rows.located.tree rows.located.trace rows.findings) rows.located.trace };
 
     ghost invariant = { λ rows.
-        Suits text_told rows.shown.explanations rows.located.tree rows.located.trace
-        rows.findings.items rows.scratch
-        × (rows.oldest + length rows.findings.items < 2 ^ 64) };
+        Suits text_told rows.located.tree rows.located.trace rows.findings rows.scratch
+        × (rows.oldest + length rows.findings < 2 ^ 64) };
 }
 
 impl VersionRows {
@@ -52,20 +51,19 @@ impl VersionRows {
     pub fn of(
         alloc: Global,
         located: Located,
-        findings: Vec<Finding>,
+        findings: Findings,
         shown: Shown,
         oldest: u64,
     ) -> Result<VersionRows, AllocError>
-        requires { oldest + length findings.items < 2 ^ 64 }
+        requires { oldest + length findings < 2 ^ 64 }
         ensures { IfOk result (λ rows. rows ≡ rows_made shown oldest (founds_in shown.explanations
-            located.tree located.trace findings.items) located.trace) }
+            located.tree located.trace findings) located.trace) }
     {
         let scratch = Scratch::of::<InWords>(
             alloc,
             &located.tree,
             located.trace.records(),
             &findings,
-            shown.explanations,
         )?;
         Ok(VersionRows {
             located,
@@ -114,7 +112,7 @@ impl Rows for VersionRows {
                 sayings: Sayings {
                     tree: &located.tree,
                     records,
-                    findings: &self.findings,
+                    findings: self.findings.as_slice(),
                     place,
                 },
             };
@@ -123,7 +121,7 @@ impl Rows for VersionRows {
     }
 
     fn push_last(&mut self, text: &mut TextBuffer) {
-        push_totals(text, self.oldest, &self.findings);
+        push_totals(text, self.oldest, self.findings.as_slice());
     }
 }
 
@@ -132,15 +130,15 @@ impl Rows for VersionRows {
 pub fn report_over(
     alloc: Global,
     located: Located,
-    findings: Vec<Finding>,
+    findings: Findings,
     shown: Shown,
     oldest: u64,
 ) -> Result<RowReport<VersionRows>, AllocError>
-    requires { oldest + length findings.items < 2 ^ 64 }
+    requires { oldest + length findings < 2 ^ 64 }
     ensures text { IfOk result (λ report. report.text ≡ rows_text shown oldest (founds_in
-        shown.explanations located.tree located.trace findings.items) located.trace) }
+        shown.explanations located.tree located.trace findings) located.trace) }
     ensures refused { IfOk result (λ report. report.refused ≡ refused_under_some (founds_in
-        shown.explanations located.tree located.trace findings.items) located.trace) }
+        shown.explanations located.tree located.trace findings) located.trace) }
 {
     let refused = refused_under_some(&findings, located.trace.records().len());
     let rows = VersionRows::of(alloc, located, findings, shown, oldest)?;

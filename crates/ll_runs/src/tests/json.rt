@@ -1,7 +1,7 @@
 //! Reports as JSON, as the documents say them.
 
 use ll_audit::{ALL_LINES, Report, Shown};
-use ll_explanations::Finding;
+use ll_explanations::Findings;
 use ll_fixtures::TREE;
 use ll_json::json_report;
 use ll_pool::judge_alone;
@@ -85,17 +85,15 @@ fn found<R: Threads + AllocGlobal + Sync>(
     rt: &R,
     case: &Case,
     explains: bool,
-) -> Result<Finding, Fail> {
+) -> Result<Findings, Fail> {
     let alloc = rt.alloc();
     let answers = judge_alone(alloc, case)?;
     let view = CaseView::of(case);
-    Ok(Finding::of(rt, alloc, &view, answers, explains, None, 1)?)
+    Ok(Findings::none(alloc).with(rt, alloc, &view, answers, explains, 1)?)
 }
 
 /// The report on what was found of a case.
-fn report_of(alloc: Global, case: Case, finding: Finding, shown: Shown) -> Result<Report, Fail> {
-    let mut findings = Vec::new(alloc);
-    findings.push(finding)?;
+fn report_of(alloc: Global, case: Case, findings: Findings, shown: Shown) -> Result<Report, Fail> {
     let report = json_report(alloc, case.into_located(), findings, shown, 4, "7.8.9")?;
     Ok(report.into_report(alloc)?)
 }
@@ -107,8 +105,8 @@ fn is_reported<R: Threads + AllocGlobal + Sync>(
     lines: &str,
 ) -> Result<bool, Fail> {
     let case = case_of(rt.alloc())?;
-    let finding = found(rt, &case, shown.explanations)?;
-    let report = report_of(rt.alloc(), case, finding, shown)?;
+    let findings = found(rt, &case, shown.explanations)?;
+    let report = report_of(rt.alloc(), case, findings, shown)?;
     Ok(report.bytes.as_slice() == lines.as_bytes() && report.refused == 5)
 }
 

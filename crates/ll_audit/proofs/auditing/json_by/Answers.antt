@@ -18,8 +18,8 @@ returns-clause-report g c =
     let report = c.in_ok-report.report in
     let versions = versions_by options c.args.trace in
     let oldest = number_of options.abis.oldest in
-    let found : AreFound options.shown.explanations all.located.tree all.located.trace versions all.findings.items =
-    subst (λ (entries : List Entry). AreFound options.shown.explanations entries all.located.trace versions all.findings.items)
+    let found : AreFound options.shown.explanations all.located.tree all.located.trace versions all.findings =
+    subst (λ (entries : List Entry). AreFound options.shown.explanations entries all.located.trace versions all.findings)
     (sym c.in_ok-all.ensures.tree) c.in_ok-all.ensures.findings in
     subst (IsReportInJson options c.args.tree c.args.trace) (sym c.new.ensures)
     (same_report options.shown c.args.tree oldest oldest versions all.located.trace c.args.trace VERSION.now report refl c.in_ok-all.ensures.records

@@ -22,9 +22,9 @@ returns-clause-report g c =
     let hand = c.in_ok-all.all.located.trace in
     let oldest : ℕ = number_of options.abis.oldest in
     let all : List Found = findings options c.args.tree c.args.trace in
-    let same : founds_in options.shown.explanations c.in_ok-all.all.located.tree hand c.in_ok-all.all.findings.items ≡ all =
-    ap (λ (entries : List Entry). founds_in options.shown.explanations entries hand c.in_ok-all.all.findings.items) c.in_ok-all.ensures.tree
-    ∙ same_founds options.shown c.args.tree hand (versions_by options c.args.trace) c.in_ok-all.all.findings.items c.in_ok-all.ensures.findings
+    let same : founds_in options.shown.explanations c.in_ok-all.all.located.tree hand c.in_ok-all.all.findings ≡ all =
+    ap (λ (entries : List Entry). founds_in options.shown.explanations entries hand c.in_ok-all.all.findings) c.in_ok-all.ensures.tree
+    ∙ same_founds options.shown c.args.tree hand (versions_by options c.args.trace) c.in_ok-all.all.findings c.in_ok-all.ensures.findings
     ∙ found_each options c.args.tree c.args.trace in
     let told : map told_of hand ≡ map told_of c.args.trace = same_told hand c.args.trace c.in_ok-all.ensures.records in
     let many : length hand ≡ length c.args.trace = omega (arith, ap length told, length-map hand told_of, length-map c.args.trace told_of) in

@@ -8,7 +8,7 @@ use mir.Syntax.{Sym}
 use Rattle.std.proofs.Crossing.{crosses}
 use Rattle.ll_semantics.proofs.answer.Answer.TheSendSync as answer
 use Rattle.ll_process.proofs.Crossing.{case_sync, past_sync}
-use Rattle.ll_explanations.proofs.finding.Finding.TheSendSync as finding
+use Rattle.ll_explanations.proofs.findings.Findings.TheSendSync as findings
 use Rattle.ll_audit.proofs.judged.explain_beside.Lts as lts
 use Rattle.ll_audit.proofs.judged.explain_beside.Goals as goal
 
@@ -16,10 +16,10 @@ captures_send : (name : Sym) (Ts : List RattleType) → AllSend (shape (type_at 
 captures_send name Ts all = recorded_send (field_at name Ts).row _ _ (type_at name Ts).to_one (struct_send (shape (type_at name Ts)) all)
 
 -- what a closure captures goes to another thread with it, part by part; here what explains
-pub join-finding-requires-send-F : goal.join-finding-requires-send-F
-join-finding-requires-send-F g c κs within =
+pub join-findings-requires-send-F : goal.join-findings-requires-send-F
+join-findings-requires-send-F g c κs within =
     let name = lts.name-8 g.row.R g.row.G g.R.laws g.G.laws g.R.Threads-dict g.R.Wait-dict g.G.Gate-dict in
-    let Ts : List RattleType = lts.of-26 g.row.R g.row.G g.R.laws g.G.laws g.R.Threads-dict g.R.Wait-dict g.G.Gate-dict _ _ _ _ in
+    let Ts : List RattleType = lts.of-24 g.row.R g.row.G g.R.laws g.G.laws g.R.Threads-dict g.R.Wait-dict g.G.Gate-dict _ _ _ in
     let all : AllSend (shape (type_at name Ts)).fields = (
       search (c.type_bounds.sync-R, sendable) depth 20,
       (
@@ -30,7 +30,7 @@ join-finding-requires-send-F g c κs within =
             search (past_sync, sendable) depth 20,
             (
               search (answer.the_send, crosses, sendable) depth 40,
-              (search sendable depth 20, (search (finding.the_sync, crosses, sendable) depth 40, (search sendable depth 20, tt))),
+              (search sendable depth 20, (search (findings.the_send, crosses, sendable) depth 40, (search sendable depth 20, tt))),
             ),
           ),
         ),

@@ -1,4 +1,4 @@
-use Rattle.std.proofs.Common.{◌≡◌, ◌∙◌, ℕ, List, ap, ap₂, length, subst, sym}
+use Rattle.std.proofs.Common.{◌≡◌, ◌∙◌, ℕ, List, ap, length, subst, sym}
 use Rattle.std.specs.Prelude.{count_by}
 use Rattle.std.specs.List.{range_with_len}
 use Rattle.std.proofs.lemmas.Result.{IfOk-weaker}
@@ -18,11 +18,11 @@ returns c =
     let tree = a.located.tree in
     let later : List Record = a.located.trace in
     let told : Made → ℕ → Told = λ (made : Made) (refused : ℕ). record { text = text_of made; refused = refused } in
-    let made : Made = json_made a.shown a.oldest tree later a.findings.items a.program.now in
+    let made : Made = json_made a.shown a.oldest tree later a.findings a.program.now in
     let count : List FindingValue → List Record → ℕ = λ (findings : List FindingValue) (records : List Record).
     count_by (some_refuses findings) (range_with_len 0 (length records)) in
-    let refused : c.refused_under_some-refused.result ≡ count a.findings.items later =
-    c.refused_under_some-refused.ensures ∙ ap₂ count c.deref.ensures.value c.records.ensures.value in
+    let refused : c.refused_under_some-refused.result ≡ count a.findings later =
+    c.refused_under_some-refused.ensures ∙ ap (count a.findings) c.records.ensures.value in
     IfOk-weaker c.of.result _ _ (λ report is versions found.
     subst (λ (r : Told). IsJsonReport a.shown tree a.oldest versions later a.program.now r) (sym (is ∙ ap (told made) refused))
-    (report_is a.shown a.oldest tree versions later a.findings.items found a.program.now)) c.of.ensures
+    (report_is a.shown a.oldest tree versions later a.findings found a.program.now)) c.of.ensures

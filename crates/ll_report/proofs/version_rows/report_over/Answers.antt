@@ -1,7 +1,6 @@
-use Rattle.std.proofs.Common.{◌∙◌, ◌++◌, List, ℕ, length, ap, ap₂, count_by}
+use Rattle.std.proofs.Common.{◌∙◌, ◌++◌, List, ℕ, length, ap, count_by}
 use Rattle.std.specs.List.{range_with_len}
 use Rattle.ll_trace.specs.declared.op.Record.{Record}
-use Rattle.ll_explanations.specs.Findings.{FindingValue}
 use Rattle.ll_report.specs.Found.{Found}
 use Rattle.ll_report.specs.Made.{Made, text_of}
 use Rattle.ll_report.specs.Rows.{totals_from}
@@ -14,7 +13,7 @@ use Rattle.ll_report.proofs.version_rows.report_over.Goals as goal
 pub returns-clause-text : goal.returns-clause-text
 returns-clause-text c =
     let records : List Record = c.args.located.trace in
-    let founds : List Found = founds_in c.args.shown.explanations c.args.located.tree records c.args.findings.items in
+    let founds : List Found = founds_in c.args.shown.explanations c.args.located.tree records c.args.findings in
     ap (λ (t : Told). t.text) c.in_ok-report.ensures
     ∙ ap (λ (m : Made). text_of m) c.in_ok-rows.ensures
     ∙ ap (λ (rows : List ℕ). rows ++ totals_from c.args.oldest founds) (rows_are c.args.shown c.args.oldest founds 0 records)
@@ -24,6 +23,5 @@ returns-clause-refused c =
     let records : List Record = c.args.located.trace in
     ap (λ (t : Told). t.refused) c.in_ok-report.ensures
     ∙ c.refused_under_some-refused.ensures
-    ∙ ap₂ (λ (fs : List FindingValue) (rs : List Record). count_by (some_refuses fs) (range_with_len 0 (length rs))) c.deref.ensures.value
-    c.records.ensures.value
-    ∙ same_refused c.args.shown.explanations c.args.located.tree records c.args.findings.items (length records)
+    ∙ ap (λ (rs : List Record). count_by (some_refuses c.args.findings) (range_with_len 0 (length rs))) c.records.ensures.value
+    ∙ same_refused c.args.shown.explanations c.args.located.tree records c.args.findings (length records)

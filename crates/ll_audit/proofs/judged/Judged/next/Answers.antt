@@ -1,6 +1,6 @@
 use Rattle.std.proofs.Common.{◌∙◌, ap, subst, sym}
 use Rattle.ll_process.specs.Cases.{IsCase}
-use Rattle.ll_audit.specs.Cases.{FindsIn, judged_in}
+use Rattle.ll_audit.specs.Cases.{AddsFinding, judged_in}
 use Rattle.ll_audit.proofs.GoingOn.{still_that}
 use Rattle.ll_audit.proofs.judged.Judged.next.Goals as goal
 
@@ -18,11 +18,8 @@ explain_beside-requires-clause-answers g c κs within =
     c.in_ok-case.ensures.records))
 
 pub returns-clause-findings : goal.returns-clause-findings
-returns-clause-findings g c = (
-  c.in_ok-finding.finding,
-  c.in_ok-in_front.ensures,
-  subst (λ cv. FindsIn c.args.audit.now.options.now.shown.explanations cv c.in_ok-finding.finding)
-      (still_that c.args.audit.now.options.now.effort c.args.abi c.args.self.case c.in_ok-case.case c.in_ok-located.past
-      c.in_ok-located.located c.in_ok-located.ensures.tree c.in_ok-located.ensures.records c.in_ok-located.ensures.past c.in_ok-case.ensures.tree
-      c.in_ok-case.ensures.records) c.in_ok-finding.ensures.finding,
-)
+returns-clause-findings g c =
+    subst (λ cv. AddsFinding c.args.audit.now.options.now.shown.explanations cv c.args.self.newer c.in_ok-findings.findings)
+    (still_that c.args.audit.now.options.now.effort c.args.abi c.args.self.case c.in_ok-case.case c.in_ok-located.past
+    c.in_ok-located.located c.in_ok-located.ensures.tree c.in_ok-located.ensures.records c.in_ok-located.ensures.past c.in_ok-case.ensures.tree
+    c.in_ok-case.ensures.records) c.in_ok-findings.ensures.findings

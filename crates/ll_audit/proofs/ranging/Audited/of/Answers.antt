@@ -15,7 +15,7 @@ use Rattle.ll_audit.proofs.ranging.Audited.of.Goals as goal
 pub returns-clause-tree : goal.returns-clause-tree
 returns-clause-tree g c =
     IfOk-weaker c.finish.result _ _
-    (λ all comes. (c.in_ok-progress.ensures.through all.located.tree all.located.trace all.findings.items comes).same_tree ∙ c.in_ok-located.ensures.tree)
+    (λ all comes. (c.in_ok-progress.ensures.through all.located.tree all.located.trace all.findings comes).same_tree ∙ c.in_ok-located.ensures.tree)
     c.finish.ensures.found
 
 pub returns-clause-findings : goal.returns-clause-findings
@@ -23,11 +23,11 @@ returns-clause-findings g c =
     let options = c.args.audit.now.options.now in
     IfOk-weaker c.finish.result _ _
     (λ all comes.
-    subst (λ (records : List Record). AreFound options.shown.explanations c.args.tree all.located.trace (versions_by options records) all.findings.items)
+    subst (λ (records : List Record). AreFound options.shown.explanations c.args.tree all.located.trace (versions_by options records) all.findings)
     c.in_ok-located.ensures.trace
     (subst (λ (tree : List Entry). AreFound options.shown.explanations tree all.located.trace (versions_by options c.in_ok-located.located.trace)
-    all.findings.items) c.in_ok-located.ensures.tree
-    (c.in_ok-progress.ensures.through all.located.tree all.located.trace all.findings.items comes).found))
+    all.findings) c.in_ok-located.ensures.tree
+    (c.in_ok-progress.ensures.through all.located.tree all.located.trace all.findings comes).found))
     c.finish.ensures.found
 
 -- the numbers of versions are small, and there are few
@@ -41,13 +41,13 @@ returns-clause-few g c =
       small_number options.abis.oldest,
       few_asked options,
       length-map (versions_in options.abis) (version_at options located.trace),
-      AllZip-long (IsFound options.shown.explanations located.tree all.located.trace) (versions_by options located.trace) all.findings.items
-          (c.in_ok-progress.ensures.through all.located.tree all.located.trace all.findings.items comes).found,
+      AllZip-long (IsFound options.shown.explanations located.tree all.located.trace) (versions_by options located.trace) all.findings
+          (c.in_ok-progress.ensures.through all.located.tree all.located.trace all.findings comes).found,
     ))
     c.finish.ensures.found
 
 pub returns-clause-records : goal.returns-clause-records
 returns-clause-records g c =
     IfOk-weaker c.finish.result _ _
-    (λ all comes. (c.in_ok-progress.ensures.through all.located.tree all.located.trace all.findings.items comes).told
+    (λ all comes. (c.in_ok-progress.ensures.through all.located.tree all.located.trace all.findings comes).told
     ∙ ap (map about) c.in_ok-located.ensures.trace) c.finish.ensures.found

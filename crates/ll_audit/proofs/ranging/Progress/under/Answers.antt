@@ -20,7 +20,7 @@ returns-clause-further g c =
           subst (λ (self : Progress). GoesOn options abi self (progress.Judged judged)) (sym w.in-Begun.is)
           (subst (λ (one : Judged). GoesOn options abi (progress.Begun w.in-Begun.located) (progress.Judged one)) (sym w.judged-is)
           (goes_on_from_none options abi asked first.judged first.ensures.abi w.in-Begun.located first.ensures.tree first.ensures.records
-          (first.ensures.newer ∙ w.new-findings.ensures.items)))
+          (first.ensures.newer ∙ w.none-findings.ensures)))
       | in-Judged+in_ok-judged-in-Judged w ↦
           let next = w.in_ok-judged-in-Judged in
           subst (λ (self : Progress). GoesOn options abi self (progress.Judged judged)) (sym w.in-Judged.is)

@@ -10,5 +10,5 @@ returns c =
     let rows = c.self.inside in
     let records : List Record = rows.located.trace in
     ap (λ (rs : List Record). length rs) c.records.ensures.value
-    ∙ sym (length-rows (row_text rows.shown rows.oldest rows.located.tree records rows.findings.items) 0 records)
+    ∙ sym (length-rows (row_text rows.shown rows.oldest rows.located.tree records rows.findings) 0 records)
     ∙ ap (λ (made : Made). length made.shown) c.self.view_is

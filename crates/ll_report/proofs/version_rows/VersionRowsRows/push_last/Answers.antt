@@ -11,6 +11,6 @@ pub returns-clause-last : goal.returns-clause-last
 returns-clause-last c =
     let rows = c.self.inside in
     c.push_totals.ensures
-    ∙ ap (λ (fs : List FindingValue). adding c.args.text.now (totals_from rows.oldest (answers_in fs))) c.deref.ensures.value
-    ∙ ap (adding c.args.text.now) (same_totals rows.shown.explanations rows.located.tree rows.located.trace rows.oldest rows.findings.items)
+    ∙ ap (λ (fs : List FindingValue). adding c.args.text.now (totals_from rows.oldest (answers_in fs))) c.as_slice.ensures
+    ∙ ap (adding c.args.text.now) (same_totals rows.shown.explanations rows.located.tree rows.located.trace rows.oldest rows.findings)
     ∙ ap (λ (m : Made). adding c.args.text.now m.last) c.self.view_is

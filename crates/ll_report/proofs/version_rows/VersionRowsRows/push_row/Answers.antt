@@ -14,14 +14,14 @@ pub returns-in-Some-clause-row : goal.returns-in-Some-clause-row
 returns-in-Some-clause-row c =
     let rows = c.self.inside in
     let records : List Record = rows.located.trace in
-    let founds : List Found = founds_in rows.shown.explanations rows.located.tree records rows.findings.items in
+    let founds : List Found = founds_in rows.shown.explanations rows.located.tree records rows.findings in
     let row = found_row (λ k r. row_text rows.shown rows.oldest founds k (told_of r)) c.args.place records c.records-records.result.now
     (totals_from rows.oldest founds) c.in-Some.record.now c.records-records.ensures.value
     c.in-Some.ensures.lookup.0 c.in-Some.ensures.lookup.1 in
     c.push_to.ensures.text
     ∙ ap₂ (λ (rs : List Record) (fs : List FindingValue). adding c.args.text.now (row_text rows.shown rows.oldest
     (founds_in rows.shown.explanations rows.located.tree rs fs) c.args.place (told_of c.in-Some.record.now))) c.records-records.ensures.value
-    c.deref.ensures.value
+    c.as_slice.ensures
     ∙ ap (adding c.args.text.now) (sym row)
     ∙ ap (λ (m : Made). adding c.args.text.now (row_at m c.args.place)) c.self.view_is
 
@@ -29,7 +29,7 @@ pub returns-in_default-clause-row : goal.returns-in_default-clause-row
 returns-in_default-clause-row c =
     let rows = c.self.inside in
     let records : List Record = rows.located.trace in
-    let founds : List Found = founds_in rows.shown.explanations rows.located.tree records rows.findings.items in
+    let founds : List Found = founds_in rows.shown.explanations rows.located.tree records rows.findings in
     let none = no_row (λ k r. row_text rows.shown rows.oldest founds k (told_of r)) c.args.place records c.records-records.result.now
     (totals_from rows.oldest founds) c.records-records.ensures.value c.in_default.ensures.lookup.0 in
     adding_nothing c.args.text.now
