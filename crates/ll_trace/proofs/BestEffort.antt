@@ -52,6 +52,17 @@ role op = record {
   place = λ tree. first_place tree op;
 }
 
+-- the places of all first paths are those that the records name first
+pub first_places-read : (tree : List trees.Entry) (records : List Record) (places : List Place) → places ≡ map (λ r. first_place tree r.op) records
+    → AreFirstPlaces tree records places
+first_places-read tree records places are = rw are (first_places-each tree records)
+  where
+    first_places-each : (tree : List trees.Entry) (records : List Record) → AreFirstPlaces tree records (map (λ r. first_place tree r.op) records)
+    first_places-each tree [] k one r at_place at_record = absurd (none-some r at_record)
+    first_places-each tree (first ∷ rest) zero one r at_place at_record =
+        sym (same_Some (first_place tree first.op) one at_place) ∙ ap (λ (s : Record). first_place tree s.op) (same_Some first r at_record)
+    first_places-each tree (first ∷ rest) (suc k) one r at_place at_record = first_places-each tree rest k one r at_place at_record
+
 module _ (abi : Abi) where
   -- All calls whose rights best effort takes out, and what it makes of them, have one role.
   role-kept : (op : Op) → role (at_best_effort abi op) ≡ role op

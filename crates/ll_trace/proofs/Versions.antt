@@ -163,8 +163,6 @@ records-older older newer (r ∷ rs) le =
     ap (λ (op : Op). record r { op = op } ∷ records_at_best_effort older (records_at_best_effort newer rs)) (call-older older newer le r.op)
     ∙ ap (λ (others : List Record). record_at_best_effort older r ∷ others) (records-older older newer rs le)
 
-pub ruleset supported_by_version = (records-supported, records-older)
-
 pub ruleset other_names_stay = (other_name-stays, other_port_name-stays)
 
 -- All that unfolds when a call is made at best effort.

@@ -71,7 +71,6 @@ pub fn lines_say_operations_by_name()
 
 /// Best effort changes no record at a version that supports all rights that the records name. At an older version it
 /// makes the same from what a newer one left as from the records themselves.
-#[tactic(auto, using(crate::proofs::Versions::supported_by_version))]
 pub fn best_effort_by_version()
     ensures supported { (abi : Abi) (records : List Record)
         → All (λ r. IsSupported abi r.op) records

@@ -1,6 +1,9 @@
 //! Records: what a process did, and the process that a record belongs to.
 
-ghost use Rattle.std.specs.Prelude.{◌≡◌, IfOk, None, Some, if◌then◌else◌};
+ghost use Rattle.std.specs.Prelude.{◌≡◌, ◌&&◌, IfOk, None, Some, if◌then◌else◌};
+ghost use Rattle.ll_rights.specs.Rights as files;
+ghost use Rattle.ll_rights.specs.NetRights as network;
+ghost use Rattle.ll_tree.specs.Trees.{place};
 ghost use Rattle.ll_rights.specs.Supported.{supported_fs, supported_net};
 ghost use Rattle.ll_trace.specs.BestEffort.{at_best_effort, creates, adds_port, names_rights};
 
@@ -300,7 +303,7 @@ impl Op {
             wants_at_a_path!(path)
             | Op::OpenFile { path, .. }
             | Op::Rename { from: path, .. }
-            | Op::Link { from: path, .. } => tree.place_of(path.as_str()),
+            | Op::Link { from: path, .. } => place_at(tree, path),
             still_without_a_path!()
             | changes_without_names!()
             | Op::Create { .. }
@@ -383,6 +386,20 @@ impl Op {
     }
 }
 
+/// The place of a path.
+fn place_at(tree: &Tree, path: &PathText) -> Place
+    ensures { result ≡ place tree.now path.now }
+{
+    tree.place_of(path.as_str())
+}
+
+/// Whether two sets have no right.
+fn are_empty(fs: Fs, net: Net) -> bool
+    ensures { result ≡ (files.is_empty fs && network.is_empty net) }
+{
+    fs.is_empty() && net.is_empty()
+}
+
 /// What a program calls for a `create`: if none of its rights is supported, the program does without a
 /// ruleset, and is judged with one that handles nothing.
 fn created(rs: u64, fs: Fs, net: Net, abi: Abi) -> Op
@@ -390,7 +407,7 @@ fn created(rs: u64, fs: Fs, net: Net, abi: Abi) -> Op
 {
     let supported = fs.supported(abi);
     let ports = net.supported(abi);
-    if supported.is_empty() && ports.is_empty() && !(fs.is_empty() && net.is_empty()) {
+    if are_empty(supported, ports) && !are_empty(fs, net) {
         Op::CreateEmpty { rs }
     } else {
         Op::Create {
