@@ -38,9 +38,8 @@ impl Domain {
     pub fn new() -> Domain
         ensures { result ≡ [] }
     {
-        Domain {
-            ids: ArrayVec::new(),
-        }
+        let ids = ArrayVec::new();
+        Domain { ids }
     }
 
     /// The layers, the oldest first.

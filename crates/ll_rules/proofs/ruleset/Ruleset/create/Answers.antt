@@ -1,8 +1,9 @@
-use Rattle.std.proofs.Common.{◌∙◌, sym, refl}
+use Rattle.std.proofs.Common.{◌≡◌, ◌∙◌, false, sym, refl}
 use Rattle.std.specs.Ordering.{nat_cmp}
 use Rattle.std.specs.FinMap.{get-empty}
 use Rattle.ll_rights.specs.Rights as files
 use Rattle.ll_rights.specs.NetRights as network
+use Rattle.ll_rules.specs.Rulesets.{has_ports}
 use Rattle.ll_rules.proofs.RightSets.{fs_within_known, net_within_known}
 use Rattle.ll_rules.proofs.Lookups.{no_entries}
 use Rattle.ll_rules.proofs.ruleset.Ruleset.create.Goals as goal
@@ -17,3 +18,10 @@ invariant_of-result c = (
 
 pub returns-clause-made : goal.returns-clause-made
 returns-clause-made c = rw (no_entries c.new-2.result c.new-2.ensures, no_entries c.new-3.result c.new-3.ensures) refl
+
+-- rights for the network, and a version without such rights
+pub returns-then-not-ports_are_known-clause-fault : goal.returns-then-not-ports_are_known-clause-fault
+returns-then-not-ports_are_known-clause-fault c =
+    let named : network.is_empty c.args.network ≡ false = sym c.is_empty.ensures ∙ c.if-not-is_empty.true in
+    let none : has_ports c.args.abi ≡ false = sym c.ports_are_known.ensures ∙ c.if-not-ports_are_known.true in
+    rw (named, none) refl
