@@ -1,9 +1,9 @@
 -- What the hands did, put together.
-use Rattle.std.proofs.Common.{◌≡◌, ℕ, ◌+◌, ◌<◌, List, [], ◌∷◌, ◌++◌, refl, sym, ap, ◌∙◌, subst, append_assoc, arith}
+use Rattle.std.proofs.Common.{◌≡◌, ℕ, ◌+◌, ◌<◌, List, [], ◌∷◌, ◌++◌, length, refl, sym, ap, ◌∙◌, subst, append_assoc, arith}
 use Rattle.std.specs.Prelude.{sum_by}
 use Rattle.std.specs.List.{All}
 use Rattle.std.proofs.lemmas.List.Sums.{sum_by-append, sum_by-cons, sum_by_push}
-use Rattle.std.proofs.lemmas.List.Elements.{All-push, All-append, All-head, All-tail}
+use Rattle.std.proofs.lemmas.List.Elements.{All-nil, All-push, All-append, All-head, All-tail}
 use Rattle.std.proofs.lemmas.Grind.{flat_map-append}
 use Rattle.ll_process.specs.declared.job.Job.{Job}
 use Rattle.ll_process.specs.declared.piece.Piece.{Piece}
@@ -13,7 +13,7 @@ use Rattle.ll_process.specs.Jobs.{SharesOut, processes_of, AreJobsOf}
 use Rattle.ll_process.proofs.Descents.{weighed}
 use Rattle.ll_pool.specs.declared.queue.Ledger.{Ledger}
 use Rattle.ll_pool.specs.Gathered.{ArePiecesOf, processes_in}
-use Rattle.ll_pool.specs.Rule.{after_taking}
+use Rattle.ll_pool.specs.Rule.{ledger, after_taking}
 use Rattle.ll_pool.specs.Accounts.{OnlyGave, SeenTo, IsAccount}
 use Rattle.ll_pool.proofs.Sharing.{processes_in-push, no_processes, no_kids, kids-append}
 
@@ -91,6 +91,40 @@ seen_beside cv xs ys g h p q theirs one two = record {
 
 -- ---- accounts
 
+-- nothing was taken or given yet
+pub account_begins : (cv : CaseValue) (parts : ℕ) (v : Ledger) (pieces : List Piece) → v ≡ ledger cv parts [] [] → pieces ≡ [] → IsAccount cv [] v pieces
+account_begins cv parts v pieces is none =
+    subst (λ (xs : List Piece). IsAccount cv [] v xs) (sym none)
+    (subst (λ (u : Ledger). IsAccount cv [] u []) (sym is)
+    (record {
+      its_case = refl;
+      pieces_of = All-nil (λ (x : Piece). x.case.now ≡ cv);
+      seen = record { pieces_of = λ all. all; shared = λ weight. omega arith };
+    }))
+
+-- the caller saw to two lists of roots, and between them it only split its pass
+pub account_of_roots : (cv : CaseValue) (xs ys : List ℕ) (u a b w : Ledger) (p0 p1 p2 : List Piece) → u.given ≡ [] → u.taken ≡ [] → p0 ≡ []
+    → OnlyGave u a → SeenTo cv xs u.given a.given p0 p1 → b.given ≡ a.given → b.taken ≡ a.taken → b.case ≡ cv
+    → OnlyGave b w → SeenTo cv ys b.given w.given p1 p2 → IsAccount cv (xs ++ ys) w p2
+account_of_roots cv xs ys u a b w p0 p1 p2 none_given none_taken none gave one given taken its gave_on two =
+    let first : SeenTo cv xs [] a.given [] p1 =
+    subst (λ (zs : List ℕ). SeenTo cv xs zs a.given [] p1) none_given (subst (λ (ps : List Piece). SeenTo cv xs u.given a.given ps p1) none one) in
+    let both : SeenTo cv (xs ++ ys) [] w.given [] p2 =
+    seen_on cv xs ys [] a.given w.given [] p1 p2 first (subst (λ (zs : List ℕ). SeenTo cv ys zs w.given p1 p2) given two) in
+    record {
+      its_case = gave_on.its_case ∙ its;
+      pieces_of = both.pieces_of (All-nil (λ (x : Piece). x.case.now ≡ cv));
+      seen =
+          seen_alike cv (xs ++ ys) ((xs ++ ys) ++ w.taken) [] w.given [] p2
+          (λ weight.
+          omega (
+            arith,
+            sum_by-append weight (xs ++ ys) w.taken,
+            ap (λ (zs : List ℕ). sum_by weight zs) (gave_on.taken ∙ taken ∙ gave.taken ∙ none_taken),
+          ))
+          both;
+    }
+
 -- a job was taken and seen to
 pub account_more : (cv : CaseValue) (roots : List ℕ) (p : ℕ) (v taken w : Ledger) (before after : List Piece) → taken ≡ after_taking v p → OnlyGave taken w
     → SeenTo cv (p ∷ []) taken.given w.given before after
@@ -136,6 +170,29 @@ pub record Halfway (cv : CaseValue) (all : List ℕ) (left : List Job) (g0 g1 : 
   pub parts : all ≡ done ++ processes_of left
   pub seen : SeenTo cv done g0 g1 p0 p1
 
+-- all are left
+pub halfway_first : (cv : CaseValue) (jobs left : List Job) (given : List ℕ) (pieces : List Piece) → AreJobsOf cv jobs → left ≡ jobs
+    → Halfway cv (processes_of jobs) left given given pieces pieces
+halfway_first cv jobs left given pieces all is = record {
+  left_of = subst (λ (xs : List Job). AreJobsOf cv xs) (sym is) all;
+  done = [];
+  parts = ap (λ (xs : List Job). processes_of xs) (sym is);
+  seen = record { pieces_of = λ of_case. of_case; shared = λ weight. omega arith };
+}
+
+-- none is left
+pub halfway_all : (cv : CaseValue) (all : List ℕ) (left : List Job) (g0 g1 : List ℕ) (p0 p1 : List Piece) → left ≡ []
+    → Halfway cv all left g0 g1 p0 p1 → SeenTo cv all g0 g1 p0 p1
+halfway_all cv all left g0 g1 p0 p1 none so_far =
+    seen_alike cv so_far.done all g0 g1 p0 p1
+    (λ weight.
+    omega (
+      arith,
+      ap (λ (xs : List ℕ). sum_by weight xs) (so_far.parts ∙ ap (λ (xs : List Job). so_far.done ++ processes_of xs) none),
+      sum_by-append weight so_far.done [],
+    ))
+    so_far.seen
+
 pub halfway_more : (cv : CaseValue) (all : List ℕ) (left rest : List Job) (job : Job) (g0 g1 g2 : List ℕ) (p0 p1 p2 : List Piece) → left ≡ job ∷ rest
     → SeenTo cv (job.process.0 ∷ []) g1 g2 p1 p2
     → Halfway cv all left g0 g1 p0 p1 → Halfway cv all rest g0 g2 p0 p2
@@ -160,3 +217,7 @@ seen_unkept cv p given pieces pieces_after piece is its shares =
 
 pub all_next : {X : Type 0} (x : X) (xs rest : List X) (P : X → Type 0) → xs ≡ x ∷ rest → All P xs → P x × All P rest
 all_next x xs rest P is all = (All-head P x rest (subst (λ ys. All P ys) is all), All-tail P x rest (subst (λ ys. All P ys) is all))
+
+pub nothing_left : {X : Type 0} (xs : List X) → length xs ≡ 0 → xs ≡ []
+nothing_left [] none = refl
+nothing_left (x ∷ xs) none = absurd (omega (arith, none))

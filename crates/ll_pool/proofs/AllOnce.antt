@@ -1,18 +1,30 @@
 -- At the end every process is in one piece, once.
-use Rattle.std.proofs.Common.{◌≡◌, ℕ, ◌<◌, List, ◌++◌, take, drop, sym, ap, ◌∙◌, arith}
+use Rattle.std.proofs.Common.{◌≡◌, ℕ, ◌<◌, List, ◌++◌, take, drop, sym, ap, ◌∙◌, subst, arith}
 use Rattle.std.specs.Prelude.{sum_by}
 use Rattle.std.proofs.lemmas.List.{map-append, take-append-drop}
+use Rattle.std.proofs.lemmas.List.Elements.{All-same, All-take, All-drop}
 use Rattle.ll_process.specs.declared.job.Job.{Job}
 use Rattle.ll_process.specs.declared.piece.Piece.{Piece}
 use Rattle.ll_trace.specs.Processes.{IsNumbered, process_count, roots, times}
 use Rattle.ll_process.specs.Cases.{CaseValue}
-use Rattle.ll_process.specs.Jobs.{processes_of}
+use Rattle.ll_process.specs.Jobs.{processes_of, AreJobsOf}
 use Rattle.ll_trace.proofs.EachOnce.{each_once_weighed}
 use Rattle.ll_pool.specs.declared.queue.Ledger.{Ledger}
 use Rattle.ll_pool.specs.Gathered.{processes_in}
 use Rattle.ll_pool.specs.Rule.{IsBalanced}
 use Rattle.ll_pool.specs.Accounts.{IsAccount}
 use Rattle.ll_pool.proofs.Accounting.{account_balanced}
+
+-- the jobs before a cut, and those after it, are of the case
+pub before_cut : (cv named : CaseValue) (cut : ℕ) (jobs first : List Job) → cv ≡ named → first ≡ take cut jobs → AreJobsOf cv jobs → AreJobsOf named first
+before_cut cv named cut jobs first same is all =
+    subst (λ (m : CaseValue). AreJobsOf m first) same
+    (All-same (λ (job : Job). job.case.now ≡ cv) first (take cut jobs) is (All-take (λ (job : Job). job.case.now ≡ cv) cut jobs all))
+
+pub after_cut : (cv named : CaseValue) (cut : ℕ) (jobs rest : List Job) → cv ≡ named → rest ≡ drop cut jobs → AreJobsOf cv jobs → AreJobsOf named rest
+after_cut cv named cut jobs rest same is all =
+    subst (λ (m : CaseValue). AreJobsOf m rest) same
+    (All-same (λ (job : Job). job.case.now ≡ cv) rest (drop cut jobs) is (All-drop (λ (job : Job). job.case.now ≡ cv) cut jobs all))
 
 -- the processes of jobs that were cut into two lists
 pub cut_processes : (cut : ℕ) (jobs first rest : List Job) → first ≡ take cut jobs → rest ≡ drop cut jobs

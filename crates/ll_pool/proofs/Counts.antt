@@ -1,5 +1,6 @@
 -- Counting how often each process is in pieces.
-use Rattle.std.proofs.Common.{◌≡◌, ℕ, ◌+◌, ◌<◌, min, List, [], ◌∷◌, ◌++◌, length, take, replicate, get_or, set, Some, refl, sym, ap, ◌∙◌, inl, inr, arith}
+use Rattle.std.proofs.Common.{◌≡◌, ℕ, ◌+◌, ◌<◌, ◌≤◌, min, List, [], ◌∷◌, ◌++◌, length, take, replicate, get_or, set, Some, refl, sym, ap, ◌∙◌, subst, inl, inr}
+use Rattle.std.proofs.Common.{arith}
 use Rattle.std.specs.Prelude.{slice_get, slice_index, All}
 use Rattle.std.specs.List.{flat_map}
 use Rattle.std.proofs.lemmas.Bool.{cases_eq}
@@ -124,3 +125,16 @@ pub only_memory : (records : List Record) (processes : List ℕ) (fault : Collec
 only_memory records processes (Missing process) once is = absurd (let here = once process.0 is.0 in omega (arith, here, is.1))
 only_memory records processes (Double process) once is = absurd (let here = once process.0 is.0 in omega (arith, here, is.1))
 only_memory records processes Memory once is = refl
+
+-- ---- the first process that is there twice
+
+pub double_found : (records : List Record) (processes seen xs : List ℕ) (p : ProcessId) → xs ≡ seen → length seen ≡ process_count records
+    → IsTally processes seen
+    → (p.0 < length xs) × (1 < slice_index xs p.0) × ((q : ℕ) → q < p.0 → slice_index xs q ≤ 1) → IsFault records processes (Double p)
+double_found records processes seen xs p is len tally found =
+    let (within, twice, before) =
+    subst (λ (ys : List ℕ). (p.0 < length ys) × (1 < slice_index ys p.0) × ((q : ℕ) → q < p.0 → slice_index ys q ≤ 1)) is found in (
+      omega (arith, within, len),
+      omega (arith, twice, tally.each p.0 within),
+      λ q below. omega (arith, before q below, tally.each q (omega (arith, below, within))),
+    )

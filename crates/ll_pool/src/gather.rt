@@ -160,9 +160,10 @@ fn assemble(alloc: Global, case: &Case, pieces: &[Piece<'_>]) -> Result<Vec<Answ
     Ok(answers)
 }
 
-/// Adds a piece at the end.
-pub(crate) fn keep<'c>(pieces: &mut Vec<Piece<'c>>, piece: Piece<'c>) -> Result<(), NoMemory>
-    ensures { OnOk result (pieces.new.items ≡ pieces.old.items ++ piece.entry ∷ []) }
+/// Adds an item at the end. It is said of items of any type, because a proof of pieces alone would go through all that a
+/// piece holds.
+pub(crate) fn keep<T: Drop>(pieces: &mut Vec<T>, piece: T) -> Result<(), NoMemory>
+    ensures { OnOk result (pieces.new.items ≡ pieces.old.items ++ piece ∷ []) }
 {
     match pieces.push(piece) {
         Ok(()) => Ok(()),
@@ -170,12 +171,9 @@ pub(crate) fn keep<'c>(pieces: &mut Vec<Piece<'c>>, piece: Piece<'c>) -> Result<
     }
 }
 
-/// Adds pieces at the end.
-pub(crate) fn keep_all<'c>(
-    pieces: &mut Vec<Piece<'c>>,
-    mut more: Vec<Piece<'c>>,
-) -> Result<(), NoMemory>
-    ensures { OnOk result (pieces.new.items ≡ pieces.old.items ++ more.entry.items) }
+/// Adds items at the end.
+pub(crate) fn keep_all<T: Drop>(pieces: &mut Vec<T>, mut more: Vec<T>) -> Result<(), NoMemory>
+    ensures { OnOk result (pieces.new.items ≡ pieces.old.items ++ more.items) }
 {
     match pieces.append(&mut more) {
         Ok(()) => Ok(()),

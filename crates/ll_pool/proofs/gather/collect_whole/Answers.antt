@@ -1,8 +1,12 @@
+-- The answers are those of `collect`, which finds each process once.
 use Rattle.std.proofs.Common.{◌≡◌}
 use Rattle.ll_pool.specs.declared.gather.CollectFault.TheVariants.{Missing, Double, Memory}
 use Rattle.ll_pool.specs.Gathered.{processes_in}
 use Rattle.ll_pool.proofs.Counts.{only_memory}
 use Rattle.ll_pool.proofs.gather.collect_whole.Goals as goal
+
+pub returns-in-Ok : goal.returns-in-Ok
+returns-in-Ok c = c.in-Ok.ensures.answers
 
 pub unreachable-requires : goal.unreachable-requires
 unreachable-requires c =

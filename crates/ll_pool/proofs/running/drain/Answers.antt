@@ -1,5 +1,5 @@
--- One job more is taken and judged with nothing kept.
-use Rattle.std.proofs.Common.{◌≡◌, [], ap, ◌∙◌, subst}
+-- One job more is taken and judged with nothing kept. A pass with all parts that finds no job knows that none is left.
+use Rattle.std.proofs.Common.{◌≡◌, [], ap, ◌∙◌, subst, rules}
 use Rattle.crossbeam_queue.specs.Passes.{view}
 use Rattle.ll_process.specs.Cases.{CaseValue}
 use Rattle.ll_trace.specs.Processes.{numbers}
@@ -7,6 +7,9 @@ use Rattle.ll_process.specs.Jobs.{SharesOut}
 use Rattle.ll_pool.specs.declared.queue.Ledger.{Ledger}
 use Rattle.ll_pool.proofs.Accounting.{gave_nothing, seen_unkept, account_more}
 use Rattle.ll_pool.proofs.running.drain.Goals as goal
+
+pub returns-in_default-clause-balanced : goal.returns-in_default-clause-balanced
+returns-in_default-clause-balanced g c = search rules
 
 pub loop-preserved : goal.loop-preserved
 loop-preserved g c =
