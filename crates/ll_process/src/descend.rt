@@ -1,8 +1,9 @@
 //! Judges one process, and those of its descendants that no hand keeps.
 
-ghost use Rattle.std.specs.Prelude.{◌≡◌, ◌<◌, ◌+◌, ◌++◌, ◌∷◌, [], Some, OnOk, IfOk, slice_get};
-ghost use Rattle.ll_trace.specs.Processes.{process_count, numbers, children};
-ghost use Rattle.ll_process.specs.Cases.{own_answers};
+ghost use Rattle.std.specs.Prelude.{◌≡◌, ◌<◌, ◌+◌, ◌++◌, ◌∷◌, [], false, Some, None, OnOk, IfOk, slice_get, option_to_list};
+ghost use Rattle.ll_trace.specs.Processes.{process_count, numbers, children, forked_at};
+ghost use Rattle.ll_process.specs.{Cases.own_answers, Judging.answer_at};
+ghost use Rattle.ll_process.specs.Own.{IsOwn, Meets, Leaves};
 ghost use Rattle.ll_process.specs.Jobs.{processes_of, AreJobsOf, HandedOut, KeepsMore, SharesOut, weight, weight_of};
 
 use crate::ahead::Ahead;
@@ -14,6 +15,7 @@ use crate::piece::Piece;
 use crate::walk::answer_own;
 use ll_rules::NoMemory;
 use ll_semantics::Answer;
+use ll_state::OwnState;
 use ll_trace::ProcessId;
 use std::alloc::Global;
 
@@ -25,6 +27,41 @@ pub(crate) fn append<T: Drop>(items: &mut Vec<T>, item: T) -> Result<(), NoMemor
         Ok(()) => Ok(()),
         Err(_) => Err(NoMemory),
     }
+}
+
+/// Judges one of a process's own records, and adds it with its answer at the end. The child that it forks is offered to
+/// the hand; if it comes back, it is still to do.
+fn judge_record<'c, H: Hand<'c>>(
+    case: &'c Case,
+    process: ProcessId,
+    index: u32,
+    may_fork: bool,
+    own: &mut OwnState,
+    hand: &mut H,
+    todo: &mut Vec<Job<'c>>,
+    answers: &mut Vec<(u32, Answer)>,
+) -> Result<(), NoMemory>
+    requires own { IsOwn case.now index process.0 }
+    requires meets { Meets case.now index process.0 own.old }
+    requires known { may_fork ≡ false → forked_at case.now.records index ≡ None }
+    requires of_case { AreJobsOf case.now todo.old.items }
+    requires suits { H.suits hand.old case.now }
+    ensures answered { OnOk result (answers.new.items ≡ answers.old.items
+        ++ (index, answer_at case.now.tree case.now.abi case.now.records index) ∷ []) }
+    ensures leaves { OnOk result (Leaves case.now index process.0 own.new) }
+    ensures handed { OnOk result
+        (HandedOut (option_to_list (forked_at case.now.records index))
+        (H.kept hand.old) (H.kept hand.new) (processes_of todo.old.items)
+        (processes_of todo.new.items)) }
+    ensures of_case { OnOk result (AreJobsOf case.now todo.new.items) }
+    ensures keeps { KeepsMore case.now.records (H.kept hand.old) (H.kept hand.new) }
+    ensures suits { H.suits hand.new case.now }
+    ensures stays { (before : H) → H.stays before hand.old → H.stays before hand.new }
+{
+    let answer = answer_own(case, process, index, own)?;
+    append(answers, (index, answer))?;
+    let child = child_job(case, process, index, may_fork, own)?;
+    offer(case, child, hand, todo)
 }
 
 /// Judges one process, and adds its records with their answers at the end. Each child that it forks
@@ -63,10 +100,7 @@ fn judge_own<'c, H: Hand<'c>>(
     let mut ahead = Ahead::new(case, places);
     for (at, index) in places.iter().enumerate() {
         let forks = ahead.may_fork(at);
-        let answer = answer_own(case, process, *index, &mut own)?;
-        append(answers, (*index, answer))?;
-        let child = child_job(case, process, *index, forks, &own)?;
-        offer(case, child, hand, todo)?;
+        judge_record(case, process, *index, forks, &mut own, hand, todo, answers)?;
     }
     Ok(())
 }

@@ -19,14 +19,19 @@ back_one child before after todo more same grown = record {
 }
 
 pub returns-in_default-give-clause-handed : goal.returns-in_default-give-clause-handed
-returns-in_default-give-clause-handed g c = rw c.in-Some.is (kept_one _ _ _ _ c.in_default-give.ensures.keeps)
+returns-in_default-give-clause-handed g c = rw c.in-Some.is
+    (kept_one c.in-Some.job.process.0 (g.H.Hand.kept c.args.hand.now) (g.H.Hand.kept c.give.new.self) (processes_of c.args.todo.now.items)
+    c.in_default-give.ensures.keeps)
 
 pub returns-clause-handed : goal.returns-clause-handed
 returns-clause-handed g c = elim c.match-push.branch [
   | in-Ok w ↦
-      let todo = c.args.todo.now.items in
-      let grown = ap (λ (jobs : List Job). processes_of jobs) w.in-Ok.ensures.items ∙ map-append (λ (job : Job). job.process.0) todo (c.in-Some-give.back ∷ [])
+      let todo : List Job = c.args.todo.now.items in
+      let grown : processes_of c.push.new.self.items ≡ processes_of todo ++ c.in-Some.job.process.0 ∷ [] =
+      ap (λ (jobs : List Job). processes_of jobs) {x = c.push.new.self.items} w.in-Ok.ensures.items
+      ∙ map-append (λ (job : Job). job.process.0) todo (c.in-Some-give.back ∷ [])
       ∙ ap (λ (job : Job). processes_of todo ++ job.process.0 ∷ []) c.in-Some-give.ensures.back in
-      rw w.result-is (rw c.in-Some.is (back_one _ _ _ _ _ c.in-Some-give.ensures.same grown))
+      rw w.result-is (rw c.in-Some.is (back_one c.in-Some.job.process.0 (g.H.Hand.kept c.args.hand.now) (g.H.Hand.kept c.give.new.self)
+      (processes_of todo) (processes_of c.push.new.self.items) c.in-Some-give.ensures.same grown))
   | in-Err w ↦ rw w.result-is tt
 ]

@@ -1,6 +1,6 @@
 -- The walk begins, takes one record more, and ends at the process's last record.
-use Rattle.std.proofs.Common.{◌∙◌, subst, refl}
-use Rattle.ll_process.specs.Cases.{CaseValue, BeginsAs}
+use Rattle.std.proofs.Common.{◌∙◌, get_or, subst, refl}
+use Rattle.ll_process.specs.{Cases.CaseValue, Cases.BeginsAs, Judging.answer_at}
 use Rattle.ll_process.proofs.Descents.{keeps_on, keeps_same}
 use Rattle.ll_process.proofs.Walked.{walked_none, walked_more, place_now, own_now, handed_all, less_to_do}
 use Rattle.ll_process.proofs.descend.judge_own.Goals as goal
@@ -18,42 +18,40 @@ loop-at-init g c = record {
   stays = λ before same. same;
 }
 
-pub answer_own-requires-clause-own : goal.answer_own-requires-clause-own
-answer_own-requires-clause-own g c =
-    own_now c.args.case.now c.args.job.process.0 c.loop-at.at c.own_records-places.result.now
-    c.own_records-places.ensures.places c.loop-at-test.true
-
-pub answer_own-requires-clause-meets : goal.answer_own-requires-clause-meets
-answer_own-requires-clause-meets g c =
-    c.loop-at.invariant.walked.meets _ (place_now c.args.case.now c.args.job.process.0 c.loop-at.at c.own_records-places.result.now
-    c.own_records-places.ensures.places c.loop-at-test.true)
-
-pub child_job-requires-clause-own : goal.child_job-requires-clause-own
-child_job-requires-clause-own g c =
-    own_now c.args.case.now c.args.job.process.0 c.loop-at.at c.own_records-places.result.now
-    c.own_records-places.ensures.places c.loop-at-test.true
+pub judge_record-requires : goal.judge_record-requires
+judge_record-requires g c κs =
+    let now =
+    place_now c.args.case.now c.args.job.process.0 c.loop-at.at c.own_records-places.result.now c.own_records-places.ensures.places c.loop-at-test.true in (
+      (refl, tt),
+      (
+        own_now c.args.case.now c.args.job.process.0 c.loop-at.at c.own_records-places.result.now c.own_records-places.ensures.places c.loop-at-test.true,
+        (
+          c.loop-at.invariant.walked.meets _ now,
+          (
+            λ calm. rw (← c.loop-at.invariant.ahead) (c.may_fork-forks.ensures.known calm _ (rw c.loop-at.invariant.its now)),
+            (c.loop-at.invariant.walked.of_case, c.loop-at.invariant.suits),
+          ),
+        ),
+      ),
+    )
 
 pub loop-at-preserved : goal.loop-at-preserved
 loop-at-preserved g c = record {
-  walked = rw c.in_ok-append.ensures
+  walked = rw c.in_ok-judge_record.ensures.answered
       (walked_more c.args.case.now c.args.job.process.0 c.loop-at.at c.own_records-places.result.now c.own_records-places.ensures.places
-      c.in_ok-answer.answer c.loop-at.own c.answer_own.new.own
+      (answer_at c.args.case.now.tree c.args.case.now.abi c.args.case.now.records (get_or c.own_records-places.result.now c.loop-at.at 0))
+      c.loop-at.own c.judge_record.new.own
       c.args.answers.now.items c.loop-at.answers.items (g.H.Hand.kept c.args.hand.now) (g.H.Hand.kept c.loop-at.hand)
-      (g.H.Hand.kept c.offer.new.hand) c.args.todo.now.items c.loop-at.todo.items c.offer.new.todo.items
-      c.own_records-places.ensures.case c.loop-at-test.true c.loop-at.invariant.walked c.in_ok-answer.ensures.answer c.in_ok-answer.ensures.leaves
-      (rw c.in_ok-child.ensures.child at c.in_ok-offer.ensures.handed) c.in_ok-offer.ensures.of_case);
+      (g.H.Hand.kept c.judge_record.new.hand) c.args.todo.now.items c.loop-at.todo.items c.judge_record.new.todo.items
+      c.own_records-places.ensures.case c.loop-at-test.true c.loop-at.invariant.walked refl c.in_ok-judge_record.ensures.leaves
+      c.in_ok-judge_record.ensures.handed c.in_ok-judge_record.ensures.of_case);
   keeps = keeps_on c.args.case.now.records (g.H.Hand.kept c.args.hand.now) (g.H.Hand.kept c.loop-at.hand)
-      (g.H.Hand.kept c.offer.new.hand) c.loop-at.invariant.keeps c.in_ok-offer.ensures.keeps;
-  suits = c.in_ok-offer.ensures.suits;
+      (g.H.Hand.kept c.judge_record.new.hand) c.loop-at.invariant.keeps c.in_ok-judge_record.ensures.keeps;
+  suits = c.in_ok-judge_record.ensures.suits;
   ahead = c.may_fork-forks.ensures.case ∙ c.loop-at.invariant.ahead;
   its = c.may_fork-forks.ensures.places ∙ c.loop-at.invariant.its;
-  stays = λ before same. c.in_ok-offer.ensures.stays before (c.loop-at.invariant.stays before same);
+  stays = λ before same. c.in_ok-judge_record.ensures.stays before (c.loop-at.invariant.stays before same);
 }
-
-pub child_job-requires-clause-known : goal.child_job-requires-clause-known
-child_job-requires-clause-known g c =
-    λ calm. rw (← c.loop-at.invariant.ahead) (c.may_fork-forks.ensures.known calm _ (rw c.loop-at.invariant.its
-    (place_now c.args.case.now c.args.job.process.0 c.loop-at.at c.own_records-places.result.now c.own_records-places.ensures.places c.loop-at-test.true)))
 
 pub returns-clause-less : goal.returns-clause-less
 returns-clause-less g c =
@@ -63,7 +61,32 @@ returns-clause-less g c =
     (g.H.Hand.kept c.args.hand.now) (g.H.Hand.kept c.loop-at.hand) c.args.todo.now.items c.loop-at.todo.items c.loop-at-test.false
     c.loop-at.invariant.walked) c.loop-at.invariant.keeps
 
-pub returns-in_err-offer-clause-keeps : goal.returns-in_err-offer-clause-keeps
-returns-in_err-offer-clause-keeps g c =
+pub returns-clause-keeps : goal.returns-clause-keeps
+returns-clause-keeps g c = c.loop-at.invariant.keeps
+
+pub returns-clause-suits : goal.returns-clause-suits
+returns-clause-suits g c = c.loop-at.invariant.suits
+
+pub returns-clause-stays : goal.returns-clause-stays
+returns-clause-stays g c = c.loop-at.invariant.stays
+
+pub returns-clause-of_case : goal.returns-clause-of_case
+returns-clause-of_case g c = c.loop-at.invariant.walked.of_case
+
+pub returns-clause-handed : goal.returns-clause-handed
+returns-clause-handed g c =
+    handed_all c.args.case.now c.args.job.process.0 c.loop-at.at c.own_records-places.result.now c.own_records-places.ensures.places
+    c.loop-at.own c.args.answers.now.items c.loop-at.answers.items
+    (g.H.Hand.kept c.args.hand.now) (g.H.Hand.kept c.loop-at.hand) c.args.todo.now.items c.loop-at.todo.items c.loop-at-test.false
+    c.loop-at.invariant.walked
+
+pub returns-in_err-judge_record-clause-keeps : goal.returns-in_err-judge_record-clause-keeps
+returns-in_err-judge_record-clause-keeps g c =
     keeps_on c.args.case.now.records (g.H.Hand.kept c.args.hand.now) (g.H.Hand.kept c.loop-at.hand)
-    (g.H.Hand.kept c.offer.new.hand) c.loop-at.invariant.keeps c.in_err-offer.ensures.keeps
+    (g.H.Hand.kept c.judge_record.new.hand) c.loop-at.invariant.keeps c.judge_record.ensures.keeps
+
+pub returns-in_err-judge_record-clause-suits : goal.returns-in_err-judge_record-clause-suits
+returns-in_err-judge_record-clause-suits g c = c.judge_record.ensures.suits
+
+pub returns-in_err-judge_record-clause-stays : goal.returns-in_err-judge_record-clause-stays
+returns-in_err-judge_record-clause-stays g c = λ before same. c.judge_record.ensures.stays before (c.loop-at.invariant.stays before same)
