@@ -2,7 +2,7 @@
 
 use crate::keeper::Wanted;
 use crate::order::judge_greatest_first;
-use crate::tests::judging::worked::{FAMILY_ANSWERS, Forks, case_of, case_with, judge_told};
+use crate::tests::judging::worked::{FAMILY_ANSWERS, Forks, boxed_case, case_with, judge_told};
 use ll_fixtures::FAMILY;
 use ll_pool::collect;
 use ll_process::{Answer, Case};
@@ -23,10 +23,15 @@ fn pieces_by_hand(
     ])
 }
 
+/// The number of pieces of the family with each hand.
+fn pieces_of_family(rt: &(impl AllocGlobal + Abort)) -> Result<[usize; 3], Fail> {
+    let case = boxed_case(rt.alloc(), FAMILY.as_bytes())?;
+    pieces_by_hand(rt, &case, FAMILY_ANSWERS)
+}
+
 #[test]
 fn answers_are_the_same_whatever_a_hand_keeps(rt: HostRuntime) -> Result<(), Fail> {
-    let case = case_of(rt.alloc(), FAMILY.as_bytes())?;
-    assert_eq!(rt; pieces_by_hand(&rt, &case, FAMILY_ANSWERS)?, [12, 6, 1]);
+    assert_eq!(rt; pieces_of_family(&rt)?, [12, 6, 1]);
     Ok(())
 }
 
@@ -42,9 +47,14 @@ fn allowed_in(alloc: Global, case: &Case) -> Result<[usize; 2], Fail> {
     Ok([count, allowed])
 }
 
+/// The same of a chain of forks.
+fn allowed_in_chain(alloc: Global) -> Result<[usize; 2], Fail> {
+    let case = case_with(alloc, Forks::TheOneBefore, 65_536)?;
+    allowed_in(alloc, &case)
+}
+
 #[test]
 fn a_chain_of_65536_processes_is_judged(rt: HostRuntime) -> Result<(), Fail> {
-    let case = case_with(rt.alloc(), Forks::TheOneBefore, 65_536)?;
-    assert_eq!(rt; allowed_in(rt.alloc(), &case)?, [1, 65_536]);
+    assert_eq!(rt; allowed_in_chain(rt.alloc())?, [1, 65_536]);
     Ok(())
 }

@@ -5,12 +5,13 @@ ghost use Rattle.std.specs.Prelude.{IfOk};
 ghost use Rattle.ll_pool.specs.Gathered.{ArePiecesOf};
 
 use crate::tests::judging::gates::{Meeting, Open};
-use crate::tests::judging::worked::{FAMILY_ANSWERS, Forks, case_of, case_with, expect_answers};
+use crate::tests::judging::worked::{FAMILY_ANSWERS, Forks, boxed_case, case_with, expect_answers};
 use ll_fixtures::FAMILY;
 use ll_pool::{CollectFault, collect, judge_alone, run};
 use ll_process::{Answer, Case, Piece};
 use ll_trace::ProcessId;
 use std::alloc::Global;
+use std::process::Abort;
 use std::sync::Wait;
 use std::test::Fail;
 use std::thread::Threads;
@@ -65,40 +66,83 @@ const EVEN: [bool; 12] = [
     true, false, true, false, true, false, true, false, true, false, true, false,
 ];
 
+/// The answers of the family are the same for several numbers of workers with a cut.
+fn expect_family<R: Threads + Wait + Sync + Abort>(
+    rt: &R,
+    alloc: Global,
+    case: &Case,
+    cut: &[bool],
+) -> Result<(), Fail> {
+    for workers in [1, 3, 8] {
+        let answers = collected(rt, alloc, case, workers, cut)?;
+        expect_answers(rt, &answers, FAMILY_ANSWERS);
+    }
+    Ok(())
+}
+
+/// They are the same with each cut.
+fn expect_family_with_cuts<R: Threads + Wait + Sync + Abort>(
+    rt: &R,
+    alloc: Global,
+    case: &Case,
+) -> Result<(), Fail> {
+    expect_family(rt, alloc, case, &[])?;
+    expect_family(rt, alloc, case, &EVERY)?;
+    expect_family(rt, alloc, case, &EVEN)
+}
+
 #[test]
 fn the_answers_are_the_same_for_every_number_of_workers_and_every_cut(
     rt: HostRuntime,
 ) -> Result<(), Fail> {
-    let alloc = rt.alloc();
-    let case = case_of(alloc, FAMILY.as_bytes())?;
-    for cut in [&[], EVERY.as_slice(), EVEN.as_slice()] {
-        for workers in [1, 3, 8] {
-            let answers = collected(&rt, alloc, &case, workers, cut)?;
-            expect_answers(&rt, &answers, FAMILY_ANSWERS);
-        }
-    }
+    let case = boxed_case(rt.alloc(), FAMILY.as_bytes())?;
+    expect_family_with_cuts(&rt, rt.alloc(), &case)
+}
+
+/// One thread gives the answers of the family.
+fn expect_alone(rt: &impl Abort, alloc: Global, case: &Case) -> Result<(), Fail> {
+    let answers = judge_alone(alloc, case)?;
+    expect_answers(rt, &answers, FAMILY_ANSWERS);
     Ok(())
 }
 
 #[test]
 fn one_thread_gives_the_same_answers(rt: HostRuntime) -> Result<(), Fail> {
-    let case = case_of(rt.alloc(), FAMILY.as_bytes())?;
-    expect_answers(&rt, &judge_alone(rt.alloc(), &case)?, FAMILY_ANSWERS);
-    Ok(())
+    let case = boxed_case(rt.alloc(), FAMILY.as_bytes())?;
+    expect_alone(&rt, rt.alloc(), &case)
+}
+
+/// How many pieces one worker makes, and how many of them have twelve processes.
+fn pieces_of_family<R: Threads + Wait + Sync>(
+    rt: &R,
+    alloc: Global,
+    case: &Case,
+) -> Result<[usize; 2], Fail> {
+    let pieces = made(rt, alloc, case, 1, &[])?;
+    Ok([pieces.len(), pieces_of(&pieces, 12)])
+}
+
+/// The number of pieces of the family, and of those with twelve processes.
+fn pieces_by_one<R: Threads + Wait + Sync>(rt: &R, alloc: Global) -> Result<[usize; 2], Fail> {
+    let case = boxed_case(alloc, FAMILY.as_bytes())?;
+    pieces_of_family(rt, alloc, &case)
 }
 
 #[test]
 fn one_worker_makes_one_piece_of_the_whole_family(rt: HostRuntime) -> Result<(), Fail> {
-    let case = case_of(rt.alloc(), FAMILY.as_bytes())?;
-    let pieces = made(&rt, rt.alloc(), &case, 1, &[])?;
-    assert_eq!(rt; [pieces.len(), pieces_of(&pieces, 12)], [1, 1]);
+    assert_eq!(rt; pieces_by_one(&rt, rt.alloc())?, [1, 1]);
     Ok(())
+}
+
+/// The fault of no piece at all.
+fn fault_of_none(alloc: Global) -> Result<Option<CollectFault>, Fail> {
+    let case = boxed_case(alloc, FAMILY.as_bytes())?;
+    Ok(collect(alloc, &case, Vec::new(alloc)).err())
 }
 
 #[test]
 fn without_a_piece_the_first_process_is_missing(rt: HostRuntime) -> Result<(), Fail> {
-    let case = case_of(rt.alloc(), FAMILY.as_bytes())?;
-    let fault = collect(rt.alloc(), &case, Vec::new(rt.alloc())).err();
+    let fault = fault_of_none(rt.alloc())?;
     assert_eq!(rt; fault, Some(CollectFault::Missing(ProcessId(0))));
     Ok(())
 }
@@ -115,41 +159,68 @@ fn fault_of_twice<R: Threads + Wait + Sync>(
     Ok(collect(alloc, case, pieces).err())
 }
 
+/// The fault of the family's piece, made twice.
+fn fault_of_family<R: Threads + Wait + Sync>(
+    rt: &R,
+    alloc: Global,
+) -> Result<Option<CollectFault>, Fail> {
+    let case = boxed_case(alloc, FAMILY.as_bytes())?;
+    fault_of_twice(rt, alloc, &case)
+}
+
 #[test]
 fn a_piece_made_twice_doubles_the_first_process(rt: HostRuntime) -> Result<(), Fail> {
-    let case = case_of(rt.alloc(), FAMILY.as_bytes())?;
-    let fault = fault_of_twice(&rt, rt.alloc(), &case)?;
+    let fault = fault_of_family(&rt, rt.alloc())?;
     assert_eq!(rt; fault, Some(CollectFault::Double(ProcessId(0))));
     Ok(())
 }
 
-#[test]
-fn an_empty_trace_has_no_answers(rt: HostRuntime) -> Result<(), Fail> {
-    let case = case_of(rt.alloc(), b"")?;
-    let pieces = count_of(&rt, rt.alloc(), &case, 8, &[])?;
-    let answers = collected(&rt, rt.alloc(), &case, 8, &[])?.len();
-    assert_eq!(rt; [pieces, answers], [0, 0]);
-    Ok(())
-}
-
-/// How many pieces one worker makes that is to cut each process off, and how many of them have 77 processes and one.
-fn pieces_of_children<R: Threads + Wait + Sync>(
+/// How many pieces eight workers make, and how many answers they collect.
+fn counts_of<R: Threads + Wait + Sync>(
     rt: &R,
     alloc: Global,
     case: &Case,
+) -> Result<[usize; 2], Fail> {
+    let pieces = count_of(rt, alloc, case, 8, &[])?;
+    let answers = collected(rt, alloc, case, 8, &[])?;
+    Ok([pieces, answers.len()])
+}
+
+/// The same of an empty trace.
+fn counts_of_nothing<R: Threads + Wait + Sync>(rt: &R, alloc: Global) -> Result<[usize; 2], Fail> {
+    let case = boxed_case(alloc, b"")?;
+    counts_of(rt, alloc, &case)
+}
+
+#[test]
+fn an_empty_trace_has_no_answers(rt: HostRuntime) -> Result<(), Fail> {
+    assert_eq!(rt; counts_of_nothing(&rt, rt.alloc())?, [0, 0]);
+    Ok(())
+}
+
+/// How many pieces one worker makes with a cut, and how many of them have 77 processes and one.
+fn pieces_with<R: Threads + Wait + Sync>(
+    rt: &R,
+    alloc: Global,
+    case: &Case,
+    cut: &[bool],
 ) -> Result<[usize; 3], Fail> {
-    let every = vec![in alloc; true; 1101]?;
-    let pieces = made(rt, alloc, case, 1, &every)?;
+    let pieces = made(rt, alloc, case, 1, cut)?;
     Ok([pieces.len(), pieces_of(&pieces, 77), pieces_of(&pieces, 1)])
+}
+
+/// The same of a process that forks 1,100 children, where the one worker is to cut each process off.
+fn pieces_of_children<R: Threads + Wait + Sync>(rt: &R, alloc: Global) -> Result<[usize; 3], Fail> {
+    let every = vec![in alloc; true; 1101]?;
+    let case = case_with(alloc, Forks::TheFirst, 1101)?;
+    pieces_with(rt, alloc, &case, &every)
 }
 
 #[test]
 fn children_that_find_the_queue_full_are_judged_with_their_parent(
     rt: HostRuntime,
 ) -> Result<(), Fail> {
-    let case = case_with(rt.alloc(), Forks::TheFirst, 1101)?;
-    let pieces = pieces_of_children(&rt, rt.alloc(), &case)?;
-    assert_eq!(rt; pieces, [1025, 1, 1024]);
+    assert_eq!(rt; pieces_of_children(&rt, rt.alloc())?, [1025, 1, 1024]);
     Ok(())
 }
 
@@ -183,15 +254,34 @@ fn all_processes_are_judged_in_so_many_pieces(rt: HostRuntime) -> Result<(), Fai
     Ok(())
 }
 
+/// The first number of pieces, of a hundred times, that is another than so many.
+fn count_unlike<R: Threads + Wait + Sync>(
+    rt: &R,
+    alloc: Global,
+    case: &Case,
+    cut: &[bool],
+) -> Result<Option<usize>, Fail> {
+    for _ in 0..100 {
+        let count = count_of(rt, alloc, case, 8, cut)?;
+        if count != cut.len() {
+            return Ok(Some(count));
+        }
+    }
+    Ok(None)
+}
+
+/// The same of a tree of forks that is cut at each of its 1,023 processes.
+fn tree_cut_unlike<R: Threads + Wait + Sync>(rt: &R, alloc: Global) -> Result<Option<usize>, Fail> {
+    let every = vec![in alloc; true; 1023]?;
+    let case = case_with(alloc, Forks::TheOneAtHalf, 1023)?;
+    count_unlike(rt, alloc, &case, &every)
+}
+
 #[test]
 fn a_tree_of_forks_is_cut_into_single_processes_a_hundred_times(
     rt: HostRuntime,
 ) -> Result<(), Fail> {
-    let case = case_with(rt.alloc(), Forks::TheOneAtHalf, 1023)?;
-    let every = vec![in rt.alloc(); true; 1023]?;
-    for _ in 0..100 {
-        assert_eq!(rt; count_of(&rt, rt.alloc(), &case, 8, &every)?, 1023);
-    }
+    assert_eq!(rt; tree_cut_unlike(&rt, rt.alloc())?, None);
     Ok(())
 }
 
@@ -207,12 +297,22 @@ fn judged_at_once<R: Threads + Wait + Sync>(
     Ok((pieces.len(), gate.was_met()))
 }
 
+/// The same of so many processes.
+fn forks_at_once<R: Threads + Wait + Sync>(
+    rt: &R,
+    alloc: Global,
+    (forks, processes): (Forks, u32),
+    first: u32,
+) -> Result<(usize, bool), Fail> {
+    let case = case_with(alloc, forks, processes)?;
+    judged_at_once(rt, alloc, &case, first)
+}
+
 /// Two roots, and two children of one process, are judged at once.
 #[test]
 fn two_jobs_are_judged_at_once(rt: HostRuntime) -> Result<(), Fail> {
     for (forks, processes, first) in [(Forks::Nobody, 2, 0), (Forks::TheFirst, 3, 1)] {
-        let case = case_with(rt.alloc(), forks, processes)?;
-        let (pieces, was_met) = judged_at_once(&rt, rt.alloc(), &case, first)?;
+        let (pieces, was_met) = forks_at_once(&rt, rt.alloc(), (forks, processes), first)?;
         assert!(rt; pieces == processes as usize && was_met, "{pieces} pieces");
     }
     Ok(())

@@ -135,12 +135,16 @@ fn has_two_roots(alloc: Global, case: &Case) -> Result<bool, Fail> {
     Ok(are_of(&jobs, &[ProcessId(0), ProcessId(1)]))
 }
 
-/// The case is judged as before, too.
+/// The roots are these, and the case is judged as before.
+fn expect_two_roots(rt: &impl Abort, alloc: Global, case: &Case) -> Result<(), Fail> {
+    assert!(rt; has_two_roots(alloc, case)?);
+    expect_unchanged(rt, alloc, case)
+}
+
 #[test]
 fn roots_without_memory(rt: HostRuntime) -> Result<(), Fail> {
     let case = case_again(rt.alloc())?;
-    assert!(rt; has_two_roots(rt.alloc(), &case)?);
-    expect_unchanged(&rt, rt.alloc(), &case)
+    expect_two_roots(&rt, rt.alloc(), &case)
 }
 
 /// The job of process 1, and a hand with even numbers that holds the job of process 0.
@@ -232,12 +236,16 @@ fn expect_shared(rt: &impl Abort, alloc: Global, case: &Case) -> Result<(), Fail
     Ok(())
 }
 
-/// The case is judged as before, too.
+/// They are shared out so, and the case is judged as before.
+fn expect_judged(rt: &impl Abort, alloc: Global, case: &Case) -> Result<(), Fail> {
+    expect_shared(rt, alloc, case)?;
+    expect_unchanged(rt, alloc, case)
+}
+
 #[test]
 fn judge_without_memory(rt: HostRuntime) -> Result<(), Fail> {
     let case = case_again(rt.alloc())?;
-    expect_shared(&rt, rt.alloc(), &case)?;
-    expect_unchanged(&rt, rt.alloc(), &case)
+    expect_judged(&rt, rt.alloc(), &case)
 }
 
 fn collected_again(rt: &impl Abort, alloc: Global, case: &Case) -> Result<Vec<Answer>, Fail> {
@@ -252,11 +260,21 @@ fn collected_again(rt: &impl Abort, alloc: Global, case: &Case) -> Result<Vec<An
     }
 }
 
+/// The answers are collected.
+fn expect_collected(rt: &impl Abort, alloc: Global, case: &Case) -> Result<(), Fail> {
+    let answers = collected_again(rt, alloc, case)?;
+    expect_answers(rt, &answers, ANSWERS);
+    Ok(())
+}
+
+/// They are, and the case is judged as before.
+fn expect_collected_alike(rt: &impl Abort, alloc: Global, case: &Case) -> Result<(), Fail> {
+    expect_collected(rt, alloc, case)?;
+    expect_unchanged(rt, alloc, case)
+}
+
 #[test]
 fn collect_without_memory(rt: HostRuntime) -> Result<(), Fail> {
-    let alloc = rt.alloc();
-    let case = case_again(alloc)?;
-    let answers = collected_again(&rt, alloc, &case)?;
-    expect_answers(&rt, &answers, ANSWERS);
-    expect_unchanged(&rt, alloc, &case)
+    let case = case_again(rt.alloc())?;
+    expect_collected_alike(&rt, rt.alloc(), &case)
 }

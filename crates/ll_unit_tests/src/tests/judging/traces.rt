@@ -1,7 +1,7 @@
 //! Worked traces that a hand judges which keeps nothing.
 
 use crate::keeper::Wanted;
-use crate::tests::judging::worked::{case_at_best_effort, case_of, judge_told};
+use crate::tests::judging::worked::{boxed_case, case_at_best_effort, judge_told};
 use ll_rights::Abi;
 use std::process::Abort;
 use std::test::Fail;
@@ -42,10 +42,15 @@ fn layers_keep_their_numbers_at_best_effort(rt: HostRuntime) -> Result<(), Fail>
     Ok(())
 }
 
+/// The number of pieces at version 4, whose answers are those told.
+fn pieces_of(rt: &(impl AllocGlobal + Abort), told: &str) -> Result<usize, Fail> {
+    let case = boxed_case(rt.alloc(), PORTS_FIRST)?;
+    judge_told(rt, &case, told, Wanted::Nothing)
+}
+
 #[test]
 fn layers_are_numbered_as_they_are_made(rt: HostRuntime) -> Result<(), Fail> {
-    let case = case_of(rt.alloc(), PORTS_FIRST)?;
-    assert_eq!(rt; judge_told(&rt, &case, CONFINED, Wanted::Nothing)?, 1);
+    assert_eq!(rt; pieces_of(&rt, CONFINED)?, 1);
     Ok(())
 }
 
@@ -62,7 +67,7 @@ const LATER_RULE: &[u8] = b"\
 /// No clause bounds the number of layers.
 #[test]
 fn a_ruleset_without_a_new_rule_is_frozen_once(rt: HostRuntime) -> Result<(), Fail> {
-    let case = case_of(rt.alloc(), LATER_RULE)?;
+    let case = boxed_case(rt.alloc(), LATER_RULE)?;
     assert_eq!(rt; case.layers().len(), 2);
     Ok(())
 }

@@ -61,6 +61,12 @@ pub(crate) fn case_of(alloc: Global, trace: &[u8]) -> Result<Case, Fail> {
     Ok(Case::new(alloc, tree, trace, Abi::V4)?)
 }
 
+/// The same in a box: to drop a box takes one step in each path out of a function that owns it.
+pub(crate) fn boxed_case(alloc: Global, trace: &[u8]) -> Result<Box<Case>, Fail> {
+    let case = case_of(alloc, trace)?;
+    Ok(Box::new(alloc, case)?)
+}
+
 /// The case of a program that goes by its kernel's version.
 pub(crate) fn case_at_best_effort(alloc: Global, abi: Abi, trace: &[u8]) -> Result<Case, Fail> {
     let tree = Tree::read(alloc, TREE.as_bytes())?;
@@ -95,7 +101,7 @@ impl Forks {
 }
 
 /// The case of so many processes that do nothing else.
-pub(crate) fn case_with(alloc: Global, forks: Forks, processes: u32) -> Result<Case, Fail> {
+pub(crate) fn case_with(alloc: Global, forks: Forks, processes: u32) -> Result<Box<Case>, Fail> {
     let mut trace = Vec::new(alloc);
     for pid in 1..=processes {
         match forks.parent(pid) {
@@ -108,7 +114,7 @@ pub(crate) fn case_with(alloc: Global, forks: Forks, processes: u32) -> Result<C
             }
         }
     }
-    case_of(alloc, &trace)
+    boxed_case(alloc, &trace)
 }
 
 /// Judges a case with a hand that keeps what is wanted, and compares the answers. The result is the number of pieces.

@@ -99,10 +99,18 @@ fn granted_in_turn(
 }
 
 /// Whether both rules were added, and the layer refuses one directory then and the ruleset none.
+fn grants_both(alloc: Global, tree: &Tree, rules: &mut Ruleset) -> Result<bool, Fail>
+    requires { AreInTree tree.now rules.old }
+{
+    let granted = granted_in_turn(alloc, tree, rules)?;
+    let left = refused(alloc, tree, rules)?;
+    Ok(granted == (true, (true, false)) && left == (false, false))
+}
+
+/// Whether it is so for a ruleset that handles reading alone.
 fn are_granted(alloc: Global, tree: &Tree) -> Result<bool, Fail> {
     let mut rules = about_reading(alloc, tree)?;
-    let granted = granted_in_turn(alloc, tree, &mut rules)?;
-    Ok(granted == (true, (true, false)) && refused(alloc, tree, &rules)? == (false, false))
+    grants_both(alloc, tree, &mut rules)
 }
 
 /// Each rule grants on its directory alone, and a layer that was frozen between two rules stays as it was.
