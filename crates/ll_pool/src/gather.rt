@@ -160,8 +160,7 @@ fn assemble(alloc: Global, case: &Case, pieces: &[Piece<'_>]) -> Result<Vec<Answ
     Ok(answers)
 }
 
-/// Adds an item at the end. It is said of items of any type, because a proof of pieces alone would go through all that a
-/// piece holds.
+/// Adds an item at the end.
 pub(crate) fn keep<T: Drop>(pieces: &mut Vec<T>, piece: T) -> Result<(), NoMemory>
     ensures { OnOk result (pieces.new.items ≡ pieces.old.items ++ piece ∷ []) }
 {

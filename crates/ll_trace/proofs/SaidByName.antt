@@ -10,7 +10,7 @@ use Rattle.ll_lines.specs.Lines.{Line}
 use Rattle.ll_trace.specs.declared.op.Op.{Op}
 use Rattle.ll_trace.specs.Entries.{Entry, entry_at}
 use Rattle.ll_trace.specs.Forms.{meaning}
-use Rattle.ll_trace.specs.Operations.{op_name, are_spelt, spelt, path_operations, descriptor_operations, ruleset_operations, operations, operation_at, operation_named}
+use Rattle.ll_trace.specs.Operations.{op_name, are_spelt, spelt, path_operations, descriptor_operations, operations, operation_at, operation_named}
 use Rattle.ll_trace.specs.SaidByName.{SaysOperation}
 
 -- what is read, if anything, has this name
@@ -36,7 +36,7 @@ spelt-has name op has = go (are_spelt op)
     go false = tt
 
 have_names : (value : Data) → HaveNames (operations value)
-unfolding HaveNames HasName path_operations descriptor_operations ruleset_operations operations op_name
+unfolding HaveNames HasName path_operations descriptor_operations operations op_name
 have_names value = search (rules, after, spelt-has)
 
 -- and so has the operation of a row that is found by its name

@@ -1,7 +1,6 @@
 -- The entries of a trace file: which of them start or end a process, which pid is live, and what has no place after earlier entries.
 -- Source: docs/FORMATS.md, "The trace file".
 use Rattle.std.specs.Prelude.{ℕ, ◌+◌, ◌==◌, ◌&&◌, ◌||◌, Bool, true, false, not, nat_le, List, [], ◌∷◌, length, reverse, Option, Some, None, is_some, codes, Result, Ok, if◌then◌else◌}
-use Rattle.serde_json.specs.Data.{Data}
 use Rattle.ll_lines.specs.declared.fault.Cause.{Cause}
 use Rattle.ll_lines.specs.declared.fault.Cause.TheVariants.{Twice, TooMany, UnknownProcess}
 use Rattle.ll_lines.specs.Members.{value_at, number_at, ◌>>=◌}
@@ -18,17 +17,12 @@ pub record Entry : Type 0 where
   pub pid : ℕ
   pub op : Op
 
--- what the value of the line with a number says
-abbrev pub entry_in : ℕ → Data → Result Entry Cause
-entry_in number value = do
-  pid ← number_at (codes "pid") value
-  op ← operation_at value
-  Ok (record { line = number; pid = pid; op = op })
-
 unfoldable pub entry_at : Line → Result Entry Cause
 entry_at line = do
   value ← value_at line.bytes
-  entry_in line.number value
+  pid ← number_at (codes "pid") value
+  op ← operation_at value
+  Ok (record { line = line.number; pid = pid; op = op })
 
 unfoldable pub is_start : Op → Bool
 is_start (Start nnp admin) = true

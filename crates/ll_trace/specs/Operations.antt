@@ -69,46 +69,23 @@ are_spelt op = list_all (λ text. is_some (path_of text)) (paths_of op)
 abbrev pub spelt : Op → Result Op Cause
 spelt op = if are_spelt op then Ok op else Err BadPath
 
--- what the members of calls with several members read as
-abbrev pub start_at : Data → Result Op Cause
-start_at value = of_two Start (flag_at (codes "nnp") value) (flag_at (codes "admin") value)
-
-abbrev pub create_at : Data → Result Op Cause
-create_at value = of_three Create (number_at (codes "rs") value) (fs_at value) (net_at value)
-
-abbrev pub add_path_at : Data → Result Op Cause
-add_path_at value = of_three AddPath (number_at (codes "rs") value) (text_at (codes "path") value) (fs_at value) >>= spelt
-
-abbrev pub add_port_at : Data → Result Op Cause
-add_port_at value = of_three AddPort (number_at (codes "rs") value) (number_at (codes "port") value) (net_at value)
-
-abbrev pub open_at : Data → Result Op Cause
-open_at value =
-    of_five OpenFile (text_at (codes "path") value) (number_at (codes "fd") value) (mode_at value) (flag_at (codes "create") value)
-    (flag_at (codes "trunc") value) >>= spelt
-
-abbrev pub mknod_at : Data → Result Op Cause
-mknod_at value = of_two Mknod (text_at (codes "path") value) (made_kind_at value) >>= spelt
-
-abbrev pub rename_at : Data → Result Op Cause
-rename_at value = of_three Rename (text_at (codes "from") value) (text_at (codes "to") value) (flag_at (codes "exchange") value) >>= spelt
-
-abbrev pub link_at : Data → Result Op Cause
-link_at value = of_two Link (text_at (codes "from") value) (text_at (codes "to") value) >>= spelt
-
 -- what the members of a line read as, for the name of each call on a path
 unfoldable pub path_operations : Data → List (List ℕ × Result Op Cause)
 path_operations value =
     (codes "truncate", of_one Truncate (path_at value))
     ∷ (codes "exec", of_one Exec (path_at value))
-    ∷ (codes "open", open_at value)
-    ∷ (codes "mknod", mknod_at value)
+    ∷ (
+      codes "open",
+      of_five OpenFile (text_at (codes "path") value) (number_at (codes "fd") value) (mode_at value) (flag_at (codes "create") value)
+          (flag_at (codes "trunc") value) >>= spelt,
+    )
+    ∷ (codes "mknod", of_two Mknod (text_at (codes "path") value) (made_kind_at value) >>= spelt)
     ∷ (codes "mkdir", of_one Mkdir (path_at value))
     ∷ (codes "symlink", of_one Symlink (path_at value))
     ∷ (codes "unlink", of_one Unlink (path_at value))
     ∷ (codes "rmdir", of_one Rmdir (path_at value))
-    ∷ (codes "rename", rename_at value)
-    ∷ (codes "link", link_at value)
+    ∷ (codes "rename", of_three Rename (text_at (codes "from") value) (text_at (codes "to") value) (flag_at (codes "exchange") value) >>= spelt)
+    ∷ (codes "link", of_two Link (text_at (codes "from") value) (text_at (codes "to") value) >>= spelt)
     ∷ []
 
 -- of each call on a descriptor, a port or a path
@@ -123,25 +100,20 @@ descriptor_operations value =
     ∷ (codes "connect", of_one Connect (port_at value))
     ∷ path_operations value
 
--- of each call on a ruleset too
-unfoldable pub ruleset_operations : Data → List (List ℕ × Result Op Cause)
-ruleset_operations value =
-    (codes "create", create_at value)
-    ∷ (codes "add_path", add_path_at value)
-    ∷ (codes "add_port", add_port_at value)
-    ∷ (codes "close_rs", of_one CloseRs (number_at (codes "rs") value))
-    ∷ (codes "restrict", of_one Restrict (number_at (codes "rs") value))
-    ∷ descriptor_operations value
-
 -- of each operation
 unfoldable pub operations : Data → List (List ℕ × Result Op Cause)
 operations value =
-    (codes "start", start_at value)
+    (codes "start", of_two Start (flag_at (codes "nnp") value) (flag_at (codes "admin") value))
     ∷ (codes "fork", of_one Fork (number_at (codes "child") value))
     ∷ (codes "exit", Ok Exit)
     ∷ (codes "nnp", Ok Nnp)
+    ∷ (codes "create", of_three Create (number_at (codes "rs") value) (fs_at value) (net_at value))
+    ∷ (codes "add_path", of_three AddPath (number_at (codes "rs") value) (text_at (codes "path") value) (fs_at value) >>= spelt)
+    ∷ (codes "add_port", of_three AddPort (number_at (codes "rs") value) (number_at (codes "port") value) (net_at value))
+    ∷ (codes "close_rs", of_one CloseRs (number_at (codes "rs") value))
+    ∷ (codes "restrict", of_one Restrict (number_at (codes "rs") value))
     ∷ (codes "mount", Ok Mount)
-    ∷ ruleset_operations value
+    ∷ descriptor_operations value
 
 -- the operation of a name, among some
 abbrev pub named_in : List (List ℕ × Result Op Cause) → List ℕ → Result Op Cause

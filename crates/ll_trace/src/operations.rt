@@ -1,13 +1,11 @@
 //! The names of operations, and the operation of a record's line by its name.
 
-ghost use Rattle.std.specs.Prelude.{◌≡◌};
+ghost use Rattle.std.specs.Prelude.{◌≡◌, codes};
 ghost use Rattle.serde_json.specs.Data.{Data};
 ghost use Rattle.ll_lines.specs.Readers.{Gives};
 ghost use Rattle.ll_members.specs.Slots.{Hold};
-ghost use Rattle.ll_trace.specs.Operations.{named_in, op_name, operation_at, operation_named};
-ghost use Rattle.ll_trace.specs.Operations.{descriptor_operations, path_operations, ruleset_operations};
-ghost use Rattle.ll_trace.specs.Operations.{add_path_at, add_port_at, create_at, start_at};
-ghost use Rattle.ll_trace.specs.Operations.{link_at, mknod_at, open_at, rename_at};
+ghost use Rattle.ll_trace.specs.Operations.{descriptor_operations, named_in, op_name, operation_at};
+ghost use Rattle.ll_trace.specs.Operations.{operation_named, path_operations};
 
 use crate::members::{made_kind_of, mode_of, path_of, port_of, sort_of};
 use crate::op::{Op, RuleType};
@@ -32,33 +30,33 @@ fn operation_by_name(alloc: Global, name: &str, members: &Members<'_>) -> Result
         → Gives (λ op. op) result (operation_named name.now value) }
 {
     match name {
-        "start" => start_of(members),
+        "start" => Ok(Op::Start {
+            nnp: flag_of(members, Name::Nnp)?,
+            admin: flag_of(members, Name::Admin)?,
+        }),
         "fork" => Ok(Op::Fork {
             child: number_of(members, Name::Child)?,
         }),
         "exit" => Ok(Op::Exit),
         "nnp" => Ok(Op::Nnp),
-        "mount" => Ok(Op::Mount),
-        _ => ruleset_operation(alloc, name, members),
-    }
-}
-
-/// A call on a ruleset, a descriptor, a port or a path.
-#[tactic(auto, unfolding(ll_members::specs::Slots::spelt, crate::specs::Operations::ruleset_operations))]
-fn ruleset_operation(alloc: Global, name: &str, members: &Members<'_>) -> Result<Op, Cause>
-    ensures { (value : Data) → Hold members.now value
-        → Gives (λ op. op) result (named_in (ruleset_operations value) name.now) }
-{
-    match name {
-        "create" => create_of(members),
+        "create" => Ok(Op::Create {
+            rs: number_of(members, Name::Rs)?,
+            fs: fs_of(members)?,
+            net: net_of(members)?,
+        }),
         "add_path" => add_path_of(alloc, members),
-        "add_port" => add_port_of(members),
+        "add_port" => Ok(Op::AddPort {
+            rs: number_of(members, Name::Rs)?,
+            port: number_of(members, Name::Port)?,
+            net: net_of(members)?,
+        }),
         "close_rs" => Ok(Op::CloseRs {
             rs: number_of(members, Name::Rs)?,
         }),
         "restrict" => Ok(Op::Restrict {
             rs: number_of(members, Name::Rs)?,
         }),
+        "mount" => Ok(Op::Mount),
         _ => descriptor_operation(alloc, name, members),
     }
 }
@@ -131,31 +129,10 @@ fn path_operation(alloc: Global, name: &str, members: &Members<'_>) -> Result<Op
     }
 }
 
-#[tactic(auto, unfolding(ll_members::specs::Slots::spelt))]
-fn start_of(members: &Members<'_>) -> Result<Op, Cause>
-    ensures { (value : Data) → Hold members.now value
-        → Gives (λ op. op) result (start_at value) }
-{
-    let nnp = flag_of(members, Name::Nnp)?;
-    let admin = flag_of(members, Name::Admin)?;
-    Ok(Op::Start { nnp, admin })
-}
-
-#[tactic(auto, unfolding(ll_members::specs::Slots::spelt))]
-fn create_of(members: &Members<'_>) -> Result<Op, Cause>
-    ensures { (value : Data) → Hold members.now value
-        → Gives (λ op. op) result (create_at value) }
-{
-    let rs = number_of(members, Name::Rs)?;
-    let fs = fs_of(members)?;
-    let net = net_of(members)?;
-    Ok(Op::Create { rs, fs, net })
-}
-
-#[tactic(auto, unfolding(ll_members::specs::Slots::spelt, crate::specs::SaidByName::spelling))]
+#[tactic(auto, unfolding(ll_members::specs::Slots::spelt, crate::specs::Operations::operations, crate::specs::Operations::operation_named, crate::specs::SaidByName::spelling))]
 fn add_path_of(alloc: Global, members: &Members<'_>) -> Result<Op, Cause>
     ensures { (value : Data) → Hold members.now value
-        → Gives (λ op. op) result (add_path_at value) }
+        → Gives (λ op. op) result (operation_named (codes "add_path") value) }
 {
     let rs = number_of(members, Name::Rs)?;
     let path = text_of(members, Name::Path)?;
@@ -164,21 +141,10 @@ fn add_path_of(alloc: Global, members: &Members<'_>) -> Result<Op, Cause>
     Ok(Op::AddPath { rs, path, fs })
 }
 
-#[tactic(auto, unfolding(ll_members::specs::Slots::spelt))]
-fn add_port_of(members: &Members<'_>) -> Result<Op, Cause>
-    ensures { (value : Data) → Hold members.now value
-        → Gives (λ op. op) result (add_port_at value) }
-{
-    let rs = number_of(members, Name::Rs)?;
-    let port = number_of(members, Name::Port)?;
-    let net = net_of(members)?;
-    Ok(Op::AddPort { rs, port, net })
-}
-
-#[tactic(auto, unfolding(ll_members::specs::Slots::spelt, crate::specs::SaidByName::spelling))]
+#[tactic(auto, unfolding(ll_members::specs::Slots::spelt, crate::specs::Operations::path_operations, crate::specs::SaidByName::spelling))]
 fn open_of(alloc: Global, members: &Members<'_>) -> Result<Op, Cause>
     ensures { (value : Data) → Hold members.now value
-        → Gives (λ op. op) result (open_at value) }
+        → Gives (λ op. op) result (named_in (path_operations value) (codes "open")) }
 {
     let path = text_of(members, Name::Path)?;
     let fd = number_of(members, Name::Fd)?;
@@ -195,10 +161,10 @@ fn open_of(alloc: Global, members: &Members<'_>) -> Result<Op, Cause>
     })
 }
 
-#[tactic(auto, unfolding(ll_members::specs::Slots::spelt, crate::specs::SaidByName::spelling))]
+#[tactic(auto, unfolding(ll_members::specs::Slots::spelt, crate::specs::Operations::path_operations, crate::specs::SaidByName::spelling))]
 fn mknod_of(alloc: Global, members: &Members<'_>) -> Result<Op, Cause>
     ensures { (value : Data) → Hold members.now value
-        → Gives (λ op. op) result (mknod_at value) }
+        → Gives (λ op. op) result (named_in (path_operations value) (codes "mknod")) }
 {
     let path = text_of(members, Name::Path)?;
     let kind = made_kind_of(members)?;
@@ -206,10 +172,10 @@ fn mknod_of(alloc: Global, members: &Members<'_>) -> Result<Op, Cause>
     Ok(Op::Mknod { path, kind })
 }
 
-#[tactic(auto, unfolding(ll_members::specs::Slots::spelt, crate::specs::SaidByName::spelling))]
+#[tactic(auto, unfolding(ll_members::specs::Slots::spelt, crate::specs::Operations::path_operations, crate::specs::SaidByName::spelling))]
 fn rename_of(alloc: Global, members: &Members<'_>) -> Result<Op, Cause>
     ensures { (value : Data) → Hold members.now value
-        → Gives (λ op. op) result (rename_at value) }
+        → Gives (λ op. op) result (named_in (path_operations value) (codes "rename")) }
 {
     let from = text_of(members, Name::From)?;
     let to = text_of(members, Name::To)?;
@@ -219,10 +185,10 @@ fn rename_of(alloc: Global, members: &Members<'_>) -> Result<Op, Cause>
     Ok(Op::Rename { from, to, exchange })
 }
 
-#[tactic(auto, unfolding(ll_members::specs::Slots::spelt, crate::specs::SaidByName::spelling))]
+#[tactic(auto, unfolding(ll_members::specs::Slots::spelt, crate::specs::Operations::path_operations, crate::specs::SaidByName::spelling))]
 fn link_of(alloc: Global, members: &Members<'_>) -> Result<Op, Cause>
     ensures { (value : Data) → Hold members.now value
-        → Gives (λ op. op) result (link_at value) }
+        → Gives (λ op. op) result (named_in (path_operations value) (codes "link")) }
 {
     let from = text_of(members, Name::From)?;
     let to = text_of(members, Name::To)?;

@@ -1,12 +1,10 @@
 //! The reading of a trace file, record after record.
 
 ghost use Rattle.std.specs.Prelude.{◌≡◌, ◌+◌, ◌<◌, ◌∷◌, ◌++◌, [], List, OnOk, IfOk, IfErr, None, Ok, flat_map, unwrap_or, nat_le};
-ghost use Rattle.serde_json.specs.Data.{Data};
-ghost use Rattle.ll_members.specs.Slots.{Hold};
 ghost use Rattle.ll_lines.specs.{declared.fault.Cause.TheVariants.Memory, Readers.Gives, Lines.Line};
 ghost use Rattle.ll_lines.specs.LineByLine.{with_entry, with_line, read_lines, reading, GivesReading, MeetsFault, line_view};
 ghost use Rattle.ll_trace.specs.declared.reader.TheConstants.{MOST_PROCESSES, MOST_RECORDS};
-ghost use Rattle.ll_trace.specs.Entries.{Entry as Seen, entry_at, entry_in, is_live as is_live_in, is_unknown as is_unknown_in, is_twice as is_twice_in, is_too_many, is_end_of, misplacement, process_count, started_pid, trace_file};
+ghost use Rattle.ll_trace.specs.Entries.{Entry as Seen, entry_at, is_live as is_live_in, is_unknown as is_unknown_in, is_twice as is_twice_in, is_too_many, is_end_of, misplacement, process_count, started_pid, trace_file};
 ghost use Rattle.ll_trace.specs.Records.{process_of};
 ghost use Rattle.ll_trace.specs.Kept.{IsKept, IsNoted, Begins, Stops, entries, entry_view, number, owner_of, past, runs};
 
@@ -17,7 +15,7 @@ use json::Scratch;
 use ll_lines::blocks::LineBlock;
 use ll_lines::lines::{FileLine, FilledLines};
 use ll_lines::{Cause, ReadFault};
-use ll_members::{Members, Name, number_of, read_members};
+use ll_members::{Name, number_of, read_members};
 use std::alloc::Global;
 
 /// The most records of a trace.
@@ -42,20 +40,8 @@ pub(crate) struct Reader {
     processes: u32,
 }
 
-/// What the line with a number says, by its members.
-#[tactic(auto, unfolding(ll_members::specs::Slots::spelt))]
-fn entry_by(alloc: Global, line: u64, members: &Members<'_>) -> Result<Entry, Cause>
-    ensures gives { (value : Data) → Hold members.now value
-        → Gives entry_view result (entry_in line value) }
-    ensures line { IfOk result (λ entry. entry.line ≡ line) }
-{
-    let pid = number_of(members, Name::Pid)?;
-    let op = operation_of(alloc, members)?;
-    Ok(Entry { line, pid, op })
-}
-
 /// What a line says.
-#[tactic(auto, unfolding(crate::specs::Entries::entry_at))]
+#[tactic(auto, unfolding(ll_members::specs::Slots::spelt, crate::specs::Entries::entry_at))]
 pub(crate) fn entry_of(
     alloc: Global,
     line: &FileLine,
@@ -65,7 +51,13 @@ pub(crate) fn entry_of(
     ensures line { IfOk result (λ entry. entry.line ≡ line.now.number) }
 {
     let members = read_members(line.bytes, scratch)?;
-    entry_by(alloc, line.number, &members)
+    let pid = number_of(&members, Name::Pid)?;
+    let op = operation_of(alloc, &members)?;
+    Ok(Entry {
+        line: line.number,
+        pid,
+        op,
+    })
 }
 
 fn is_running(owner: Option<Owner>) -> bool
