@@ -1,17 +1,8 @@
 //! Reports as JSON, as the documents say them.
 
-use ll_audit::{ALL_LINES, Report, Shown};
-use ll_explanations::Findings;
+use crate::tests::ready::run;
 use ll_fixtures::TREE;
-use ll_json::json_report;
-use ll_pool::judge_alone;
-use ll_process::{Case, CaseView};
-use ll_rights::Abi;
-use ll_trace::{Located, Trace};
-use ll_tree::Tree;
-use std::alloc::Global;
 use std::test::Fail;
-use std::thread::Threads;
 
 /// A process with a layer, which has a rule for `/b`, and calls that are refused or moot.
 const TRACE: &str = "\
@@ -49,7 +40,7 @@ const EXPLAINED: &str = "\
 {\"line\":11,\"pid\":10,\"op\":\"open\",\"answers\":[{\"abi\":[4,4],\"answer\":\"moot\",\
 \"why\":{\"reason\":\"absent\",\"path\":\"/q\\\"\\u0001\"}}]}\n\
 {\"line\":12,\"pid\":10,\"op\":\"exec\",\"answers\":[{\"abi\":[4,4],\"answer\":\"allowed\"}]}\n\
-{\"totals\":[{\"abi\":4,\"records\":12,\"allowed\":6,\"refused\":5,\"moot\":1}],\"version\":\"7.8.9\"}\n";
+{\"totals\":[{\"abi\":4,\"records\":12,\"allowed\":6,\"refused\":5,\"moot\":1}],\"version\":\"0.2 (rattle-kit-13f logic dac8208d650f15bf)\"}\n";
 
 /// What it shows of refused records without explanations.
 const REFUSED: &str = "\
@@ -58,66 +49,22 @@ const REFUSED: &str = "\
 {\"line\":8,\"pid\":10,\"op\":\"bind\",\"answers\":[{\"abi\":[4,4],\"answer\":\"refused\",\"error\":\"EACCES\",\"layers\":[{\"layer\":1}]}]}\n\
 {\"line\":9,\"pid\":10,\"op\":\"mount\",\"answers\":[{\"abi\":[4,4],\"answer\":\"refused\",\"error\":\"EPERM\",\"layers\":[{\"layer\":1}]}]}\n\
 {\"line\":10,\"pid\":10,\"op\":\"add_path\",\"answers\":[{\"abi\":[4,4],\"answer\":\"refused\",\"error\":\"EINVAL\",\"layers\":[]}]}\n\
-{\"totals\":[{\"abi\":4,\"records\":12,\"allowed\":6,\"refused\":5,\"moot\":1}],\"version\":\"7.8.9\"}\n";
-
-/// All lines, with explanations.
-const EXPLANATIONS: Shown = Shown {
-    explanations: true,
-    ..ALL_LINES
-};
-
-/// The lines of refused records, without explanations.
-const REFUSED_LINES: Shown = Shown {
-    refused_alone: true,
-    ..ALL_LINES
-};
-
-/// The trace under ABI 4.
-fn case_of(alloc: Global) -> Result<Case, Fail> {
-    let tree = Tree::read(alloc, TREE.as_bytes())?;
-    let trace = Trace::read(alloc, TRACE.as_bytes())?;
-    let located = Located::of(alloc, tree, trace)?;
-    Ok(Case::of_located(alloc, located, Abi::V4)?)
-}
-
-/// What is found of its records.
-fn found<R: Threads + AllocGlobal + Sync>(
-    rt: &R,
-    case: &Case,
-    explains: bool,
-) -> Result<Findings, Fail> {
-    let alloc = rt.alloc();
-    let answers = judge_alone(alloc, case)?;
-    let view = CaseView::of(case);
-    Ok(Findings::none(alloc).with(rt, alloc, &view, answers, explains, 1)?)
-}
-
-/// The report on what was found of a case.
-fn report_of(alloc: Global, case: Case, findings: Findings, shown: Shown) -> Result<Report, Fail> {
-    let report = json_report(alloc, case.into_located(), findings, shown, 4, "7.8.9")?;
-    Ok(report.into_report(alloc)?)
-}
-
-/// Whether the report on the trace has these lines, and counts five refused records.
-fn is_reported<R: Threads + AllocGlobal + Sync>(
-    rt: &R,
-    shown: Shown,
-    lines: &str,
-) -> Result<bool, Fail> {
-    let case = case_of(rt.alloc())?;
-    let findings = found(rt, &case, shown.explanations)?;
-    let report = report_of(rt.alloc(), case, findings, shown)?;
-    Ok(report.bytes.as_slice() == lines.as_bytes() && report.refused == 5)
-}
+{\"totals\":[{\"abi\":4,\"records\":12,\"allowed\":6,\"refused\":5,\"moot\":1}],\"version\":\"0.2 (rattle-kit-13f logic dac8208d650f15bf)\"}\n";
 
 #[test]
 fn explanations_in_json(rt: HostRuntime) -> Result<(), Fail> {
-    assert!(rt; is_reported(&rt, EXPLANATIONS, EXPLAINED)?);
+    let files = [("t", TREE.as_bytes()), ("r", TRACE.as_bytes())];
+    let words = ["landaudit", "--abi", "4", "t", "r", "--json", "--explain"];
+    let ended = run(&rt, words.as_slice(), files.as_slice())?;
+    assert!(rt; ended.is(1, EXPLAINED, ""));
     Ok(())
 }
 
 #[test]
 fn refused_records_in_json(rt: HostRuntime) -> Result<(), Fail> {
-    assert!(rt; is_reported(&rt, REFUSED_LINES, REFUSED)?);
+    let files = [("t", TREE.as_bytes()), ("r", TRACE.as_bytes())];
+    let words = ["landaudit", "--abi", "4", "t", "r", "--json", "--refused"];
+    let ended = run(&rt, words.as_slice(), files.as_slice())?;
+    assert!(rt; ended.is(1, REFUSED, ""));
     Ok(())
 }
