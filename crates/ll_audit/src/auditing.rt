@@ -261,7 +261,7 @@ fn text_over<R: Threads + Wait + Sync, G: Gate + Sync>(
     ensures fault { IfErr result IsWant }
 {
     let all = Audited::of(audit, tree, trace)?;
-    let report = all.into_text(audit.workers.alloc, audit.options)?;
+    let report = all.into_text(audit.workers.rt, audit.workers.alloc, audit.options)?;
     Ok(ReportText::new(Form::Range(report)))
 }
 
@@ -276,6 +276,6 @@ fn json_by<R: Threads + Wait + Sync, G: Gate + Sync>(
     ensures fault { IfErr result IsWant }
 {
     let all = Audited::of(audit, tree, trace)?;
-    let report = all.into_json(audit.workers.alloc, audit.options)?;
+    let report = all.into_json(audit.workers.rt, audit.workers.alloc, audit.options)?;
     Ok(ReportText::new(Form::Json(report)))
 }

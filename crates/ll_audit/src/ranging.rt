@@ -142,8 +142,9 @@ impl Audited {
 
 impl Audited {
     /// The report as text over the versions that the options ask for.
-    pub(crate) fn into_text(
+    pub(crate) fn into_text<R: Threads + Sync>(
         self,
+        rt: &R,
         alloc: Global,
         options: &Options,
     ) -> Result<RowReport<VersionRows>, AllocError>
@@ -157,12 +158,13 @@ impl Audited {
     {
         let Audited { located, findings } = self;
         let oldest = options.abis.oldest();
-        report_over(alloc, located, findings, options.shown, oldest.number())
+        report_over(rt, alloc, located, findings, options.shown, oldest.number())
     }
 
     /// The report as JSON over the versions that the options ask for.
-    pub(crate) fn into_json(
+    pub(crate) fn into_json<R: Threads + Sync>(
         self,
+        rt: &R,
         alloc: Global,
         options: &Options,
     ) -> Result<RowReport<JsonRows<'static>>, AllocError>
@@ -176,6 +178,7 @@ impl Audited {
         let Audited { located, findings } = self;
         let oldest = options.abis.oldest();
         json_report(
+            rt,
             alloc,
             located,
             findings,

@@ -15,6 +15,7 @@ use ll_report::{RowReport, Rows, Sayings, Scratch, Shown, is_left_out, refused_u
 use ll_trace::Located;
 use std::alloc::{AllocError, Global};
 use std::marker::Model;
+use std::thread::Threads;
 
 /// What a report as JSON is made of: the tree and the records as the oldest version takes them, what is found under
 /// each version, what is shown of it, the number of the oldest version, and the version of the program that writes it.
@@ -45,7 +46,8 @@ impl<'p> Model for JsonRows<'p> {
 }
 
 /// For what versions find of the records of a trace, and say with explanations or without.
-fn scratch_for(
+fn scratch_for<R: Threads + Sync>(
+    rt: &R,
     alloc: Global,
     located: &Located,
     findings: &Findings,
@@ -56,9 +58,9 @@ fn scratch_for(
 {
     let records = located.trace.records();
     if explains {
-        Scratch::of::<Members>(alloc, &located.tree, records, findings)
+        Scratch::of::<Members, R>(rt, alloc, &located.tree, records, findings)
     } else {
-        Scratch::of::<BareMembers>(alloc, &located.tree, records, findings)
+        Scratch::of::<BareMembers, R>(rt, alloc, &located.tree, records, findings)
     }
 }
 
@@ -99,8 +101,9 @@ impl<'p> Rows for JsonRows<'p> {
 
 /// The report as JSON over versions of which the oldest has this number, by what is found under each, as much as is
 /// shown of it, with the version of the program that writes it. The tree and the records are those at hand, as the
-/// oldest version takes them.
-pub fn json_report<'p>(
+/// oldest version takes them. Up to four threads measure what is said of records.
+pub fn json_report<'p, R: Threads + Sync>(
+    rt: &R,
     alloc: Global,
     located: Located,
     findings: Findings,
@@ -114,7 +117,7 @@ pub fn json_report<'p>(
         → IsJsonReport shown located.tree oldest versions located.trace program.now report) }
 {
     let refused = refused_under_some(&findings, located.trace.records().len());
-    let scratch = scratch_for(alloc, &located, &findings, shown.explanations)?;
+    let scratch = scratch_for(rt, alloc, &located, &findings, shown.explanations)?;
     let rows = JsonRows {
         located,
         findings,

@@ -1,80 +1,66 @@
--- What is known of the records before a place while it is found out which ones versions may differ about.
-use Rattle.std.proofs.Common.{◌≡◌, ◌∙◌, ℕ, suc, ◌+◌, ◌<◌, ◌≤◌, ◌^◌, Bool, zero, true, false, List, [], ◌∷◌, ◌++◌, length, arith, ap, sym, slice_get}
+-- Marks of records about which versions may differ, and a length that no text of these exceeds.
+use Rattle.std.proofs.Common.{◌≡◌, ◌∙◌, ℕ, suc, ◌+◌, ◌<◌, ◌≤◌, ◌^◌, Bool, zero, true, false, List, [], ◌∷◌, ◌++◌, length, arith, ap, sym}
 use Rattle.std.proofs.Common.{inl, inr, refl, subst, ap₂}
-use Rattle.std.specs.Prelude.{◌⊎◌}
 use Rattle.std.proofs.lemmas.Bool.{cases_lt, false≢true}
 use Rattle.std.proofs.lemmas.List.{length-append}
-use Rattle.std.specs.Prelude.{unwrap_or}
 use Rattle.ll_tree.specs.Trees.{Entry}
 use Rattle.ll_trace.specs.declared.op.Record.{Record}
 use Rattle.ll_explanations.specs.Findings.{FindingValue}
 use Rattle.ll_explanations.specs.Alike.{AreAlike}
-use Rattle.ll_report.specs.Scratches.{FitIn, told_under, verdict_told}
-
-abbrev pub found_apart : List Bool → ℕ → Bool
-found_apart apart place = unwrap_or (slice_get apart place) false
+use Rattle.ll_report.specs.Measures.{AreMarks}
+use Rattle.ll_report.specs.Scratches.{FitIn, Suits, is_marked, told_under, verdict_told}
 
 -- how what is found is told
 abbrev pub Telling : Type 0
 Telling = List Entry → List Record → FindingValue → ℕ → List ℕ
 
-pub record IsSuitedBefore (told : Telling) (tree : List Entry) (records : List Record) (findings : List FindingValue)
-    (apart : List Bool) (longest place : ℕ) : Type 0 where
-  pub as_many : length apart ≡ place
-  pub alike : (k : ℕ) → k < place → found_apart apart k ≡ false → AreAlike findings k
-  pub verdicts : longest < 2 ^ 63 → (k : ℕ) → found_apart apart k ≡ true → FitIn longest (told_under verdict_told tree records findings k)
-  pub texts : longest < 2 ^ 63 → (k : ℕ) → found_apart apart k ≡ true → FitIn longest (told_under told tree records findings k)
+mark_before : (marks : List Bool) (one : Bool) (k : ℕ) → k < length marks → is_marked (marks ++ one ∷ []) k ≡ is_marked marks k
+mark_before [] one k below = absurd (omega (arith, below))
+mark_before (first ∷ others) one zero below = refl
+mark_before (first ∷ others) one (suc k) below = mark_before others one k (omega (arith, below))
 
-pub fits_more : (texts : List (List ℕ)) (a b : ℕ) → a ≤ b → FitIn a texts → FitIn b texts
-fits_more texts a b at_most fit k d below = omega (arith, fit k d below, at_most)
+mark_here : (marks : List Bool) (one : Bool) → is_marked (marks ++ one ∷ []) (length marks) ≡ one
+mark_here [] one = refl
+mark_here (first ∷ others) one = mark_here others one
 
--- one more is found
-apart_later : (apart : List Bool) (one : Bool) (k : ℕ) → found_apart (apart ++ one ∷ []) k ≡ true → (found_apart apart k ≡ true)
-    ⊎ ((k ≡ length apart) × (one ≡ true))
-apart_later [] one zero is = inr (refl, is)
-apart_later [] one (suc k) is = absurd (false≢true is)
-apart_later (first ∷ others) one zero is = inl is
-apart_later (first ∷ others) one (suc k) is = elim (apart_later others one k is) [
-  | inl before ↦ inl before
-  | inr last ↦ inr (ap suc last.0, last.1)
-]
+-- one record more has its mark
+pub one_more : (findings : List FindingValue) (marks after : List Bool) (one : Bool) (place : ℕ) → AreMarks findings place marks
+    → after ≡ marks ++ one ∷ [] → (one ≡ false → AreAlike findings place) → AreMarks findings (place + 1) after
+one_more findings marks after one place so_far pushed alike = record {
+  as_many = ap length pushed ∙ length-append marks (one ∷ []) ∙ ap (λ n. n + 1) so_far.as_many;
+  alike = λ k below is. elim (cases_lt k place) [
+    | inl before ↦
+        so_far.alike k before (sym (mark_before marks one k (omega (arith, before, so_far.as_many))) ∙ ap (λ a. is_marked a k) (sym pushed) ∙ is)
+    | inr here ↦
+        let same : k ≡ place = omega (arith, here, below) in
+        let none : one ≡ false = sym (mark_here marks one) ∙ ap₂ is_marked (sym pushed) (so_far.as_many ∙ sym same) ∙ is in
+        subst (AreAlike findings) (sym same) (alike none)
+  ];
+}
 
-apart_before : (apart : List Bool) (one : Bool) (k : ℕ) → k < length apart → found_apart (apart ++ one ∷ []) k ≡ found_apart apart k
-apart_before [] one k below = absurd (omega (arith, below))
-apart_before (first ∷ others) one zero below = refl
-apart_before (first ∷ others) one (suc k) below = apart_before others one k (omega (arith, below))
+-- marks and a length of all records
+marked_within : (marks : List Bool) (place : ℕ) → is_marked marks place ≡ true → place < length marks
+marked_within [] place is = absurd (false≢true is)
+marked_within (mark ∷ marks) zero is = omega arith
+marked_within (mark ∷ marks) (suc place) is = omega (arith, marked_within marks place is)
 
-apart_here : (apart : List Bool) (one : Bool) → found_apart (apart ++ one ∷ []) (length apart) ≡ one
-apart_here [] one = refl
-apart_here (first ∷ others) one = apart_here others one
+pub suited : (told : Telling) (tree : List Entry) (records : List Record) (findings seen : List FindingValue) (marks held : List Bool)
+    (end longest room : ℕ) → AreMarks findings (length records) marks → seen ≡ findings → held ≡ marks → end ≡ length marks → longest < 2 ^ 63
+    → room ≡ longest
+    → (longest < 2 ^ 63 → (place : ℕ) → 0 ≤ place → place < end → is_marked held place ≡ true
+    → FitIn longest (told_under verdict_told tree records seen place) × FitIn longest (told_under told tree records seen place))
+    → Suits told tree records findings (record { apart = marks; room = room })
+suited told tree records findings seen marks held end longest room are same kept all small holds fits = record {
+  alike = are.alike;
+  verdicts = λ place is. subst (λ (n : ℕ). FitIn n (told_under verdict_told tree records findings place)) (sym holds) (fit place is).0;
+  texts = λ place is. subst (λ (n : ℕ). FitIn n (told_under told tree records findings place)) (sym holds) (fit place is).1;
+}
+  where
+    both : ℕ → List FindingValue → Type 0
+    both place fs = FitIn longest (told_under verdict_told tree records fs place) × FitIn longest (told_under told tree records fs place)
 
--- one more record is measured
-module _ (told : Telling) (tree : List Entry) (records : List Record) (findings : List FindingValue) (apart after : List Bool) (one : Bool)
-    (longest next place : ℕ) (so_far : IsSuitedBefore told tree records findings apart longest place) (pushed : after ≡ apart ++ one ∷ [])
-    (greater : longest ≤ next) where
-  later : (form : Telling) → (longest < 2 ^ 63 → (k : ℕ) → found_apart apart k ≡ true → FitIn longest (told_under form tree records findings k))
-      → (one ≡ true → next < 2 ^ 63 → FitIn next (told_under form tree records findings place))
-      → next < 2 ^ 63 → (k : ℕ) → found_apart after k ≡ true → FitIn next (told_under form tree records findings k)
-  later form old new small k is = elim (apart_later apart one k (ap (λ a. found_apart a k) (sym pushed) ∙ is)) [
-    | inl before ↦ fits_more (told_under form tree records findings k) longest next greater (old (omega (arith, small, greater)) k before)
-    | inr last ↦
-        subst (λ n. FitIn next (told_under form tree records findings n)) (sym (last.0 ∙ so_far.as_many)) (new last.1 small)
-  ]
-
-  pub one_more : (one ≡ false → AreAlike findings place)
-      → (one ≡ true → next < 2 ^ 63 → FitIn next (told_under verdict_told tree records findings place))
-      → (one ≡ true → next < 2 ^ 63 → FitIn next (told_under told tree records findings place))
-      → IsSuitedBefore told tree records findings after next (place + 1)
-  one_more alike verdicts texts = record {
-    as_many = ap length pushed ∙ length-append apart (one ∷ []) ∙ ap (λ n. n + 1) so_far.as_many;
-    alike = λ k below is. elim (cases_lt k place) [
-      | inl before ↦
-          so_far.alike k before (sym (apart_before apart one k (omega (arith, before, so_far.as_many))) ∙ ap (λ a. found_apart a k) (sym pushed) ∙ is)
-      | inr here ↦
-          let same : k ≡ place = omega (arith, here, below) in
-          let none : one ≡ false = sym (apart_here apart one) ∙ ap₂ found_apart (sym pushed) (so_far.as_many ∙ sym same) ∙ is in
-          subst (AreAlike findings) (sym same) (alike none)
-    ];
-    verdicts = later verdict_told so_far.verdicts verdicts;
-    texts = later told so_far.texts texts;
-  }
+    fit : (place : ℕ) → is_marked marks place ≡ true → both place findings
+    fit place is =
+        subst (both place) same
+        (fits small place (omega arith) (omega (arith, marked_within marks place is, all))
+        (subst (λ (ms : List Bool). is_marked ms place ≡ true) (sym kept) is))

@@ -6,6 +6,7 @@ pub mod Blocks
 pub mod Writing
 pub mod Found
 pub mod Scratches
+pub mod Measures
 pub mod Spans
 pub mod Rows
 pub mod Versions

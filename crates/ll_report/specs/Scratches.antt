@@ -1,6 +1,6 @@
 -- What is kept to compare what versions say of a record, and what they say.
 -- Source: docs/FORMATS.md, "Several versions"; the buffers are the code's own.
-use Rattle.std.specs.Prelude.{◌≡◌, ◌<◌, ◌≤◌, ℕ, Bool, [], ◌∷◌, true, false, List, All, length, map, slice_get, unwrap_or}
+use Rattle.std.specs.Prelude.{◌≡◌, ◌<◌, ◌≤◌, ℕ, Bool, true, false, List, All, length, map, slice_get, unwrap_or}
 use Rattle.ll_tree.specs.Trees.{Entry}
 use Rattle.ll_trace.specs.declared.op.Record.{Record}
 use Rattle.ll_explanations.specs.Alike.{AreAlike}
@@ -11,13 +11,17 @@ use Rattle.ll_report.specs.declared.sayings.Sayings.{Sayings}
 
 -- ---- what is kept to compare what versions say
 
+-- the record at a place is marked
+abbrev pub is_marked : List Bool → ℕ → Bool
+is_marked marks place = unwrap_or (slice_get marks place) false
+
 -- of each record whether versions may differ about it, and how long a text can be held
 pub record ScratchValue : Type 0 where
   pub apart : List Bool
   pub room : ℕ
 
 abbrev pub is_apart : ScratchValue → ℕ → Bool
-is_apart scratch place = unwrap_or (slice_get scratch.apart place) false
+is_apart scratch = is_marked scratch.apart
 
 -- how long a text can be held, the text that is held, and the next, which is compared with it
 pub record PairValue : Type 0 where

@@ -13,6 +13,7 @@ mod rows;
 mod sayings;
 mod scratch;
 mod spans;
+mod stretch;
 mod telling;
 mod text_pair;
 mod version_rows;

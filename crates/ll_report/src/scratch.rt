@@ -2,16 +2,18 @@
 
 ghost use Rattle.std.specs.Prelude.{◌≡◌, ◌<◌, ◌^◌, IfOk, bytes_eq, get_or, length, []};
 ghost use Rattle.ll_report.specs.Scratches.{FitIn, Suits, is_apart, told_under};
+ghost use Rattle.ll_report.specs.Measures.{AreMarks};
 
 use crate::sayings::Sayings;
+use crate::stretch::{Stretch, is_marked};
 use crate::telling::Telling;
 use crate::text_pair::TextPair;
-use ll_explain::TextBuffer;
 use ll_explanations::Findings;
 use ll_trace::Record;
 use ll_tree::Tree;
 use std::alloc::{AllocError, Global};
 use std::marker::Model;
+use std::thread::Threads;
 
 /// Which records versions may differ about, and two texts with room for whatever a version says of one of these. So
 /// comparing what they say takes no memory.
@@ -30,9 +32,21 @@ impl Model for Scratch {
         record { apart = scratch.apart.items; room = scratch.pair.room } };
 }
 
+/// A mark for each of so many records about which versions may differ.
+fn marks_of(alloc: Global, findings: &Findings, count: usize) -> Result<Vec<bool>, AllocError>
+    ensures { IfOk result (λ marks. AreMarks findings.now count marks.items) }
+{
+    let mut marks = Vec::with_capacity(alloc, count)?;
+    for place in 0..count {
+        marks.push(findings.is_apart(place))?;
+    }
+    Ok(marks)
+}
+
 impl Scratch {
-    /// For what versions find of these records, and say in a form.
-    pub fn of<T: Telling>(
+    /// For what versions find of these records, and say in a form. Up to four threads measure it.
+    pub fn of<T: Telling + Sync, R: Threads + Sync>(
+        rt: &R,
         alloc: Global,
         tree: &Tree,
         records: &[Record],
@@ -40,34 +54,25 @@ impl Scratch {
     ) -> Result<Scratch, AllocError>
         ensures { IfOk result (Suits T.told tree.now records.now findings.now) }
     {
-        let mut measure = TextBuffer::measure(alloc);
-        let mut apart = Vec::with_capacity(alloc, records.len())?;
-        let mut longest = 0;
-        for place in 0..records.len() {
-            let is_apart = findings.is_apart(place);
-            let sayings = Sayings {
-                tree,
-                records,
-                findings: findings.as_slice(),
-                place,
-            };
-            longest = sayings.measured::<T>(&mut measure, is_apart, longest);
-            apart.push(is_apart)?;
-        }
-        Ok(Scratch {
-            apart,
-            pair: TextPair::new(alloc, longest)?,
-        })
+        let apart = marks_of(alloc, findings, records.len())?;
+        let all = Stretch {
+            tree,
+            records,
+            findings: findings.as_slice(),
+            marks: &apart,
+            from: 0,
+            end: apart.len(),
+        };
+        let longest = all.longest_by_threads::<T, R>(rt, alloc);
+        let pair = TextPair::new(alloc, longest)?;
+        Ok(Scratch { apart, pair })
     }
 
     /// Whether versions may differ about the record at a place.
     pub fn is_apart(&self, place: usize) -> bool
         ensures { result ≡ is_apart self.now place }
     {
-        match self.apart.get(place) {
-            Some(is_apart) => *is_apart,
-            None => false,
-        }
+        is_marked(&self.apart, place)
     }
 
     /// Whether two versions say the same of a record.

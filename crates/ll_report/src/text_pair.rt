@@ -1,6 +1,6 @@
 //! Two texts, one of which is held while the other is compared with it.
 
-ghost use Rattle.std.specs.Prelude.{◌≡◌, ◌<◌, IfOk, [], bytes_eq, false, get_or, length};
+ghost use Rattle.std.specs.Prelude.{◌≡◌, ◌<◌, ◌^◌, IfOk, OnOk, [], bytes_eq, false, get_or, length};
 ghost use Rattle.ll_report.specs.Scratches.{FitIn, said_by};
 
 use crate::sayings::Sayings;
@@ -33,7 +33,8 @@ impl Model for TextPair {
 impl TextPair {
     /// With room for texts of so many bytes.
     pub(crate) fn new(alloc: Global, room: usize) -> Result<TextPair, AllocError>
-        ensures { IfOk result (λ pair. pair.room ≡ room) }
+        ensures room { IfOk result (λ pair. pair.room ≡ room) }
+        ensures small { OnOk result (room < 2 ^ 63) }
     {
         Ok(TextPair {
             held: TextBuffer::new(alloc, room)?,

@@ -18,6 +18,7 @@ use ll_explanations::{Finding, Findings};
 use ll_trace::Located;
 use std::alloc::{AllocError, Global};
 use std::marker::Model;
+use std::thread::Threads;
 
 /// What is shown of the records of a trace over versions of which the oldest has this number, by what was found under
 /// each.
@@ -48,7 +49,8 @@ impl Model for VersionRows {
 
 impl VersionRows {
     /// The rows of a trace.
-    pub fn of(
+    pub fn of<R: Threads + Sync>(
+        rt: &R,
         alloc: Global,
         located: Located,
         findings: Findings,
@@ -59,7 +61,8 @@ impl VersionRows {
         ensures { IfOk result (λ rows. rows ≡ rows_made shown oldest (founds_in shown.explanations
             located.tree located.trace findings) located.trace) }
     {
-        let scratch = Scratch::of::<InWords>(
+        let scratch = Scratch::of::<InWords, R>(
+            rt,
             alloc,
             &located.tree,
             located.trace.records(),
@@ -126,8 +129,9 @@ impl Rows for VersionRows {
 }
 
 /// The report over versions of which the oldest has this number, by what was found under each, as much as is shown of
-/// it.
-pub fn report_over(
+/// it. Up to four threads measure its texts.
+pub fn report_over<R: Threads + Sync>(
+    rt: &R,
     alloc: Global,
     located: Located,
     findings: Findings,
@@ -141,7 +145,7 @@ pub fn report_over(
         shown.explanations located.tree located.trace findings) located.trace) }
 {
     let refused = refused_under_some(&findings, located.trace.records().len());
-    let rows = VersionRows::of(alloc, located, findings, shown, oldest)?;
+    let rows = VersionRows::of(rt, alloc, located, findings, shown, oldest)?;
     let report = RowReport::of(alloc, rows, refused)?;
     Ok(report)
 }

@@ -8,8 +8,8 @@ use Rattle.ll_audit.specs.ShownReports.{IsReportInJson, versions_by}
 use Rattle.ll_audit.proofs.AsJson.{same_report}
 use Rattle.ll_audit.proofs.auditing.json_by.Goals as goal
 
-pub into_json-requires : goal.into_json-requires
-into_json-requires g c = c.in_ok-all.ensures.few
+pub into_json-requires-after_bounds : goal.into_json-requires-after_bounds
+into_json-requires-after_bounds g c κs within = c.in_ok-all.ensures.few
 
 pub returns-clause-report : goal.returns-clause-report
 returns-clause-report g c =

@@ -13,8 +13,8 @@ use Rattle.ll_audit.proofs.FoundAtHand.{found_each, same_founds}
 use Rattle.ll_audit.proofs.VersionByVersion.{same_told}
 use Rattle.ll_audit.proofs.auditing.text_over.Goals as goal
 
-pub into_text-requires : goal.into_text-requires
-into_text-requires g c = c.in_ok-all.ensures.few
+pub into_text-requires-after_bounds : goal.into_text-requires-after_bounds
+into_text-requires-after_bounds g c κs within = c.in_ok-all.ensures.few
 
 pub returns-clause-report : goal.returns-clause-report
 returns-clause-report g c =
