@@ -15,8 +15,8 @@ pub record AreMarks (findings : List FindingValue) (count : ℕ) (marks : List B
   pub alike : (place : ℕ) → place < count → is_marked marks place ≡ false → AreAlike findings place
 
 -- no text that is said of the record at a place is longer
-abbrev pub Exceeds : (List Entry → List Record → FindingValue → ℕ → List ℕ) → Stretch → ℕ → ℕ → Type 0
-Exceeds told s longest place =
+abbrev pub AreNoLonger : (List Entry → List Record → FindingValue → ℕ → List ℕ) → Stretch → ℕ → ℕ → Type 0
+AreNoLonger told s longest place =
     FitIn longest (told_under verdict_told s.tree.now s.records.now s.findings.now place)
     × FitIn longest (told_under told s.tree.now s.records.now s.findings.now place)
 
@@ -24,7 +24,7 @@ Exceeds told s longest place =
 -- says nothing.
 abbrev pub IsLongestUpTo : (List Entry → List Record → FindingValue → ℕ → List ℕ) → Stretch → ℕ → ℕ → Type 0
 IsLongestUpTo told s end longest =
-    longest < 2 ^ 63 → (place : ℕ) → s.from ≤ place → place < end → is_marked s.marks.now place ≡ true → Exceeds told s longest place
+    longest < 2 ^ 63 → (place : ℕ) → s.from ≤ place → place < end → is_marked s.marks.now place ≡ true → AreNoLonger told s longest place
 
 abbrev pub IsLongest : (List Entry → List Record → FindingValue → ℕ → List ℕ) → Stretch → ℕ → Type 0
 IsLongest told s longest = IsLongestUpTo told s s.end longest
