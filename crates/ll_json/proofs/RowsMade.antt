@@ -1,5 +1,5 @@
 -- The rows of a report.
-use Rattle.std.proofs.Common.{◌≡◌, ◌∙◌, ℕ, Bool, true, false, List, [], Some, length, map, sym, ap}
+use Rattle.std.proofs.Common.{◌≡◌, ◌∙◌, ◌<◌, ℕ, Bool, true, false, List, [], Some, length, map, sym, ap, subst}
 use Rattle.std.specs.Prelude.{if◌then◌else◌, slice_get}
 use Rattle.ll_tree.specs.Trees.{Entry}
 use Rattle.ll_trace.specs.declared.op.Record.{Record}
@@ -17,6 +17,10 @@ module _ (shown : Shown) (oldest : ℕ) (tree : List Entry) (records : List Reco
     (is : json_made shown oldest tree records findings program ≡ made) where
   pub as_many : length made.shown ≡ length records
   as_many = sym (ap (λ (m : Made). length m.shown) is) ∙ length-rows (row_text shown oldest tree records findings) 0 records
+
+  -- a place that has a row is among the records
+  pub among : (place : ℕ) → place < length made.shown → place < length records
+  among place below = subst (λ (n : ℕ). place < n) as_many below
 
   module _ (place : ℕ) (r : Record) (there : slice_get records place ≡ Some r) where
     row_there : row_at made place ≡ row_text shown oldest tree records findings place r

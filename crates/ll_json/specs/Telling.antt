@@ -10,15 +10,11 @@ use Rattle.ll_semantics.specs.declared.answer.Answer.{Answer}
 use Rattle.ll_explanations.specs.Findings.{FindingValue, answer_in, kept_at}
 use Rattle.ll_explanations.specs.Findings as findings
 use Rattle.ll_explanations.specs.declared.explained.Explained.{Explained}
-use Rattle.ll_report.specs.declared.sayings.Sayings.{Sayings}
-use Rattle.ll_report.specs.Scratches.{FitIn, ScratchValue, is_apart, said_by}
-use Rattle.ll_report.specs.Spans.{agree}
 use Rattle.ll_json.specs.Rows.{members_tokens, said_of}
 
--- what versions say of a record can be compared, or is known to be the same
-pub record AreComparable (told : List Entry → List Record → FindingValue → ℕ → List ℕ) (scratch : ScratchValue) (sayings : Sayings) : Type 0 where
-  pub same : is_apart scratch sayings.place ≡ false → agree (said_by told sayings) ≡ true
-  pub fit : is_apart scratch sayings.place ≡ true → FitIn scratch.room (said_by told sayings)
+-- the place of the first letter of an answer's word, behind the name of its member
+abbrev pub answer_at : ℕ
+answer_at = 10
 
 abbrev pub members_told : Bool → List Entry → List Record → FindingValue → ℕ → List ℕ
 members_told explains tree records finding place = said_of explains tree records place finding

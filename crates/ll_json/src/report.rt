@@ -3,7 +3,7 @@
 
 ghost use Rattle.std.specs.Prelude.{◌≡◌, ◌+◌, ◌<◌, ◌^◌, IfOk, List, length};
 ghost use Rattle.ll_report.specs.Scratches.{Suits};
-ghost use Rattle.ll_json.specs.{Reports.IsJsonReport, Rows.json_made, Telling.members_told};
+ghost use Rattle.ll_json.specs.{Reports.IsJsonReport, Rows.json_made, Telling.answer_at, Telling.members_told};
 ghost use Rattle.ll_json.specs.Judged.{AreFound, Version};
 
 use crate::rows::push_line;
@@ -33,7 +33,7 @@ pub struct JsonRows<'p> {
 impl<'p> Model for JsonRows<'p> {
     ghost use Rattle.std.specs.Prelude.{◌+◌, ◌<◌, ◌^◌, length};
     ghost use Rattle.ll_report.specs.{Made.Made, Scratches.Suits};
-    ghost use Rattle.ll_json.specs.{Rows.json_made, Telling.members_told};
+    ghost use Rattle.ll_json.specs.{Rows.json_made, Telling.{answer_at, members_told}};
 
     ghost Value = { Made };
 
@@ -41,7 +41,7 @@ impl<'p> Model for JsonRows<'p> {
         rows.findings rows.program.now };
 
     ghost invariant = { λ rows. (rows.oldest + length rows.findings < 2 ^ 64)
-        × Suits (members_told rows.shown.explanations) rows.located.tree rows.located.trace
+        × Suits answer_at (members_told rows.shown.explanations) rows.located.tree rows.located.trace
         rows.findings rows.scratch };
 }
 
@@ -54,7 +54,7 @@ fn scratch_for<R: Threads + Sync>(
     explains: bool,
 ) -> Result<Scratch, AllocError>
     ensures { IfOk result
-        (Suits (members_told explains) located.now.tree located.now.trace findings.now) }
+        (Suits answer_at (members_told explains) located.now.tree located.now.trace findings.now) }
 {
     let records = located.trace.records();
     if explains {
@@ -78,7 +78,7 @@ impl<'p> Rows for JsonRows<'p> {
         let sayings = Sayings {
             tree,
             records,
-            findings: self.findings.as_slice(),
+            findings: &self.findings,
             place,
         };
         if is_left_out(self.shown, &sayings, &mut self.scratch) {
@@ -101,7 +101,7 @@ impl<'p> Rows for JsonRows<'p> {
 
 /// The report as JSON over versions of which the oldest has this number, by what is found under each, as much as is
 /// shown of it, with the version of the program that writes it. The tree and the records are those at hand, as the
-/// oldest version takes them. Up to four threads measure what is said of records.
+/// oldest version takes them. Up to four threads look through the records.
 pub fn json_report<'p, R: Threads + Sync>(
     rt: &R,
     alloc: Global,

@@ -1,13 +1,12 @@
 //! The lines of records.
 #![tactic(auto, unfolding(crate::specs::Writing::writing))]
 
-ghost use Rattle.std.specs.Prelude.{◌≡◌, ◌+◌, ◌<◌, ◌^◌, false, length, true};
+ghost use Rattle.std.specs.Prelude.{◌≡◌, ◌+◌, ◌<◌, ◌^◌, length};
 ghost use Rattle.json.specs.Print.{print};
 ghost use Rattle.ll_explain.specs.Buffers.{adding};
-ghost use Rattle.ll_explanations.specs.Alike.{AreAlike};
-ghost use Rattle.ll_report.specs.Scratches.{FitIn, is_apart, said_by};
+ghost use Rattle.ll_report.specs.Scratches.{AreComparable, said_by};
 ghost use Rattle.ll_json.specs.Rows.{head_tokens, line_of};
-ghost use Rattle.ll_json.specs.{Telling.AreComparable, Telling.members_told, Writing.writing};
+ghost use Rattle.ll_json.specs.{Telling.answer_at, Telling.members_told, Writing.writing};
 
 use crate::json_text::JsonText;
 use crate::said::{BareMembers, Members};
@@ -49,7 +48,8 @@ fn push_line_as<T: Telling>(
     oldest: u64,
 )
     requires few { oldest + length sayings.now.findings.now < 2 ^ 64 }
-    requires comparable { AreComparable T.told scratch.old sayings.now }
+    requires comparable { AreComparable T.byte_at scratch.old sayings.now.place
+        (said_by T.told sayings.now) }
     ensures text { text.new
         ≡ adding text.old (line_of oldest found.now (said_by T.told sayings.now)) }
     ensures scratch { scratch.new ≡ scratch.old }
@@ -69,10 +69,8 @@ pub(crate) fn push_line(
     explains: bool,
 )
     requires few { oldest + length sayings.now.findings.now < 2 ^ 64 }
-    requires alike { is_apart scratch.old sayings.now.place ≡ false
-        → AreAlike sayings.now.findings.now sayings.now.place }
-    requires fit { is_apart scratch.old sayings.now.place ≡ true
-        → FitIn scratch.old.room (said_by (members_told explains) sayings.now) }
+    requires comparable { AreComparable answer_at scratch.old sayings.now.place
+        (said_by (members_told explains) sayings.now) }
     ensures text { text.new ≡ adding text.old
         (line_of oldest found.now (said_by (members_told explains) sayings.now)) }
     ensures scratch { scratch.new ≡ scratch.old }

@@ -6,14 +6,14 @@ ghost use Rattle.json.specs.Token as token;
 ghost use Rattle.ll_explain.specs.Buffers.{adding};
 ghost use Rattle.ll_explanations.specs.Findings.{said_in};
 ghost use Rattle.ll_json.specs.Rows.{members_tokens, said_of, said_tokens};
-ghost use Rattle.ll_json.specs.Telling.{members_by_value, members_told};
+ghost use Rattle.ll_json.specs.Telling.{answer_at, members_by_value, members_told};
 ghost use Rattle.ll_json.specs.Writing.{writing};
 
 use crate::answers::{write_answer_members, write_plain_members};
 use crate::json_text::JsonText;
 use ll_explain::TextBuffer;
 use ll_explanations::{Explanation, Finding};
-use ll_report::{Saying, Telling};
+use ll_report::{Saying, Telling, verdict_fingerprint};
 use ll_semantics::Answer;
 use ll_trace::{Op, Record};
 
@@ -81,19 +81,31 @@ pub(crate) struct BareMembers;
 impl Telling for Members {
     ghost told = { members_told true };
 
+    ghost byte_at = { answer_at };
+
     ghost by_value = { members_by_value true };
 
     fn push(text: &mut TextBuffer, saying: &Saying<'_>) {
         push_said(text, true, saying);
+    }
+
+    fn fingerprint(saying: &Saying<'_>) -> u64 {
+        verdict_fingerprint(saying.finding.answer(saying.place))
     }
 }
 
 impl Telling for BareMembers {
     ghost told = { members_told false };
 
+    ghost byte_at = { answer_at };
+
     ghost by_value = { members_by_value false };
 
     fn push(text: &mut TextBuffer, saying: &Saying<'_>) {
         push_said(text, false, saying);
+    }
+
+    fn fingerprint(saying: &Saying<'_>) -> u64 {
+        verdict_fingerprint(saying.finding.answer(saying.place))
     }
 }

@@ -4,10 +4,10 @@
 ghost use Rattle.std.specs.Prelude.{◌≡◌, ◌+◌, ◌++◌, ◌<◌, ◌^◌, [], codes, false, get_or, if◌then◌else◌, length, nat_lt, true};
 ghost use Rattle.json.specs.Print.{print};
 ghost use Rattle.ll_explain.specs.Buffers.{adding};
-ghost use Rattle.ll_report.specs.Scratches.{FitIn, said_by};
+ghost use Rattle.ll_report.specs.Scratches.{AreComparable, said_by};
 ghost use Rattle.ll_report.specs.Spans.{agree, spans_of};
 ghost use Rattle.ll_json.specs.Rows.{separated, span_text, versions_tokens};
-ghost use Rattle.ll_json.specs.{Telling.AreComparable, Writing.writing};
+ghost use Rattle.ll_json.specs.{Writing.writing};
 
 use crate::json_text::JsonText;
 use ll_explain::{TextBuffer, push_words};
@@ -75,12 +75,12 @@ fn push_common<T: Telling>(text: &mut TextBuffer, sayings: &Sayings<'_>, oldest:
     ensures { text.new
         ≡ adding text.old (separated false (spans_of oldest (said_by T.told sayings.now))) }
 {
-    let newest = oldest + (sayings.findings.len() as u64 - 1);
+    let newest = oldest + (sayings.versions() as u64 - 1);
     push_span::<T>(text, sayings, oldest, newest, 0);
 }
 
 /// Adds the answers of neighbouring versions, span after span. The oldest has this number. What they say is compared,
-/// unless it is known that all say the same.
+/// unless it is known that all find the same.
 pub(crate) fn push_answers<T: Telling>(
     text: &mut TextBuffer,
     scratch: &mut Scratch,
@@ -88,22 +88,23 @@ pub(crate) fn push_answers<T: Telling>(
     oldest: u64,
 )
     requires few { oldest + length sayings.now.findings.now < 2 ^ 64 }
-    requires comparable { AreComparable T.told scratch.old sayings.now }
+    requires comparable { AreComparable T.byte_at scratch.old sayings.now.place
+        (said_by T.told sayings.now) }
     ensures text { text.new
         ≡ adding text.old (separated false (spans_of oldest (said_by T.told sayings.now))) }
     ensures scratch { scratch.new ≡ scratch.old }
 {
-    if sayings.findings.is_empty() {
+    if sayings.versions() == 0 {
         return;
     }
-    if !scratch.is_apart(sayings.place) {
+    if !sayings.is_apart() {
         push_common::<T>(text, sayings, oldest);
         return;
     }
     let mut current = 0;
     let mut first = oldest;
     let mut last = oldest;
-    for version in 1..sayings.findings.len() {
+    for version in 1..sayings.versions() {
         if !scratch.same::<T>(sayings, current, version) {
             push_span::<T>(text, sayings, first, last, current);
             first = last + 1;

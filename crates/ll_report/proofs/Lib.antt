@@ -7,6 +7,8 @@ pub mod Sending
 pub mod BlocksMade
 pub mod Holding
 pub mod Suiting
+pub mod ToldApart
+pub mod Fingerprints
 pub mod SpansLeft
 pub mod SpansSaid
 pub mod SpansTold

@@ -269,7 +269,7 @@ none_refuses place one (other ∷ more) are none =
     ap (λ (answer : Answer). is_refused (verdict_of answer)) (All-head (FindsAs one place) other more are).0 ∙ none in
     rw same (none_refuses place one more (All-tail (FindsAs one place) other more are) none)
 
-pub first_refuses : (place : ℕ) (one : FindingValue) (others findings : List FindingValue) → findings ≡ one ∷ others → AreAlike findings place
+first_refuses : (place : ℕ) (one : FindingValue) (others findings : List FindingValue) → findings ≡ one ∷ others → AreAlike findings place
     → is_refused (verdict_of (answer_in one place)) ≡ some_refuses findings place
 first_refuses place one others findings is are =
     by_cases (cases_Bool (refused_by place one)) ∙ ap (λ (fs : List FindingValue). some_refuses fs place) (sym is)
@@ -277,6 +277,20 @@ first_refuses place one others findings is are =
     by_cases : (refused_by place one ≡ true) ⊎ (refused_by place one ≡ false) → refused_by place one ≡ some_refuses (one ∷ others) place
     by_cases (inl refused) = rw refused refl
     by_cases (inr none) = none ∙ sym (rw none (none_refuses place one others (subst (λ (fs : List FindingValue). AreAlike fs place) is are) none))
+
+-- the newest version tells too
+newest_found : (place : ℕ) (one newest : FindingValue) (others : List FindingValue) → All (FindsAs one place) (others ++ newest ∷ [])
+    → FindsAs one place newest
+newest_found place one newest [] are = All-head (FindsAs one place) newest [] are
+newest_found place one newest (other ∷ more) are =
+    newest_found place one newest more (All-tail (FindsAs one place) other (more ++ newest ∷ []) are)
+
+pub newest_refuses : (place : ℕ) (newest : FindingValue) (older findings : List FindingValue) → findings ≡ older ++ newest ∷ []
+    → AreAlike findings place → is_refused (verdict_of (answer_in newest place)) ≡ some_refuses findings place
+newest_refuses place newest [] findings is are = first_refuses place newest [] findings is are
+newest_refuses place newest (one ∷ more) findings is are =
+    let same : FindsAs one place newest = newest_found place one newest more (subst (λ (fs : List FindingValue). AreAlike fs place) is are) in
+    ap (λ (answer : Answer). is_refused (verdict_of answer)) same.0 ∙ first_refuses place one (more ++ newest ∷ []) findings is are
 
 pub same_refused : (explains : Bool) (tree : List Entry) (records : List Record) (findings : List FindingValue) (count : ℕ)
     → count_by (some_refuses findings) (range_with_len 0 count)

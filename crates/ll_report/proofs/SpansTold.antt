@@ -1,23 +1,20 @@
 -- The texts of spans, from the parts in which they are written.
-use Rattle.std.proofs.Common.{◌≡◌, ◌∙◌, ℕ, Bool, true, false, List, [], ◌∷◌, length, refl, sym, ap, nat_eq, cond}
+use Rattle.std.proofs.Common.{◌≡◌, ◌∙◌, ℕ, Bool, true, false, List, [], ◌∷◌, length, refl, sym, ap, cond}
 use Rattle.std.proofs.Common.{get_or, arith, ◌<◌}
-use Rattle.std.proofs.lemmas.Bool.{eqb-true}
-use Rattle.std.proofs.lemmas.List.{nil_from_length}
 use Rattle.ll_explain.specs.Buffers.{Buffered, adding}
 use Rattle.ll_explain.proofs.Buffering.{adding_nothing}
 use Rattle.ll_report.specs.declared.spans.Form.{Form}
 use Rattle.ll_report.specs.declared.spans.Form.TheVariants.{Explanations}
 use Rattle.std.specs.List.{flat_map}
+use Rattle.ll_report.specs.Scratches.{fingerprint_of}
 use Rattle.ll_report.specs.Spans.{agree, alone_text, span_text, spans_of, versions_text}
 
 -- where nothing is to be explained, nothing is added
-pub silent_span : (text : Buffered) (form : Form) (first last : ℕ) (said : List ℕ) → form ≡ Explanations → nat_eq (length said) 0 ≡ true
+pub silent_span : (at : ℕ) (text : Buffered) (form : Form) (first last : ℕ) (said : List ℕ) → form ≡ Explanations → fingerprint_of at said ≡ 0
     → text ≡ adding text (span_text form (record { first = first; last = last; said = said }))
-silent_span text form first last said is none =
-    adding_nothing text
-    ∙ ap (λ (l : List ℕ). adding text (span_text Explanations (record { first = first; last = last; said = l })))
-    (sym (nil_from_length said (eqb-true (length said) 0 none)))
-    ∙ ap (λ (f : Form). adding text (span_text f (record { first = first; last = last; said = said }))) (sym is)
+silent_span at text form first last [] is none =
+    adding_nothing text ∙ ap (λ (f : Form). adding text (span_text f (record { first = first; last = last; said = [] }))) (sym is)
+silent_span at text form first last (byte ∷ more) is none = absurd (omega (arith, none))
 
 -- what all versions say, and what they don't all say
 pub none_said : (form : Form) (oldest : ℕ) (texts : List (List ℕ)) → length texts ≡ 0 → [] ≡ versions_text form oldest texts

@@ -1,36 +1,28 @@
--- The marks of records about which versions may differ, and the length of the longest text that versions say of
--- consecutive ones.
+-- About which of consecutive records texts are compared, and the length of the longest of these texts.
 -- Source: the code's own; it stands in no document.
-use Rattle.std.specs.Prelude.{◌≡◌, ◌<◌, ◌≤◌, ◌^◌, ℕ, Bool, true, false, List, length}
+use Rattle.std.specs.Prelude.{◌≡◌, ◌<◌, ◌≤◌, ◌-◌, ◌^◌, ℕ, Bool, List, length}
 use Rattle.ll_tree.specs.Trees.{Entry}
 use Rattle.ll_trace.specs.declared.op.Record.{Record}
 use Rattle.ll_explanations.specs.Findings.{FindingValue}
-use Rattle.ll_explanations.specs.Alike.{AreAlike}
-use Rattle.ll_report.specs.Scratches.{FitIn, is_marked, told_under, verdict_told}
+use Rattle.ll_report.specs.Scratches.{AreComparable, ScratchValue, told_under, verdict_told}
 use Rattle.ll_report.specs.declared.stretch.Stretch.{Stretch}
 
--- there is a mark for each of so many records, and versions find the same of those that are not marked
-pub record AreMarks (findings : List FindingValue) (count : ℕ) (marks : List Bool) : Type 0 where
-  pub as_many : length marks ≡ count
-  pub alike : (place : ℕ) → place < count → is_marked marks place ≡ false → AreAlike findings place
+-- what versions say of the record at a place of a stretch can be compared, by what is known of the stretch's records
+abbrev pub IsComparableAt : ℕ → (List Entry → List Record → FindingValue → ℕ → List ℕ) → Stretch → ScratchValue → ℕ → Type 0
+IsComparableAt at told s known place =
+    AreComparable 0 known (place - s.from) (told_under verdict_told s.tree.now s.records.now s.findings.now place)
+    × AreComparable at known (place - s.from) (told_under told s.tree.now s.records.now s.findings.now place)
 
--- no text that is said of the record at a place is longer
-abbrev pub AreNoLonger : (List Entry → List Record → FindingValue → ℕ → List ℕ) → Stretch → ℕ → ℕ → Type 0
-AreNoLonger told s longest place =
-    FitIn longest (told_under verdict_told s.tree.now s.records.now s.findings.now place)
-    × FitIn longest (told_under told s.tree.now s.records.now s.findings.now place)
-
--- No text that is said of a stretch's records up to a place is longer, where these are marked. A length from 2 ^ 63 on
--- says nothing.
-abbrev pub IsLongestUpTo : (List Entry → List Record → FindingValue → ℕ → List ℕ) → Stretch → ℕ → ℕ → Type 0
-IsLongestUpTo told s end longest =
-    longest < 2 ^ 63 → (place : ℕ) → s.from ≤ place → place < end → is_marked s.marks.now place ≡ true → AreNoLonger told s longest place
-
-abbrev pub IsLongest : (List Entry → List Record → FindingValue → ℕ → List ℕ) → Stretch → ℕ → Type 0
-IsLongest told s longest = IsLongestUpTo told s s.end longest
+-- There is a mark for each record of a stretch up to a place, and what is said of these records can be compared. A length
+-- from 2 ^ 63 on says nothing.
+pub record IsMeasured (at : ℕ) (told : List Entry → List Record → FindingValue → ℕ → List ℕ) (s : Stretch) (end : ℕ) (compared : List Bool)
+    (longest : ℕ) : Type 0 where
+  pub as_many : s.from ≤ end → length compared ≡ end - s.from
+  pub each : longest < 2 ^ 63 → (place : ℕ) → s.from ≤ place → place < end
+      → IsComparableAt at told s (record { compared = compared; room = longest }) place
 
 -- the records of a stretch up to a place, and the others
 abbrev pub AreHalves : Stretch → Stretch → Stretch → Type 0
 AreHalves s first second =
-    (first ≡ record { tree = s.tree; records = s.records; findings = s.findings; marks = s.marks; from = s.from; end = first.end })
-    × (second ≡ record { tree = s.tree; records = s.records; findings = s.findings; marks = s.marks; from = first.end; end = s.end })
+    (first ≡ record { tree = s.tree; records = s.records; findings = s.findings; from = s.from; end = first.end })
+    × (second ≡ record { tree = s.tree; records = s.records; findings = s.findings; from = first.end; end = s.end })

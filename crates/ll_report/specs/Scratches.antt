@@ -1,13 +1,25 @@
 -- What is kept to compare what versions say of a record, and what they say.
--- Source: docs/FORMATS.md, "Several versions"; the buffers are the code's own.
-use Rattle.std.specs.Prelude.{◌≡◌, ◌<◌, ◌≤◌, ℕ, Bool, true, false, List, All, length, map, slice_get, unwrap_or}
+-- Source: docs/FORMATS.md, "Several versions"; the buffers and the fingerprints are the code's own.
+use Rattle.std.specs.Prelude.{◌≡◌, ◌+◌, ◌<◌, ◌≤◌, ℕ, Bool, true, false, List, [], ◌∷◌, All, get_or, length, map, slice_get, unwrap_or}
 use Rattle.ll_tree.specs.Trees.{Entry}
 use Rattle.ll_trace.specs.declared.op.Record.{Record}
-use Rattle.ll_explanations.specs.Alike.{AreAlike}
 use Rattle.ll_explanations.specs.Findings.{FindingValue, answer_in}
 use Rattle.ll_report.specs.Lines.{verdict_of}
 use Rattle.ll_report.specs.Report.{verdict_text}
 use Rattle.ll_report.specs.declared.sayings.Sayings.{Sayings}
+
+-- ---- texts that are told apart without being made
+
+-- the fingerprint of a text: 0 if it is empty, else one more than its byte at a place
+abbrev pub fingerprint_of : ℕ → List ℕ → ℕ
+fingerprint_of at [] = 0
+fingerprint_of at (byte ∷ more) = get_or (byte ∷ more) at 0 + 1
+
+-- neighbouring texts that have the same fingerprint are the same
+abbrev pub AreToldApart : ℕ → List (List ℕ) → Type 0
+AreToldApart at texts =
+    (k : ℕ) → k + 1 < length texts → fingerprint_of at (get_or texts k []) ≡ fingerprint_of at (get_or texts (k + 1) [])
+    → get_or texts k [] ≡ get_or texts (k + 1) []
 
 -- ---- what is kept to compare what versions say
 
@@ -15,19 +27,13 @@ use Rattle.ll_report.specs.declared.sayings.Sayings.{Sayings}
 abbrev pub is_marked : List Bool → ℕ → Bool
 is_marked marks place = unwrap_or (slice_get marks place) false
 
--- of each record whether versions may differ about it, and how long a text can be held
+-- of each record whether texts about it are compared, and how long a text can be held
 pub record ScratchValue : Type 0 where
-  pub apart : List Bool
+  pub compared : List Bool
   pub room : ℕ
 
-abbrev pub is_apart : ScratchValue → ℕ → Bool
-is_apart scratch = is_marked scratch.apart
-
--- how long a text can be held, the text that is held, and the next, which is compared with it
-pub record PairValue : Type 0 where
-  pub room : ℕ
-  pub held : List ℕ
-  pub next : List ℕ
+abbrev pub is_compared : ScratchValue → ℕ → Bool
+is_compared scratch = is_marked scratch.compared
 
 -- how an answer is told
 abbrev pub verdict_told : List Entry → List Record → FindingValue → ℕ → List ℕ
@@ -41,12 +47,16 @@ told_under told tree records findings place = map (λ finding. told tree records
 abbrev pub FitIn : ℕ → List (List ℕ) → Type 0
 FitIn room texts = All (λ text. length text ≤ room) texts
 
--- versions find alike of a record, or what they say of it can be held
-pub record Suits (told : List Entry → List Record → FindingValue → ℕ → List ℕ) (tree : List Entry) (records : List Record)
+-- these texts, which are about the record at a place, are told apart by their fingerprints, or can be held
+pub record AreComparable (at : ℕ) (scratch : ScratchValue) (place : ℕ) (texts : List (List ℕ)) : Type 0 where
+  pub apart : is_compared scratch place ≡ false → AreToldApart at texts
+  pub fit : is_compared scratch place ≡ true → FitIn scratch.room texts
+
+-- what versions say of each record can be compared
+pub record Suits (at : ℕ) (told : List Entry → List Record → FindingValue → ℕ → List ℕ) (tree : List Entry) (records : List Record)
     (findings : List FindingValue) (scratch : ScratchValue) : Type 0 where
-  pub alike : (place : ℕ) → place < length records → is_apart scratch place ≡ false → AreAlike findings place
-  pub verdicts : (place : ℕ) → is_apart scratch place ≡ true → FitIn scratch.room (told_under verdict_told tree records findings place)
-  pub texts : (place : ℕ) → is_apart scratch place ≡ true → FitIn scratch.room (told_under told tree records findings place)
+  pub verdicts : (place : ℕ) → place < length records → AreComparable 0 scratch place (told_under verdict_told tree records findings place)
+  pub texts : (place : ℕ) → place < length records → AreComparable at scratch place (told_under told tree records findings place)
 
 -- ---- what versions say of the record at a place, by the findings, the tree and the records at hand
 

@@ -4,6 +4,7 @@
 mod blocks;
 mod laws;
 mod made;
+mod measured;
 mod names;
 mod options;
 mod paged;
@@ -31,6 +32,6 @@ pub use rows::{is_left_out, refused_under_some};
 pub use sayings::Sayings;
 pub use scratch::Scratch;
 pub use spans::Form;
-pub use telling::{InWords, Saying, Telling, Verdicts};
+pub use telling::{InWords, Saying, Telling, Verdicts, verdict_fingerprint};
 pub use version_rows::{VersionRows, report_over};
 pub use writing::{write_texts, write_whole};

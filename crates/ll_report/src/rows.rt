@@ -1,11 +1,11 @@
 //! What is shown of each record over several versions.
 
-ghost use Rattle.std.specs.Prelude.{◌≡◌, ◌+◌, ◌<◌, ◌^◌, ◌&&◌, count_by, false, length, not, true};
+ghost use Rattle.std.specs.Prelude.{◌≡◌, ◌+◌, ◌<◌, ◌^◌, ◌&&◌, count_by, length, not};
 ghost use Rattle.std.specs.List.{range_with_len};
 ghost use Rattle.ll_explain.specs.Buffers.{adding};
 ghost use Rattle.ll_report.specs.Rows.{is_row_left_out};
 ghost use Rattle.ll_explanations.specs.Alike.{AreAlike};
-ghost use Rattle.ll_report.specs.Scratches.{FitIn, is_apart, said_by, verdict_told};
+ghost use Rattle.ll_report.specs.Scratches.{AreComparable, said_by, verdict_told};
 ghost use Rattle.ll_report.specs.Versions.{answers_in, row_of, some_refuses};
 ghost use Rattle.ll_explain.specs.Told.{text_told};
 
@@ -16,7 +16,6 @@ use crate::sayings::Sayings;
 use crate::scratch::Scratch;
 use crate::spans::Form;
 use crate::telling::{InWords, Verdicts};
-use crate::text_pair::TextPair;
 use ll_explain::{TextBuffer, push_words};
 use ll_explanations::{Finding, Findings};
 use ll_trace::Record;
@@ -30,15 +29,16 @@ fn some_refuses(findings: &[Finding], place: usize) -> bool
         .any(|finding| is_refused(&finding.answer(place)))
 }
 
-/// Whether some version refuses the record at a place. Where they find the same, the first one tells.
+/// Whether some version refuses the record at a place. Where they find the same, the newest one tells, which keeps all
+/// that it finds in one list.
 fn is_refused_under_some(findings: &Findings, place: usize) -> bool
     ensures { result ≡ some_refuses findings.now place }
 {
     if findings.is_apart(place) {
         return some_refuses(findings.as_slice(), place);
     }
-    match findings.as_slice().split_first() {
-        Some((first, _)) => is_refused(&first.answer(place)),
+    match findings.as_slice().split_last() {
+        Some((newest, _)) => is_refused(&newest.answer(place)),
         None => false,
     }
 }
@@ -53,18 +53,18 @@ pub fn refused_under_some(findings: &Findings, records: usize) -> u64
 }
 
 /// Whether refused records alone are shown, and no version refuses this one.
-fn is_passed_over(shown: Shown, findings: &[Finding], place: usize) -> bool
+fn is_passed_over(shown: Shown, findings: &Findings, place: usize) -> bool
     ensures { result ≡ (shown.refused_alone && not (some_refuses findings.now place)) }
 {
-    shown.refused_alone && !some_refuses(findings, place)
+    shown.refused_alone && !some_refuses(findings.as_slice(), place)
 }
 
 /// Whether a record about which versions may differ is left out of what is shown.
-fn is_apart_left_out(shown: Shown, sayings: &Sayings<'_>, pair: &mut TextPair) -> bool
-    requires { FitIn pair.old.room (said_by verdict_told sayings.now) }
+fn is_apart_left_out(shown: Shown, sayings: &Sayings<'_>, scratch: &mut Scratch) -> bool
+    requires { AreComparable 0 scratch.old sayings.now.place (said_by verdict_told sayings.now) }
     ensures out { result
         ≡ is_row_left_out shown (answers_in sayings.now.findings.now) sayings.now.place }
-    ensures room { pair.new.room ≡ pair.old.room }
+    ensures scratch { scratch.new ≡ scratch.old }
 {
     if is_passed_over(shown, sayings.findings, sayings.place) {
         return true;
@@ -72,7 +72,7 @@ fn is_apart_left_out(shown: Shown, sayings: &Sayings<'_>, pair: &mut TextPair) -
     if !shown.differing_alone {
         return false;
     }
-    sayings.agree::<Verdicts>(pair)
+    sayings.agree::<Verdicts>(scratch)
 }
 
 /// Whether a record about which versions agree is left out of what is shown.
@@ -81,25 +81,21 @@ fn is_alike_left_out(shown: Shown, sayings: &Sayings<'_>) -> bool
     ensures { result
         ≡ is_row_left_out shown (answers_in sayings.now.findings.now) sayings.now.place }
 {
-    match sayings.findings.split_first() {
+    match sayings.findings.as_slice().split_first() {
         Some((first, _)) => is_hidden(shown, &first.answer(sayings.place)),
         None => false,
     }
 }
 
-/// Whether a record is left out of what is shown, by what is answered to it under each version. The scratch is for
-/// these findings.
+/// Whether a record is left out of what is shown, by what is answered to it under each version.
 pub fn is_left_out(shown: Shown, sayings: &Sayings<'_>, scratch: &mut Scratch) -> bool
-    requires alike { is_apart scratch.old sayings.now.place ≡ false
-        → AreAlike sayings.now.findings.now sayings.now.place }
-    requires fit { is_apart scratch.old sayings.now.place ≡ true
-        → FitIn scratch.old.room (said_by verdict_told sayings.now) }
+    requires { AreComparable 0 scratch.old sayings.now.place (said_by verdict_told sayings.now) }
     ensures out { result
         ≡ is_row_left_out shown (answers_in sayings.now.findings.now) sayings.now.place }
     ensures scratch { scratch.new ≡ scratch.old }
 {
-    if scratch.is_apart(sayings.place) {
-        is_apart_left_out(shown, sayings, &mut scratch.pair)
+    if sayings.is_apart() {
+        is_apart_left_out(shown, sayings, scratch)
     } else {
         is_alike_left_out(shown, sayings)
     }
@@ -120,7 +116,7 @@ impl<'f> Row<'f> {
         requires { AreAlike self.now.sayings.findings.now self.now.sayings.place }
         ensures { text.new ≡ adding text.old (row_of self.now) }
     {
-        let Some((first, _)) = self.sayings.findings.split_first() else {
+        let Some((first, _)) = self.sayings.findings.as_slice().split_first() else {
             return;
         };
         let Sayings {
@@ -133,14 +129,16 @@ impl<'f> Row<'f> {
     }
 
     /// Adds what is shown of the record, where versions may differ.
-    fn push_apart(&self, text: &mut TextBuffer, pair: &mut TextPair)
+    fn push_apart(&self, text: &mut TextBuffer, scratch: &mut Scratch)
         requires few { self.now.oldest + length self.now.sayings.findings.now < 2 ^ 64 }
-        requires verdicts { FitIn pair.old.room (said_by verdict_told self.now.sayings) }
-        requires texts { FitIn pair.old.room (said_by text_told self.now.sayings) }
+        requires verdicts { AreComparable 0 scratch.old self.now.sayings.place
+            (said_by verdict_told self.now.sayings) }
+        requires texts { AreComparable 0 scratch.old self.now.sayings.place
+            (said_by text_told self.now.sayings) }
         ensures text { text.new ≡ adding text.old (row_of self.now) }
-        ensures room { pair.new.room ≡ pair.old.room }
+        ensures scratch { scratch.new ≡ scratch.old }
     {
-        if is_apart_left_out(self.shown, &self.sayings, pair) {
+        if is_apart_left_out(self.shown, &self.sayings, scratch) {
             return;
         }
         push_record(
@@ -150,28 +148,26 @@ impl<'f> Row<'f> {
             self.record.op.name(),
         );
         self.sayings
-            .push_versions::<Verdicts>(text, pair, Form::Answers, self.oldest);
+            .push_versions::<Verdicts>(text, scratch, Form::Answers, self.oldest);
         push_words(text, "\n");
         if self.shown.explanations {
             self.sayings
-                .push_versions::<InWords>(text, pair, Form::Explanations, self.oldest);
+                .push_versions::<InWords>(text, scratch, Form::Explanations, self.oldest);
         }
     }
 
     /// Adds what is shown of the record.
     pub(crate) fn push_to(&self, text: &mut TextBuffer, scratch: &mut Scratch)
         requires few { self.now.oldest + length self.now.sayings.findings.now < 2 ^ 64 }
-        requires alike { is_apart scratch.old self.now.sayings.place ≡ false
-            → AreAlike self.now.sayings.findings.now self.now.sayings.place }
-        requires verdicts { is_apart scratch.old self.now.sayings.place ≡ true
-            → FitIn scratch.old.room (said_by verdict_told self.now.sayings) }
-        requires texts { is_apart scratch.old self.now.sayings.place ≡ true
-            → FitIn scratch.old.room (said_by text_told self.now.sayings) }
+        requires verdicts { AreComparable 0 scratch.old self.now.sayings.place
+            (said_by verdict_told self.now.sayings) }
+        requires texts { AreComparable 0 scratch.old self.now.sayings.place
+            (said_by text_told self.now.sayings) }
         ensures text { text.new ≡ adding text.old (row_of self.now) }
         ensures scratch { scratch.new ≡ scratch.old }
     {
-        if scratch.is_apart(self.sayings.place) {
-            self.push_apart(text, &mut scratch.pair);
+        if self.sayings.is_apart() {
+            self.push_apart(text, scratch);
         } else {
             self.push_alike(text);
         }

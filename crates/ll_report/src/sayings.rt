@@ -1,12 +1,14 @@
 //! What versions say of a record.
 
-ghost use Rattle.std.specs.Prelude.{◌≡◌, ◌<◌, ◌≤◌, ◌-◌, ◌^◌, [], get_or, length, true};
+ghost use Rattle.std.specs.Prelude.{◌≡◌, ◌+◌, ◌<◌, ◌≤◌, ◌-◌, ◌^◌, [], false, get_or, length, nat_eq, true};
+ghost use Rattle.std.specs.Bool.{OnTrue};
 ghost use Rattle.ll_explain.specs.Buffers.{adding};
-ghost use Rattle.ll_report.specs.Scratches.{FitIn, said_by, told_under, verdict_told};
+ghost use Rattle.ll_explanations.specs.Alike.{AreAlike};
+ghost use Rattle.ll_report.specs.Scratches.{AreToldApart, FitIn, fingerprint_of, said_by, told_under, verdict_told};
 
 use crate::telling::{Saying, Telling, Verdicts};
 use ll_explain::TextBuffer;
-use ll_explanations::Finding;
+use ll_explanations::{Finding, Findings};
 use ll_trace::Record;
 use ll_tree::Tree;
 
@@ -15,18 +17,32 @@ use ll_tree::Tree;
 pub struct Sayings<'f> {
     pub tree: &'f Tree,
     pub records: &'f [Record],
-    pub findings: &'f [Finding],
+    pub findings: &'f Findings,
     pub place: usize,
 }
 
 impl<'f> Sayings<'f> {
+    /// How many versions there are.
+    pub fn versions(&self) -> usize
+        ensures { result ≡ length self.now.findings.now }
+    {
+        self.findings.as_slice().len()
+    }
+
+    /// Whether versions may differ about the record.
+    pub fn is_apart(&self) -> bool
+        ensures { result ≡ false → AreAlike self.now.findings.now self.now.place }
+    {
+        self.findings.is_apart(self.place)
+    }
+
     /// Adds what a version says.
     pub fn push<T: Telling>(&self, text: &mut TextBuffer, version: usize)
         requires { version < length self.now.findings.now }
         ensures { text.new ≡ adding text.old (get_or (told_under T.told self.now.tree.now
             self.now.records.now self.now.findings.now self.now.place) version []) }
     {
-        self.push_of::<T>(text, &self.findings[version]);
+        self.push_of::<T>(text, &self.findings.as_slice()[version]);
     }
 
     /// Adds what is said by a finding.
@@ -43,6 +59,40 @@ impl<'f> Sayings<'f> {
         T::push(text, &saying);
     }
 
+    /// The fingerprint of what a version says.
+    pub(crate) fn fingerprint<T: Telling>(&self, version: usize) -> u64
+        requires { version < length self.now.findings.now }
+        ensures { result ≡ fingerprint_of T.byte_at
+            (get_or (said_by T.told self.now) version []) }
+    {
+        self.fingerprint_by::<T>(&self.findings.as_slice()[version])
+    }
+
+    /// The fingerprint of what is said by a finding.
+    fn fingerprint_by<T: Telling>(&self, finding: &'f Finding) -> u64
+        ensures { result ≡ fingerprint_of T.byte_at (T.told self.now.tree.now
+            self.now.records.now finding.now self.now.place) }
+    {
+        let saying = Saying {
+            tree: self.tree,
+            records: self.records,
+            finding,
+            place: self.place,
+        };
+        T::fingerprint(&saying)
+    }
+
+    /// Whether what two versions say has the same fingerprint.
+    pub(crate) fn have_same_fingerprint<T: Telling>(&self, one: usize, other: usize) -> bool
+        requires one { one < length self.now.findings.now }
+        requires other { other < length self.now.findings.now }
+        ensures { result
+            ≡ nat_eq (fingerprint_of T.byte_at (get_or (said_by T.told self.now) one []))
+            (fingerprint_of T.byte_at (get_or (said_by T.told self.now) other [])) }
+    {
+        self.fingerprint::<T>(one) == self.fingerprint::<T>(other)
+    }
+
     /// Whether two versions answer and explain the record by the same values, and so say the same.
     pub(crate) fn find_alike<T: Telling>(&self, one: usize, other: usize) -> bool
         requires one { one < length self.now.findings.now }
@@ -52,10 +102,44 @@ impl<'f> Sayings<'f> {
             ≡ get_or (told_under T.told self.now.tree.now
             self.now.records.now self.now.findings.now self.now.place) other [] }
     {
-        let first = &self.findings[one];
-        let second = &self.findings[other];
+        let first = &self.findings.as_slice()[one];
+        let second = &self.findings.as_slice()[other];
         first.answer(self.place) == second.answer(self.place)
             && first.explains_as(second, self.place)
+    }
+
+    /// Whether a version finds the same as the one before, or says something of another fingerprint.
+    fn is_told_apart<T: Telling>(&self, version: usize) -> bool
+        requires later { 0 < version }
+        requires within { version < length self.now.findings.now }
+        ensures { result ≡ true
+            → fingerprint_of T.byte_at (get_or (said_by T.told self.now) (version - 1) [])
+            ≡ fingerprint_of T.byte_at (get_or (said_by T.told self.now) version [])
+            → get_or (said_by T.told self.now) (version - 1) []
+            ≡ get_or (said_by T.told self.now) version [] }
+    {
+        !self.have_same_fingerprint::<T>(version - 1, version)
+            || self.find_alike::<T>(version - 1, version)
+    }
+
+    /// Whether each version finds the same as the one before, or says something of another fingerprint.
+    fn are_told_apart<T: Telling>(&self) -> bool
+        ensures { OnTrue result (AreToldApart T.byte_at (said_by T.told self.now)) }
+    {
+        for version in 1..self.versions() {
+            if !self.is_told_apart::<T>(version) {
+                return false;
+            }
+        }
+        true
+    }
+
+    /// Whether the texts that versions say are compared: their fingerprints don't tell them apart.
+    pub(crate) fn is_compared<T: Telling>(&self) -> bool
+        ensures verdicts { result ≡ false → AreToldApart 0 (said_by verdict_told self.now) }
+        ensures texts { result ≡ false → AreToldApart T.byte_at (said_by T.told self.now) }
+    {
+        self.is_apart() && !(self.are_told_apart::<Verdicts>() && self.are_told_apart::<T>())
     }
 
     /// The length of what a version says, or `least`, or another length, if that is greater. A version that finds the
@@ -87,31 +171,31 @@ impl<'f> Sayings<'f> {
         ensures room { measure.new.room ≡ 0 }
     {
         let mut longest = least;
-        for version in 0..self.findings.len() {
+        for version in 0..self.versions() {
             longest = self.longer::<T>(measure, version, longest);
         }
         longest
     }
 
-    /// A length that no text of the record exceeds, if versions may differ about it, or another length that is greater. A
-    /// length from 2 ^ 63 on says nothing.
+    /// A length that no text of the record exceeds, if these are compared, or another length that is greater. A length from
+    /// 2 ^ 63 on says nothing.
     pub(crate) fn measured<T: Telling>(
         &self,
         measure: &mut TextBuffer,
-        is_apart: bool,
+        is_compared: bool,
         least: usize,
     ) -> usize
         requires { measure.old.room ≡ 0 }
         ensures least { least ≤ result }
-        ensures verdicts { is_apart ≡ true → result < 2 ^ 63 → FitIn result
+        ensures verdicts { is_compared ≡ true → result < 2 ^ 63 → FitIn result
             (told_under verdict_told self.now.tree.now self.now.records.now
             self.now.findings.now self.now.place) }
-        ensures texts { is_apart ≡ true → result < 2 ^ 63 → FitIn result
+        ensures texts { is_compared ≡ true → result < 2 ^ 63 → FitIn result
             (told_under T.told self.now.tree.now self.now.records.now
             self.now.findings.now self.now.place) }
         ensures room { measure.new.room ≡ 0 }
     {
-        if !is_apart {
+        if !is_compared {
             return least;
         }
         let verdicts = self.longest::<Verdicts>(measure, least);

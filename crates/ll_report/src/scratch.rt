@@ -1,11 +1,11 @@
 //! What is kept to compare what versions say of a record.
 
-ghost use Rattle.std.specs.Prelude.{◌≡◌, ◌<◌, ◌^◌, IfOk, bytes_eq, get_or, length, []};
-ghost use Rattle.ll_report.specs.Scratches.{FitIn, Suits, is_apart, told_under};
-ghost use Rattle.ll_report.specs.Measures.{AreMarks};
+ghost use Rattle.std.specs.Prelude.{◌≡◌, ◌<◌, ◌-◌, ◌^◌, IfOk, bytes_eq, get_or, length, []};
+ghost use Rattle.ll_report.specs.Scratches.{AreComparable, Suits, is_compared, said_by};
 
+use crate::measured::Measured;
 use crate::sayings::Sayings;
-use crate::stretch::{Stretch, is_marked};
+use crate::stretch::Stretch;
 use crate::telling::Telling;
 use crate::text_pair::TextPair;
 use ll_explanations::Findings;
@@ -15,12 +15,12 @@ use std::alloc::{AllocError, Global};
 use std::marker::Model;
 use std::thread::Threads;
 
-/// Which records versions may differ about, and two texts with room for whatever a version says of one of these. So
-/// comparing what they say takes no memory.
+/// About which records the texts of versions are compared, and two buffers with room for these texts. What versions say of
+/// the other records is told apart by its fingerprints. So comparing what they say takes no memory.
 #[derive(Drop)]
 pub struct Scratch {
-    apart: Vec<bool>,
-    pub(crate) pair: TextPair,
+    compared: Vec<bool>,
+    pair: TextPair,
 }
 
 impl Model for Scratch {
@@ -29,22 +29,12 @@ impl Model for Scratch {
     ghost Value = { ScratchValue };
 
     ghost view = { λ scratch.
-        record { apart = scratch.apart.items; room = scratch.pair.room } };
-}
-
-/// A mark for each of so many records about which versions may differ.
-fn marks_of(alloc: Global, findings: &Findings, count: usize) -> Result<Vec<bool>, AllocError>
-    ensures { IfOk result (λ marks. AreMarks findings.now count marks.items) }
-{
-    let mut marks = Vec::with_capacity(alloc, count)?;
-    for place in 0..count {
-        marks.push(findings.is_apart(place))?;
-    }
-    Ok(marks)
+        record { compared = scratch.compared.items; room = scratch.pair } };
 }
 
 impl Scratch {
-    /// For what versions find of these records, and say in a form. Up to four threads measure it.
+    /// For what versions find of these records, and say in a form. Up to four threads look through the records.
+    #[tactic(auto, using(crate::proofs::Suiting::suited))]
     pub fn of<T: Telling + Sync, R: Threads + Sync>(
         rt: &R,
         alloc: Global,
@@ -52,45 +42,51 @@ impl Scratch {
         records: &[Record],
         findings: &Findings,
     ) -> Result<Scratch, AllocError>
-        ensures { IfOk result (Suits T.told tree.now records.now findings.now) }
+        ensures { IfOk result (Suits T.byte_at T.told tree.now records.now findings.now) }
     {
-        let apart = marks_of(alloc, findings, records.len())?;
         let all = Stretch {
             tree,
             records,
-            findings: findings.as_slice(),
-            marks: &apart,
+            findings,
             from: 0,
-            end: apart.len(),
+            end: records.len(),
         };
-        let longest = all.longest_by_threads::<T, R>(rt, alloc);
+        let Measured { compared, longest } = all.measured_by_threads::<T, R>(rt, alloc)?;
         let pair = TextPair::new(alloc, longest)?;
-        Ok(Scratch { apart, pair })
+        Ok(Scratch { compared, pair })
     }
 
-    /// Whether versions may differ about the record at a place.
-    pub fn is_apart(&self, place: usize) -> bool
-        ensures { result ≡ is_apart self.now place }
-    {
-        is_marked(&self.apart, place)
-    }
-
-    /// Whether two versions say the same of a record.
-    pub fn same<T: Telling>(&mut self, sayings: &Sayings<'_>, one: usize, other: usize) -> bool
-        requires one { one < length sayings.now.findings.now }
-        requires other { other < length sayings.now.findings.now }
-        requires fit { FitIn self.old.room (told_under T.told sayings.now.tree.now
-            sayings.now.records.now sayings.now.findings.now sayings.now.place) }
-        ensures same { result ≡ bytes_eq (get_or (told_under T.told sayings.now.tree.now
-            sayings.now.records.now sayings.now.findings.now sayings.now.place) one [])
-            (get_or (told_under T.told sayings.now.tree.now
-            sayings.now.records.now sayings.now.findings.now sayings.now.place) other []) }
+    /// Whether a version says the same of a record as an earlier one, from which on all before it say the same.
+    pub fn same<T: Telling>(
+        &mut self,
+        sayings: &Sayings<'_>,
+        earlier: usize,
+        version: usize,
+    ) -> bool
+        requires earlier { earlier < version }
+        requires within { version < length sayings.now.findings.now }
+        requires span { get_or (said_by T.told sayings.now) earlier []
+            ≡ get_or (said_by T.told sayings.now) (version - 1) [] }
+        requires comparable { AreComparable T.byte_at self.old sayings.now.place
+            (said_by T.told sayings.now) }
+        ensures same { result ≡ bytes_eq (get_or (said_by T.told sayings.now) earlier [])
+            (get_or (said_by T.told sayings.now) version []) }
         ensures scratch { self.new ≡ self.old }
     {
-        if sayings.find_alike::<T>(one, other) {
-            return true;
+        if !self.is_compared(sayings.place) {
+            return sayings.have_same_fingerprint::<T>(version - 1, version);
         }
-        self.pair.hold::<T>(sayings, one);
-        self.pair.is_held::<T>(sayings, other)
+        sayings.find_alike::<T>(earlier, version)
+            || self.pair.is_same::<T>(sayings, earlier, version)
+    }
+
+    /// Whether texts about the record at a place are compared.
+    fn is_compared(&self, place: usize) -> bool
+        ensures { result ≡ is_compared self.now place }
+    {
+        match self.compared.get(place) {
+            Some(is_compared) => *is_compared,
+            None => false,
+        }
     }
 }

@@ -1,13 +1,18 @@
 //! How what is found of a record under one version is told.
 
-ghost use Rattle.std.specs.Prelude.{◌≡◌};
-ghost use Rattle.ll_explain.specs.{Buffers.adding, Told.text_told};
-ghost use Rattle.ll_report.specs.Scratches.{verdict_told};
+ghost use Rattle.std.specs.Prelude.{◌≡◌, List};
+ghost use Rattle.ll_tree.specs.Trees.{Entry};
+ghost use Rattle.ll_trace.specs.declared.op.{Op.Op, Record.Record as OneRecord};
+ghost use Rattle.ll_explain.specs.{Buffers.adding, Lines.lines_from, Told.text_told, Told.value_text};
+ghost use Rattle.ll_report.specs.Lines.{verdict_of};
+ghost use Rattle.ll_report.specs.Report.{verdict_text};
+ghost use Rattle.ll_report.specs.Scratches.{fingerprint_of, verdict_told};
 ghost use Rattle.ll_report.specs.ByValue.{text_by_value, verdict_by_value};
 
 use crate::report::push_verdict;
 use ll_explain::{TextBuffer, push_found};
-use ll_explanations::Finding;
+use ll_explanations::{Explanation, Finding, LayerObjection};
+use ll_semantics::Answer;
 use ll_trace::Record;
 use ll_tree::Tree;
 
@@ -26,12 +31,21 @@ pub trait Telling {
     ghost use Rattle.ll_tree.specs.Trees.{Entry};
     ghost use Rattle.ll_trace.specs.declared.op.Record.{Record as OneRecord};
     ghost use Rattle.ll_explanations.specs.Findings.{FindingValue, answer_in, kept_at};
+    ghost use Rattle.ll_report.specs.Scratches.{fingerprint_of};
 
     ghost told: { List Entry → List OneRecord → FindingValue → ℕ → List ℕ };
 
     /// Adds what is told of the record.
     fn push(text: &mut TextBuffer, saying: &Saying<'_>)
         ensures { text.new ≡ adding text.old (told saying.now.tree.now saying.now.records.now
+            saying.now.finding.now saying.now.place) };
+
+    // The place of the byte that the fingerprints of texts have.
+    ghost byte_at: { ℕ };
+
+    /// The fingerprint of what is told of the record, without its text.
+    fn fingerprint(saying: &Saying<'_>) -> u64
+        ensures { result ≡ fingerprint_of byte_at (told saying.now.tree.now saying.now.records.now
             saying.now.finding.now saying.now.place) };
 
     // Where two findings answer and explain a record by the same values, they are told alike.
@@ -41,16 +55,61 @@ pub trait Telling {
         → told tree records one place ≡ told tree records other place };
 }
 
+/// One more than the first byte of the words for an answer.
+pub fn verdict_fingerprint(answer: Answer) -> u64
+    ensures { result ≡ fingerprint_of 0 (verdict_text (verdict_of answer)) }
+{
+    let first = match answer {
+        Answer::Allowed => b'a',
+        Answer::Moot => b'm',
+        Answer::Refused(..) => b'r',
+    };
+    u64::from(first) + 1
+}
+
+/// One more than the first byte of the lines of objections, or 0 if there are none. The line of a layer begins with spaces;
+/// no layer has the number 0.
+fn objections_fingerprint(all: &[LayerObjection]) -> u64
+    ensures { (tree : List Entry) (records : List OneRecord)
+        → result ≡ fingerprint_of 0 (lines_from tree records 0 all.now) }
+{
+    match all.split_first() {
+        Some((one, _)) if one.layer == 0 => u64::from(b';') + 1,
+        Some(_) => u64::from(b' ') + 1,
+        None => 0,
+    }
+}
+
+/// One more than the first byte of the lines of an explanation, or 0 if there are none.
+#[tactic(auto, unfolding(ll_explain::specs::Told::value_text))]
+fn explanation_fingerprint(explanation: &Explanation) -> u64
+    ensures { (tree : List Entry) (records : List OneRecord) (op : Op)
+        → result ≡ fingerprint_of 0 (value_text tree records op explanation.now) }
+{
+    match explanation {
+        Explanation::Nothing | Explanation::Mootness(None) => 0,
+        Explanation::Objections(all) => objections_fingerprint(all.as_slice()),
+        Explanation::Failure(_) => u64::from(b' ') + 1,
+        Explanation::Mootness(Some(_)) => u64::from(b' ') + 1,
+    }
+}
+
 /// Answers, as they stand behind records.
 pub struct Verdicts;
 
 impl Telling for Verdicts {
     ghost told = { verdict_told };
 
+    ghost byte_at = { 0 };
+
     ghost by_value = { verdict_by_value };
 
     fn push(text: &mut TextBuffer, saying: &Saying<'_>) {
         push_verdict(text, &saying.finding.answer(saying.place));
+    }
+
+    fn fingerprint(saying: &Saying<'_>) -> u64 {
+        verdict_fingerprint(saying.finding.answer(saying.place))
     }
 }
 
@@ -59,6 +118,8 @@ pub struct InWords;
 
 impl Telling for InWords {
     ghost told = { text_told };
+
+    ghost byte_at = { 0 };
 
     ghost by_value = { text_by_value };
 
@@ -70,5 +131,12 @@ impl Telling for InWords {
             saying.finding,
             saying.place,
         );
+    }
+
+    fn fingerprint(saying: &Saying<'_>) -> u64 {
+        match saying.finding.explained(saying.records, saying.place) {
+            Some((_, explanation)) => explanation_fingerprint(explanation),
+            None => 0,
+        }
     }
 }

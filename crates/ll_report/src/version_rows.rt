@@ -43,7 +43,7 @@ impl Model for VersionRows {
         rows.located.tree rows.located.trace rows.findings) rows.located.trace };
 
     ghost invariant = { λ rows.
-        Suits text_told rows.located.tree rows.located.trace rows.findings rows.scratch
+        Suits 0 text_told rows.located.tree rows.located.trace rows.findings rows.scratch
         × (rows.oldest + length rows.findings < 2 ^ 64) };
 }
 
@@ -115,7 +115,7 @@ impl Rows for VersionRows {
                 sayings: Sayings {
                     tree: &located.tree,
                     records,
-                    findings: self.findings.as_slice(),
+                    findings: &self.findings,
                     place,
                 },
             };
@@ -129,7 +129,7 @@ impl Rows for VersionRows {
 }
 
 /// The report over versions of which the oldest has this number, by what was found under each, as much as is shown of
-/// it. Up to four threads measure its texts.
+/// it. Up to four threads look through the records.
 pub fn report_over<R: Threads + Sync>(
     rt: &R,
     alloc: Global,

@@ -1,15 +1,14 @@
 use Rattle.std.proofs.Common.{◌∙◌, Bool, ap, subst, sym}
 use Rattle.ll_explain.specs.Buffers.{adding}
-use Rattle.ll_report.specs.Scratches.{said_by}
+use Rattle.ll_report.specs.Scratches.{AreComparable, said_by}
 use Rattle.ll_json.specs.Rows.{line_of}
-use Rattle.ll_json.specs.Telling.{AreComparable, members_told}
-use Rattle.ll_json.proofs.SaidAlike.{comparable}
+use Rattle.ll_json.specs.Telling.{answer_at, members_told}
 use Rattle.ll_json.proofs.rows.push_line.Goals as goal
 
 pub push_line_as-requires-clause-comparable : goal.push_line_as-requires-clause-comparable
 push_line_as-requires-clause-comparable c =
-    subst (λ (explains : Bool). AreComparable (members_told explains) c.args.scratch.now c.args.sayings.now) c.if-explains.true
-    (comparable c.args.explains c.args.scratch.now c.args.sayings.now c.requires.alike c.requires.fit)
+    subst (λ (explains : Bool). AreComparable answer_at c.args.scratch.now c.args.sayings.now.place (said_by (members_told explains) c.args.sayings.now))
+    c.if-explains.true c.requires.comparable
 
 pub returns-then-explains-clause-text : goal.returns-then-explains-clause-text
 returns-then-explains-clause-text c =
@@ -19,8 +18,8 @@ returns-then-explains-clause-text c =
 
 pub push_line_as-requires-else-explains-clause-comparable : goal.push_line_as-requires-else-explains-clause-comparable
 push_line_as-requires-else-explains-clause-comparable c =
-    subst (λ (explains : Bool). AreComparable (members_told explains) c.args.scratch.now c.args.sayings.now) c.if-explains.false
-    (comparable c.args.explains c.args.scratch.now c.args.sayings.now c.requires.alike c.requires.fit)
+    subst (λ (explains : Bool). AreComparable answer_at c.args.scratch.now c.args.sayings.now.place (said_by (members_told explains) c.args.sayings.now))
+    c.if-explains.false c.requires.comparable
 
 pub returns-else-explains-clause-text : goal.returns-else-explains-clause-text
 returns-else-explains-clause-text c =

@@ -1,4 +1,4 @@
-use Rattle.std.proofs.Common.{◌∙◌, ap}
+use Rattle.std.proofs.Common.{◌∙◌, ap, sym}
 use Rattle.ll_explain.specs.Buffers.{adding}
 use Rattle.ll_report.proofs.RowsSaid.{shown_alike}
 use Rattle.ll_report.proofs.rows.Row.push_alike.Goals as goal
@@ -9,4 +9,4 @@ returns c =
     let s = row.sayings in
     c.push_block.ensures
     ∙ ap (adding c.args.text.now) (shown_alike row.shown row.oldest s.tree.now s.records.now s.findings.now s.place row.record.now
-    c.in-Some.first.now _ c.in-Some.ensures.cases.0 c.requires)
+    c.in-Some.first.now _ (sym c.as_slice.ensures ∙ c.in-Some.ensures.cases.0) c.requires)

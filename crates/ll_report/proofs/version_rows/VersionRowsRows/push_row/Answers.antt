@@ -1,8 +1,7 @@
-use Rattle.std.proofs.Common.{◌∙◌, List, ap, ap₂, sym}
+use Rattle.std.proofs.Common.{◌∙◌, List, ap, sym}
 use Rattle.ll_explain.specs.Buffers.{adding}
 use Rattle.ll_explain.proofs.Buffering.{adding_nothing}
 use Rattle.ll_trace.specs.declared.op.Record.{Record}
-use Rattle.ll_explanations.specs.Findings.{FindingValue}
 use Rattle.ll_report.specs.Found.{Found}
 use Rattle.ll_report.specs.Made.{Made, row_at}
 use Rattle.ll_report.specs.Rows.{row_text, told_of, totals_from}
@@ -19,9 +18,8 @@ returns-in-Some-clause-row c =
     (totals_from rows.oldest founds) c.in-Some.record.now c.records-records.ensures.value
     c.in-Some.ensures.lookup.0 c.in-Some.ensures.lookup.1 in
     c.push_to.ensures.text
-    ∙ ap₂ (λ (rs : List Record) (fs : List FindingValue). adding c.args.text.now (row_text rows.shown rows.oldest
-    (founds_in rows.shown.explanations rows.located.tree rs fs) c.args.place (told_of c.in-Some.record.now))) c.records-records.ensures.value
-    c.as_slice.ensures
+    ∙ ap (λ (rs : List Record). adding c.args.text.now (row_text rows.shown rows.oldest
+    (founds_in rows.shown.explanations rows.located.tree rs rows.findings) c.args.place (told_of c.in-Some.record.now))) c.records-records.ensures.value
     ∙ ap (adding c.args.text.now) (sym row)
     ∙ ap (λ (m : Made). adding c.args.text.now (row_at m c.args.place)) c.self.view_is
 
