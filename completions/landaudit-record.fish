@@ -39,7 +39,7 @@ complete -c landaudit-record -n '__landaudit_record_has audit' -l abi -x -a '1 2
 complete -c landaudit-record -n '__landaudit_record_has audit suggest tighten' -l as-recorded -d 'Judge the rulesets of the program as they were recorded'
 complete -c landaudit-record -n '__landaudit_record_has audit compare' -l json -d 'Print the result as JSON'
 complete -c landaudit-record -n '__landaudit_record_has audit compare suggest tighten' -l landaudit -r -F -d 'landaudit itself'
-complete -c landaudit-record -n '__landaudit_record_has audit' -l all -d 'Show each kind of refused calls'
+complete -c landaudit-record -n '__landaudit_record_has audit' -l all -d 'Show each kind of refused call'
 complete -c landaudit-record -n '__landaudit_record_has audit' -l html -r -F -d 'Also write a page for a browser'
 complete -c landaudit-record -n '__landaudit_record_has audit' -l accepted -r -F -d 'Refusals that you know and accept'
 complete -c landaudit-record -n '__landaudit_record_has tighten' -l list -d 'Print a table instead'

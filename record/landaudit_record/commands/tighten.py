@@ -34,7 +34,7 @@ def add_arguments(parser: argparse.ArgumentParser) -> None:
     parser.add_argument(
         "--list",
         action="store_true",
-        help="print a table instead: how many calls need each right, first the rights that no call needs",
+        help="print a table instead: how many calls need each right, with the rights that no call needs first",
     )
     add_program(parser)
     add_abi(parser)

@@ -24,7 +24,7 @@ LONGEST = 300
 #: The most kinds that are named of those that change from ABI to ABI.
 MOST_KINDS = 20
 
-MOOT = "A call is moot if Landlock is not asked: for example, the file does not exist, or the call fails before."
+MOOT = "A call is moot if Landlock is not asked: for example, the file does not exist, or the call fails earlier."
 
 
 @dataclass(frozen=True)

@@ -28,9 +28,9 @@ EXAMPLE = "landaudit-policy check policy.toml cases.toml"
 CASES = """
 Cases are TOML: each [[refused]] or [[allowed]] has a call in the words of a
 trace (open r, open w create, exec, mknod fifo, rename, connect, ..) with path,
-from and to, or port; abi (one or a range) unless it is about all of them; and
-kind for a path that is not on this machine. The output is TAP, version 14, or
-JSON with --json."""
+from and to, or port; abi (one or a range) unless the case is about all ABIs;
+and kind for a path that is not on this machine. The output is TAP, version 14,
+or JSON with --json."""
 
 
 def add_arguments(parser: argparse.ArgumentParser) -> None:
