@@ -1,9 +1,9 @@
 -- Texts that are told apart by their fingerprints.
 use Rattle.std.proofs.Common.{◌≡◌, ◌∙◌, ℕ, suc, zero, ◌+◌, ◌-◌, ◌<◌, Bool, true, false, List, [], ◌∷◌, get_or, length, nat_eq, arith, ap, sym}
-use Rattle.std.proofs.Common.{inl, inr, refl}
+use Rattle.std.proofs.Common.{inl, inr, refl, subst, ◌≤◌}
 use Rattle.std.specs.Prelude.{bytes_eq}
 use Rattle.std.specs.List.{All, list_all}
-use Rattle.std.proofs.lemmas.Bool.{cases_Bool, eqb-false, eqb-true}
+use Rattle.std.proofs.lemmas.Bool.{cases_Bool, cases_lt, eqb-false, eqb-true}
 use Rattle.std.proofs.lemmas.List.{length-map}
 use Rattle.std.proofs.lemmas.List.Elements.{All-head, All-tail}
 use Rattle.std.proofs.lemmas.Slice.Eq.{bytes_eq-Decides}
@@ -57,6 +57,28 @@ module _ (told : Telling) (by_value : ByValue told) (tree : List Entry) (records
   pub agree_alike : (findings : List FindingValue) → AreAlike findings place → agree (told_under told tree records findings place) ≡ true
   agree_alike [] are = refl
   agree_alike (first ∷ others) are = agree_first first others are
+
+-- ---- texts that are looked through one after another
+
+-- each text up to one is told apart from the one before it
+abbrev pub AreToldApartTo : ℕ → ℕ → List (List ℕ) → Type 0
+AreToldApartTo at end texts =
+    (k : ℕ) → k + 1 < end → fingerprint_of at (get_or texts k []) ≡ fingerprint_of at (get_or texts (k + 1) [])
+    → get_or texts k [] ≡ get_or texts (k + 1) []
+
+module _ (at : ℕ) (texts : List (List ℕ)) (end : ℕ) (are : AreToldApartTo at end texts) where
+  pub one_apart : (fingerprint_of at (get_or texts (end - 1) []) ≡ fingerprint_of at (get_or texts end []) → get_or texts (end - 1) [] ≡ get_or texts end [])
+      → AreToldApartTo at (end + 1) texts
+  one_apart one k below = elim (cases_lt (k + 1) end) [
+    | inl before ↦ are k before
+    | inr here ↦
+        let both : ℕ → ℕ → Type 0 = λ m n. fingerprint_of at (get_or texts m []) ≡ fingerprint_of at (get_or texts n [])
+        → get_or texts m [] ≡ get_or texts n [] in
+        subst (λ (m : ℕ). both m (k + 1)) (omega (arith, here, below)) (subst (both (end - 1)) (omega (arith, here, below)) one)
+  ]
+
+  pub told_apart_all : length texts ≤ end → AreToldApart at texts
+  told_apart_all past k below = are k (omega (arith, below, past))
 
 -- ---- texts that are compared by their fingerprints alone
 

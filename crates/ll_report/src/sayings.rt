@@ -1,7 +1,6 @@
 //! What versions say of a record.
 
 ghost use Rattle.std.specs.Prelude.{◌≡◌, ◌+◌, ◌<◌, ◌≤◌, ◌-◌, ◌^◌, [], false, get_or, length, nat_eq, true};
-ghost use Rattle.std.specs.Bool.{OnTrue};
 ghost use Rattle.ll_explain.specs.Buffers.{adding};
 ghost use Rattle.ll_explanations.specs.Alike.{AreAlike};
 ghost use Rattle.ll_report.specs.Scratches.{AreToldApart, FitIn, fingerprint_of, said_by, told_under, verdict_told};
@@ -97,10 +96,10 @@ impl<'f> Sayings<'f> {
     pub(crate) fn find_alike<T: Telling>(&self, one: usize, other: usize) -> bool
         requires one { one < length self.now.findings.now }
         requires other { other < length self.now.findings.now }
-        ensures { result ≡ true → get_or (told_under T.told self.now.tree.now
-            self.now.records.now self.now.findings.now self.now.place) one []
-            ≡ get_or (told_under T.told self.now.tree.now
-            self.now.records.now self.now.findings.now self.now.place) other [] }
+        ensures verdicts { result ≡ true → get_or (said_by verdict_told self.now) one []
+            ≡ get_or (said_by verdict_told self.now) other [] }
+        ensures texts { result ≡ true → get_or (said_by T.told self.now) one []
+            ≡ get_or (said_by T.told self.now) other [] }
     {
         let first = &self.findings.as_slice()[one];
         let second = &self.findings.as_slice()[other];
@@ -108,28 +107,57 @@ impl<'f> Sayings<'f> {
             && first.explains_as(second, self.place)
     }
 
-    /// Whether a version finds the same as the one before, or says something of another fingerprint.
-    fn is_told_apart<T: Telling>(&self, version: usize) -> bool
+    /// The fingerprints of what a version says, in words for its answer and in a form.
+    fn fingerprints<T: Telling>(&self, version: usize) -> (u64, u64)
+        requires { version < length self.now.findings.now }
+        ensures verdict { result.0 ≡ fingerprint_of 0
+            (get_or (said_by verdict_told self.now) version []) }
+        ensures text { result.1 ≡ fingerprint_of T.byte_at
+            (get_or (said_by T.told self.now) version []) }
+    {
+        (
+            self.fingerprint::<Verdicts>(version),
+            self.fingerprint::<T>(version),
+        )
+    }
+
+    /// Whether a version finds the same as the one before, or both of its fingerprints are others.
+    fn is_told_apart<T: Telling>(
+        &self,
+        version: usize,
+        before: (u64, u64),
+        here: (u64, u64),
+    ) -> bool
         requires later { 0 < version }
         requires within { version < length self.now.findings.now }
-        ensures { result ≡ true
-            → fingerprint_of T.byte_at (get_or (said_by T.told self.now) (version - 1) [])
-            ≡ fingerprint_of T.byte_at (get_or (said_by T.told self.now) version [])
+        ensures verdicts { result ≡ true → before.0 ≡ here.0
+            → get_or (said_by verdict_told self.now) (version - 1) []
+            ≡ get_or (said_by verdict_told self.now) version [] }
+        ensures texts { result ≡ true → before.1 ≡ here.1
             → get_or (said_by T.told self.now) (version - 1) []
             ≡ get_or (said_by T.told self.now) version [] }
     {
-        !self.have_same_fingerprint::<T>(version - 1, version)
-            || self.find_alike::<T>(version - 1, version)
+        if before.0 != here.0 && before.1 != here.1 {
+            return true;
+        }
+        self.find_alike::<T>(version - 1, version)
     }
 
-    /// Whether each version finds the same as the one before, or says something of another fingerprint.
+    /// Whether each version finds the same as the one before, or both of its fingerprints are others.
     fn are_told_apart<T: Telling>(&self) -> bool
-        ensures { OnTrue result (AreToldApart T.byte_at (said_by T.told self.now)) }
+        ensures verdicts { result ≡ true → AreToldApart 0 (said_by verdict_told self.now) }
+        ensures texts { result ≡ true → AreToldApart T.byte_at (said_by T.told self.now) }
     {
+        if self.versions() == 0 {
+            return true;
+        }
+        let mut before = self.fingerprints::<T>(0);
         for version in 1..self.versions() {
-            if !self.is_told_apart::<T>(version) {
+            let here = self.fingerprints::<T>(version);
+            if !self.is_told_apart::<T>(version, before, here) {
                 return false;
             }
+            before = here;
         }
         true
     }
@@ -139,7 +167,7 @@ impl<'f> Sayings<'f> {
         ensures verdicts { result ≡ false → AreToldApart 0 (said_by verdict_told self.now) }
         ensures texts { result ≡ false → AreToldApart T.byte_at (said_by T.told self.now) }
     {
-        self.is_apart() && !(self.are_told_apart::<Verdicts>() && self.are_told_apart::<T>())
+        self.is_apart() && !self.are_told_apart::<T>()
     }
 
     /// The length of what a version says, or `least`, or another length, if that is greater. A version that finds the
