@@ -5,8 +5,6 @@ use Rattle.ll_trace.proofs.parts.read_each.Goals as goal
 
 pub returns : goal.returns
 returns g c =
-    IfOk-then c.collect.result _ _ c.collect.ensures (λ parts gathered.
-    let chain = gathered.1 in
-    let given = rw (c.with_min_len.ensures.base, c.map.ensures.base) at chain.1 in
-    let same = given ∙ c.into_par_iter.ensures in
-    rw (gathered.2, ← same) chain.2)
+    IfOk-then c.collect.result _ _ c.collect.ensures (λ parts read.
+    let blocks = (rw (c.with_min_len.ensures.base, c.map.ensures.base) at read.1.1) ∙ c.into_par_iter.ensures in
+    rw (read.2, ← blocks) read.1.2)

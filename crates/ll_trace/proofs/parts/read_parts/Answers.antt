@@ -5,8 +5,8 @@ use Rattle.ll_trace.proofs.parts.read_parts.Goals as goal
 
 pub returns : goal.returns
 returns g c =
-    IfOk-then c.collect.result _ _ c.collect.ensures (λ parts gathered.
-    let chain = gathered.1 in
-    let given = rw (c.with_min_len.ensures.base, c.map.ensures.base) at chain.1 in
-    let same = given ∙ c.into_par_iter.ensures in
-    (c.in_ok-parts.parts.items, c.in_ok-parts.ensures.lines ∙ c.new.ensures, rw (gathered.2, ← same) chain.2))
+    IfOk-then c.collect.result _ _ c.collect.ensures (λ parts read. (
+      c.in_ok-parts.parts.items,
+      c.in_ok-parts.ensures.lines ∙ c.new.ensures,
+      rw (read.2, ← c.into_par_iter.ensures, ← (rw (c.with_min_len.ensures.base, c.map.ensures.base) at read.1.1)) read.1.2,
+    ))
