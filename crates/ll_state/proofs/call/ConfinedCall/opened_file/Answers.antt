@@ -4,7 +4,6 @@ use Rattle.ll_rights.specs.Rights.{only}
 use Rattle.ll_state.proofs.call.ConfinedCall.opened_file.Goals as goal
 
 pub returns-in-Read : goal.returns-in-Read
-unfolding only
 returns-in-Read c = search rules
 
 pub returns-in-Write : goal.returns-in-Write
