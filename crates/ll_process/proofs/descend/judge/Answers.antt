@@ -52,7 +52,7 @@ returns-clause-shares_out g c =
     shares_out c.args.job.case.now c.args.job.process c.loop-next.processes.items c.loop-next.answers.items (g.H.Hand.kept c.args.hand.now)
     (g.H.Hand.kept c.loop-next.hand) c.loop-next.todo.items c.loop-next.invariant.descended none
 
--- ---- the hand where memory runs out, and at the end
+-- ---- no room for the first job: the hand is as it was
 
 pub returns-in_err-append-clause-keeps : goal.returns-in_err-append-clause-keeps
 returns-in_err-append-clause-keeps g c = keeps_same c.args.job.case.now.records (g.H.Hand.kept c.args.hand.now) (g.H.Hand.kept c.args.hand.now) refl
@@ -62,27 +62,3 @@ returns-in_err-append-clause-suits g c = c.requires
 
 pub returns-in_err-append-clause-stays : goal.returns-in_err-append-clause-stays
 returns-in_err-append-clause-stays g c = λ before same. same
-
-pub returns-in_err-append-2-clause-keeps : goal.returns-in_err-append-2-clause-keeps
-returns-in_err-append-2-clause-keeps g c = c.loop-next.invariant.keeps
-
-pub returns-in_err-append-2-clause-suits : goal.returns-in_err-append-2-clause-suits
-returns-in_err-append-2-clause-suits g c = c.loop-next.invariant.suits
-
-pub returns-in_err-append-2-clause-stays : goal.returns-in_err-append-2-clause-stays
-returns-in_err-append-2-clause-stays g c = c.loop-next.invariant.stays
-
-pub returns-in_err-judge_own-clause-suits : goal.returns-in_err-judge_own-clause-suits
-returns-in_err-judge_own-clause-suits g c = c.judge_own.ensures.suits
-
-pub returns-in_err-judge_own-clause-stays : goal.returns-in_err-judge_own-clause-stays
-returns-in_err-judge_own-clause-stays g c = λ before same. c.judge_own.ensures.stays before (c.loop-next.invariant.stays before same)
-
-pub returns-clause-keeps : goal.returns-clause-keeps
-returns-clause-keeps g c = c.loop-next.invariant.keeps
-
-pub returns-clause-suits : goal.returns-clause-suits
-returns-clause-suits g c = c.loop-next.invariant.suits
-
-pub returns-clause-stays : goal.returns-clause-stays
-returns-clause-stays g c = c.loop-next.invariant.stays

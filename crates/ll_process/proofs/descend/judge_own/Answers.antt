@@ -61,18 +61,6 @@ returns-clause-less g c =
     (g.H.Hand.kept c.args.hand.now) (g.H.Hand.kept c.loop-at.hand) c.args.todo.now.items c.loop-at.todo.items c.loop-at-test.false
     c.loop-at.invariant.walked) c.loop-at.invariant.keeps
 
-pub returns-clause-keeps : goal.returns-clause-keeps
-returns-clause-keeps g c = c.loop-at.invariant.keeps
-
-pub returns-clause-suits : goal.returns-clause-suits
-returns-clause-suits g c = c.loop-at.invariant.suits
-
-pub returns-clause-stays : goal.returns-clause-stays
-returns-clause-stays g c = c.loop-at.invariant.stays
-
-pub returns-clause-of_case : goal.returns-clause-of_case
-returns-clause-of_case g c = c.loop-at.invariant.walked.of_case
-
 pub returns-clause-handed : goal.returns-clause-handed
 returns-clause-handed g c =
     handed_all c.args.case.now c.args.job.process.0 c.loop-at.at c.own_records-places.result.now c.own_records-places.ensures.places
@@ -84,9 +72,3 @@ pub returns-in_err-judge_record-clause-keeps : goal.returns-in_err-judge_record-
 returns-in_err-judge_record-clause-keeps g c =
     keeps_on c.args.case.now.records (g.H.Hand.kept c.args.hand.now) (g.H.Hand.kept c.loop-at.hand)
     (g.H.Hand.kept c.judge_record.new.hand) c.loop-at.invariant.keeps c.judge_record.ensures.keeps
-
-pub returns-in_err-judge_record-clause-suits : goal.returns-in_err-judge_record-clause-suits
-returns-in_err-judge_record-clause-suits g c = c.judge_record.ensures.suits
-
-pub returns-in_err-judge_record-clause-stays : goal.returns-in_err-judge_record-clause-stays
-returns-in_err-judge_record-clause-stays g c = λ before same. c.judge_record.ensures.stays before (c.loop-at.invariant.stays before same)
