@@ -20,18 +20,6 @@ loop-started-init g c = record {
   promised = λ i d within. absurd (omega (arith, within, c.requires.none));
 }
 
-pub returns-then-is_err-clause-queue : goal.returns-then-is_err-clause-queue
-returns-then-is_err-clause-queue g c = c.loop-started.invariant.queue
-
-pub returns-then-is_err-clause-given : goal.returns-then-is_err-clause-given
-returns-then-is_err-clause-given g c = c.loop-started.invariant.given
-
-pub returns-then-is_err-clause-taken : goal.returns-then-is_err-clause-taken
-returns-then-is_err-clause-taken g c = c.loop-started.invariant.taken
-
-pub returns-then-is_err-clause-its_case : goal.returns-then-is_err-clause-its_case
-returns-then-is_err-clause-its_case g c = c.loop-started.invariant.its_case
-
 pub returns-then-is_err-clause-some_part : goal.returns-then-is_err-clause-some_part
 returns-then-is_err-clause-some_part g c =
     omega (arith, c.loop-started.invariant.parts, c.loop-started.invariant.count, c.requires.parts, c.loop-started-test.true)
@@ -39,15 +27,9 @@ returns-then-is_err-clause-some_part g c =
 pub returns-then-is_err-clause-promised : goal.returns-then-is_err-clause-promised
 returns-then-is_err-clause-promised g c = rw c.reserve.ensures.items c.loop-started.invariant.promised
 
-pub split-requires-clause-queue : goal.split-requires-clause-queue
-split-requires-clause-queue g c = c.loop-started.invariant.queue
-
 pub split-requires-clause-parts : goal.split-requires-clause-parts
 split-requires-clause-parts g c =
     omega (arith, c.loop-started.invariant.parts, c.loop-started.invariant.count, c.requires.parts, c.loop-started-test.true)
-
-pub returns-in-Err-clause-queue : goal.returns-in-Err-clause-queue
-returns-in-Err-clause-queue g c = c.split.ensures.queue
 
 pub returns-in-Err-clause-given : goal.returns-in-Err-clause-given
 returns-in-Err-clause-given g c = ap (λ (u : Ledger). u.given) c.split.ensures.knows ∙ c.loop-started.invariant.given
@@ -71,21 +53,6 @@ returns-in-Err-clause-some_part g c =
 
 pub returns-in-Err-clause-promised : goal.returns-in-Err-clause-promised
 returns-in-Err-clause-promised g c = rw c.reserve.ensures.items c.loop-started.invariant.promised
-
-pub returns-clause-queue : goal.returns-clause-queue
-returns-clause-queue g c = c.loop-started.invariant.queue
-
-pub returns-clause-given : goal.returns-clause-given
-returns-clause-given g c = c.loop-started.invariant.given
-
-pub returns-clause-taken : goal.returns-clause-taken
-returns-clause-taken g c = c.loop-started.invariant.taken
-
-pub returns-clause-its_case : goal.returns-clause-its_case
-returns-clause-its_case g c = c.loop-started.invariant.its_case
-
-pub returns-clause-promised : goal.returns-clause-promised
-returns-clause-promised g c = c.loop-started.invariant.promised
 
 pub spawn_with-requires-send-F : goal.spawn_with-requires-send-F
 spawn_with-requires-send-F g c κs within = search (hand_send, sendable) depth 60

@@ -39,21 +39,9 @@ loop-root-preserved g c = record {
 pub returns-in_err-hand_out-clause-pool : goal.returns-in_err-hand_out-clause-pool
 returns-in_err-hand_out-clause-pool g c = c.hand_out.ensures.pool ∙ c.loop-root.invariant.pool
 
-pub returns-in_err-hand_out-clause-queue : goal.returns-in_err-hand_out-clause-queue
-returns-in_err-hand_out-clause-queue g c = c.hand_out.ensures.queue
-
 pub returns-in_err-hand_out-clause-gave : goal.returns-in_err-hand_out-clause-gave
 returns-in_err-hand_out-clause-gave g c =
     gave_more (view c.args.self.now.pass) (view c.loop-root.self.pass) (view c.hand_out.new.self.pass) c.loop-root.invariant.gave c.hand_out.ensures.gave
-
-pub returns-clause-pool : goal.returns-clause-pool
-returns-clause-pool g c = c.loop-root.invariant.pool
-
-pub returns-clause-queue : goal.returns-clause-queue
-returns-clause-queue g c = c.loop-root.invariant.queue
-
-pub returns-clause-gave : goal.returns-clause-gave
-returns-clause-gave g c = c.loop-root.invariant.gave
 
 pub returns-clause-seen : goal.returns-clause-seen
 returns-clause-seen g c =
