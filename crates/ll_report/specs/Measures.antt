@@ -5,6 +5,7 @@ use Rattle.ll_tree.specs.Trees.{Entry}
 use Rattle.ll_trace.specs.declared.op.Record.{Record}
 use Rattle.ll_explanations.specs.Findings.{FindingValue}
 use Rattle.ll_report.specs.Scratches.{AreComparable, ScratchValue, told_under, verdict_told}
+use Rattle.ll_report.specs.declared.measured.Measured.{Measured}
 use Rattle.ll_report.specs.declared.stretch.Stretch.{Stretch}
 
 -- what versions say of the record at a place of a stretch can be compared, by what is known of the stretch's records
@@ -20,6 +21,10 @@ pub record IsMeasured (at : ℕ) (told : List Entry → List Record → FindingV
   pub as_many : s.from ≤ end → length compared ≡ end - s.from
   pub each : longest < 2 ^ 63 → (place : ℕ) → s.from ≤ place → place < end
       → IsComparableAt at told s (record { compared = compared; room = longest }) place
+
+-- the same of all its records
+abbrev pub AreMeasured : ℕ → (List Entry → List Record → FindingValue → ℕ → List ℕ) → Stretch → Measured → Type 0
+AreMeasured at told s known = IsMeasured at told s s.end known.compared.items known.longest
 
 -- the records of a stretch up to a place, and the others
 abbrev pub AreHalves : Stretch → Stretch → Stretch → Type 0

@@ -4,6 +4,9 @@ ghost use Rattle.std.specs.Prelude.{◌≡◌, ◌++◌, ◌≤◌, IfOk};
 
 use std::alloc::AllocError;
 
+/// What is known of consecutive records, or that memory ran out.
+pub(crate) type Measuring = Result<Measured, AllocError>;
+
 /// About which of consecutive records the texts of versions are compared, and a length that none of these texts exceeds.
 #[derive(Drop)]
 pub(crate) struct Measured {
@@ -13,7 +16,7 @@ pub(crate) struct Measured {
 
 impl Measured {
     /// The same of these records and of others behind them.
-    pub(crate) fn beside(self, others: Measured) -> Result<Measured, AllocError>
+    pub(crate) fn beside(self, others: Measured) -> Measuring
         ensures compared { IfOk result
             (λ both. both.compared.items ≡ self.compared.items ++ others.compared.items) }
         ensures first { IfOk result (λ both. self.longest ≤ both.longest) }

@@ -6,8 +6,7 @@ ghost use Rattle.ll_explain.specs.Buffers.{adding};
 ghost use Rattle.ll_report.specs.Rows.{is_row_left_out};
 ghost use Rattle.ll_explanations.specs.Alike.{AreAlike};
 ghost use Rattle.ll_report.specs.Scratches.{AreComparable, said_by, verdict_told};
-ghost use Rattle.ll_report.specs.Versions.{answers_in, row_of, some_refuses};
-ghost use Rattle.ll_explain.specs.Told.{text_told};
+ghost use Rattle.ll_report.specs.Versions.{IsTellable, answers_in, row_of, some_refuses};
 
 use crate::blocks::{is_hidden, push_block};
 use crate::options::Shown;
@@ -130,11 +129,7 @@ impl<'f> Row<'f> {
 
     /// Adds what is shown of the record, where versions may differ.
     fn push_apart(&self, text: &mut TextBuffer, scratch: &mut Scratch)
-        requires few { self.now.oldest + length self.now.sayings.findings.now < 2 ^ 64 }
-        requires verdicts { AreComparable 0 scratch.old self.now.sayings.place
-            (said_by verdict_told self.now.sayings) }
-        requires texts { AreComparable 0 scratch.old self.now.sayings.place
-            (said_by text_told self.now.sayings) }
+        requires { IsTellable scratch.old self.now }
         ensures text { text.new ≡ adding text.old (row_of self.now) }
         ensures scratch { scratch.new ≡ scratch.old }
     {
@@ -158,11 +153,7 @@ impl<'f> Row<'f> {
 
     /// Adds what is shown of the record.
     pub(crate) fn push_to(&self, text: &mut TextBuffer, scratch: &mut Scratch)
-        requires few { self.now.oldest + length self.now.sayings.findings.now < 2 ^ 64 }
-        requires verdicts { AreComparable 0 scratch.old self.now.sayings.place
-            (said_by verdict_told self.now.sayings) }
-        requires texts { AreComparable 0 scratch.old self.now.sayings.place
-            (said_by text_told self.now.sayings) }
+        requires { IsTellable scratch.old self.now }
         ensures text { text.new ≡ adding text.old (row_of self.now) }
         ensures scratch { scratch.new ≡ scratch.old }
     {

@@ -14,10 +14,10 @@ use ll_tree::Tree;
 /// What versions found of the record at a place, the oldest first, with what it takes to tell it.
 #[derive(Clone, Copy)]
 pub struct Sayings<'f> {
-    pub tree: &'f Tree,
-    pub records: &'f [Record],
     pub findings: &'f Findings,
     pub place: usize,
+    pub tree: &'f Tree,
+    pub records: &'f [Record],
 }
 
 impl<'f> Sayings<'f> {

@@ -29,7 +29,7 @@ impl Model for Scratch {
     ghost Value = { ScratchValue };
 
     ghost view = { λ scratch.
-        record { compared = scratch.compared.items; room = scratch.pair } };
+        record { room = scratch.pair; compared = scratch.compared.items } };
 }
 
 impl Scratch {
@@ -51,7 +51,7 @@ impl Scratch {
             from: 0,
             end: records.len(),
         };
-        let Measured { compared, longest } = all.measured_by_threads::<T, R>(rt, alloc)?;
+        let Measured { compared, longest } = all.by_threads::<T, R>(rt, alloc)?;
         let pair = TextPair::new(alloc, longest)?;
         Ok(Scratch { compared, pair })
     }

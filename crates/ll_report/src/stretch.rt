@@ -2,16 +2,16 @@
 
 ghost use Rattle.std.specs.Prelude.{◌≡◌, ◌≤◌, IfOk};
 ghost use Rattle.std.specs.Thread.{IsSync};
-ghost use Rattle.ll_report.specs.{Measures.AreHalves, Measures.IsMeasured};
+ghost use Rattle.ll_report.specs.{Measures.AreHalves, Measures.AreMeasured};
 
-use crate::measured::Measured;
+use crate::measured::{Measured, Measuring};
 use crate::sayings::Sayings;
 use crate::telling::Telling;
 use ll_explain::TextBuffer;
 use ll_explanations::Findings;
 use ll_trace::Record;
 use ll_tree::Tree;
-use std::alloc::{AllocError, Global};
+use std::alloc::Global;
 use std::thread::{Threads, join};
 
 /// The fewest records that several threads look through.
@@ -30,9 +30,8 @@ pub(crate) struct Stretch<'f> {
 impl<'f> Stretch<'f> {
     /// About which of its records texts are compared, and a length that none of these texts exceeds. A length from 2 ^ 63 on
     /// says nothing.
-    fn measured<T: Telling>(self, alloc: Global) -> Result<Measured, AllocError>
-        ensures { IfOk result (λ known. IsMeasured T.byte_at T.told self.entry self.entry.end
-            known.compared.items known.longest) }
+    fn measured<T: Telling>(self, alloc: Global) -> Measuring
+        ensures { IfOk result (AreMeasured T.byte_at T.told self.entry) }
     {
         let mut measure = TextBuffer::measure(alloc);
         let mut compared = Vec::new(alloc);
@@ -71,13 +70,8 @@ impl<'f> Stretch<'f> {
 
     /// The same as `measured`, by two threads.
     #[tactic(auto, using(crate::proofs::Suiting::joined))]
-    fn measured_by_two<T: Telling + Sync, R: Threads + Sync>(
-        self,
-        rt: &R,
-        alloc: Global,
-    ) -> Result<Measured, AllocError>
-        ensures { IfOk result (λ known. IsMeasured T.byte_at T.told self.entry self.entry.end
-            known.compared.items known.longest) }
+    fn by_two<T: Telling + Sync, R: Threads + Sync>(self, rt: &R, alloc: Global) -> Measuring
+        ensures { IfOk result (AreMeasured T.byte_at T.told self.entry) }
     {
         let (first, second) = self.halves();
         let (one, other) = join(
@@ -95,13 +89,8 @@ impl<'f> Stretch<'f> {
 
     /// The same, by four threads.
     #[tactic(auto, using(crate::proofs::Suiting::joined))]
-    fn measured_by_four<T: Telling + Sync, R: Threads + Sync>(
-        self,
-        rt: &R,
-        alloc: Global,
-    ) -> Result<Measured, AllocError>
-        ensures { IfOk result (λ known. IsMeasured T.byte_at T.told self.entry self.entry.end
-            known.compared.items known.longest) }
+    fn by_four<T: Telling + Sync, R: Threads + Sync>(self, rt: &R, alloc: Global) -> Measuring
+        ensures { IfOk result (AreMeasured T.byte_at T.told self.entry) }
     {
         let (first, second) = self.halves();
         let (one, other) = join(
@@ -109,28 +98,27 @@ impl<'f> Stretch<'f> {
             move ||
                 requires sync { IsSync R.row }
                 requires told { IsSync T.row }
-            { first.measured_by_two::<T, R>(rt, alloc) },
+            { first.by_two::<T, R>(rt, alloc) },
             move ||
                 requires sync { IsSync R.row }
                 requires told { IsSync T.row }
-            { second.measured_by_two::<T, R>(rt, alloc) },
+            { second.by_two::<T, R>(rt, alloc) },
         );
         let both = one?.beside(other?)?;
         Ok(both)
     }
 
     /// The same, by four threads if there are many records.
-    pub(crate) fn measured_by_threads<T: Telling + Sync, R: Threads + Sync>(
+    pub(crate) fn by_threads<T: Telling + Sync, R: Threads + Sync>(
         self,
         rt: &R,
         alloc: Global,
-    ) -> Result<Measured, AllocError>
-        ensures { IfOk result (λ known. IsMeasured T.byte_at T.told self.entry self.entry.end
-            known.compared.items known.longest) }
+    ) -> Measuring
+        ensures { IfOk result (AreMeasured T.byte_at T.told self.entry) }
     {
         if self.records.len() < WORTH_THREADS {
             return self.measured::<T>(alloc);
         }
-        self.measured_by_four::<T, R>(rt, alloc)
+        self.by_four::<T, R>(rt, alloc)
     }
 }

@@ -47,37 +47,6 @@ impl Model for VersionRows {
         × (rows.oldest + length rows.findings < 2 ^ 64) };
 }
 
-impl VersionRows {
-    /// The rows of a trace.
-    pub fn of<R: Threads + Sync>(
-        rt: &R,
-        alloc: Global,
-        located: Located,
-        findings: Findings,
-        shown: Shown,
-        oldest: u64,
-    ) -> Result<VersionRows, AllocError>
-        requires { oldest + length findings < 2 ^ 64 }
-        ensures { IfOk result (λ rows. rows ≡ rows_made shown oldest (founds_in shown.explanations
-            located.tree located.trace findings) located.trace) }
-    {
-        let scratch = Scratch::of::<InWords, R>(
-            rt,
-            alloc,
-            &located.tree,
-            located.trace.records(),
-            &findings,
-        )?;
-        Ok(VersionRows {
-            located,
-            findings,
-            shown,
-            oldest,
-            scratch,
-        })
-    }
-}
-
 /// Adds the last line of a version.
 fn push_total_under(text: &mut TextBuffer, abi: u64, finding: &Finding)
     ensures { text.new ≡ adding text.old (total_under_text abi (answered finding.now)) }
@@ -145,7 +114,15 @@ pub fn report_over<R: Threads + Sync>(
         shown.explanations located.tree located.trace findings) located.trace) }
 {
     let refused = refused_under_some(&findings, located.trace.records().len());
-    let rows = VersionRows::of(rt, alloc, located, findings, shown, oldest)?;
+    let records = located.trace.records();
+    let scratch = Scratch::of::<InWords, R>(rt, alloc, &located.tree, records, &findings)?;
+    let rows = VersionRows {
+        located,
+        findings,
+        shown,
+        oldest,
+        scratch,
+    };
     let report = RowReport::of(alloc, rows, refused)?;
     Ok(report)
 }
