@@ -41,8 +41,8 @@ impl<'p> Model for JsonRows<'p> {
         rows.findings rows.program.now };
 
     ghost invariant = { λ rows. (rows.oldest + length rows.findings < 2 ^ 64)
-        × Suits answer_at (members_told rows.shown.explanations) rows.located.tree rows.located.trace
-        rows.findings rows.scratch };
+        × Suits answer_at (members_told rows.shown.explanations) rows.located.tree
+        rows.located.trace rows.findings rows.scratch };
 }
 
 /// For what versions find of the records of a trace, and say with explanations or without.

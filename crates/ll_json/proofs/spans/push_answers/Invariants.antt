@@ -10,6 +10,6 @@ use Rattle.ll_json.proofs.spans.push_answers.Given as goal
 abbrev pub invariant-loop-version : goal.invariant-loop-version
 invariant-loop-version g l =
     let texts = said_by g.T.Telling.told l.sayings in
-    (l.scratch ≡ l.fn.scratch) × (get_or texts l.current [] ≡ get_or texts (l.version - 1) []) × (l.current < l.version) × (l.current < length l.sayings.findings.now)
-    × (l.last + 1 ≡ l.oldest + l.version)
+    (l.scratch ≡ l.fn.scratch) × (get_or texts l.current [] ≡ get_or texts (l.version - 1) []) × (l.current < l.version)
+    × (l.current < length l.sayings.findings.now) × (l.last + 1 ≡ l.oldest + l.version)
     × (adding l.text (left texts l.version l.first l.last l.current) ≡ adding l.fn.text (separated false (spans_of l.oldest texts)))
