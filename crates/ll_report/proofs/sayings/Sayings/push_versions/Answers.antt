@@ -21,7 +21,8 @@ pub loop-version-preserved : goal.loop-version-preserved
 loop-version-preserved g c =
     let l = c.loop-version in
     let texts : List (List ℕ) = said_by g.T.Telling.told c.args.self.now in
-    let below : l.version < length texts = omega (arith, each_told g.T.Telling.told c.args.self.now, c.loop-version-test.true, c.versions-version-end.ensures) in
+    let many = each_told g.T.Telling.told c.args.self.now in
+    let below : l.version < length texts = omega (arith, many, c.loop-version-test.true, c.versions-version-end.ensures) in
     elim c.if-not-same.branch [
       | then-not-same w ↦ record {
         scratch = c.same.ensures.scratch ∙ l.invariant.scratch;
