@@ -8,9 +8,9 @@ use Rattle.ll_report.proofs.sayings.Sayings.agree.Goals as goal
 
 pub loop-version-preserved : goal.loop-version-preserved
 loop-version-preserved g c =
-    let l = c.loop-version in
-    let texts : List (List ℕ) = said_by g.T.Telling.told c.args.self.now in
     let many = each_told g.T.Telling.told c.args.self.now in
+    let texts : List (List ℕ) = said_by g.T.Telling.told c.args.self.now in
+    let l = c.loop-version in
     let below : l.version < length texts = omega (arith, many, c.loop-version-test.true, c.versions-version-end.ensures) in
     let same : bytes_eq (get_or texts 0 []) (get_or texts l.version []) ≡ true = sym c.same.ensures.same ∙ c.if-not-same.false in (
       c.same.ensures.scratch ∙ l.invariant.0,
