@@ -1,4 +1,4 @@
-"""No line of a proof or of a contract is too long to be read, and what `proof-lines` counts."""
+"""No line of a proof, a contract or an attribute is too long to be read, and what `proof-lines` counts."""
 
 from __future__ import annotations
 
@@ -41,6 +41,18 @@ class Layout(unittest.TestCase):
             kept = [(number, line) for number, line in lines if " } by { " not in line]
             self.assertEqual(long_lines(file, kept, proof_lines.CLAUSE), [])
         self.assertGreater(seen, len(files))
+
+    def test_attributes_can_be_read(self) -> None:
+        # `rt fmt` joins the lines of an attribute.
+        files = sorted(TOP.glob("crates/*/src/**/*.rt"))
+        self.assertNotEqual(files, [])
+        seen = 0
+        for file in files:
+            lines = list(enumerate(file.read_text(encoding="utf-8").splitlines(), 1))
+            attributes = [(number, line) for number, line in lines if line.lstrip().startswith(("#[tactic", "#![tactic"))]
+            seen += len(attributes)
+            self.assertEqual(long_lines(file, attributes, proof_lines.PROOF), [])
+        self.assertGreater(seen, 0)
 
 
 class Counted(unittest.TestCase):

@@ -92,3 +92,8 @@ no_misuse words rows none same used = rw (none, sym same, used) refl
 pub asks_for_no_run : (words : List Text) → AskForText words → request_of words ≡ None
 asks_for_no_run words (inl help) = request_of-fault words DisplayHelp help
 asks_for_no_run words (inr version) = request_of-fault words DisplayVersion version
+
+-- All that unfolds when command lines are read that are written out.
+unfoldable pub reading : Unit {0}
+unfolding clap_on_literals command faults request_in request_of Rattle.ll_rights.specs.Abis.all_versions
+reading = tt

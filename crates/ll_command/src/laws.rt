@@ -8,7 +8,7 @@ ghost use Rattle.ll_trace.specs.declared.trace.Effort.TheVariants.{Best};
 ghost use Rattle.ll_command.specs.Command.{Text, faults, newer_digit, plain_request, plainly, request_of};
 
 /// What some command lines ask for, and what is wrong with others.
-#[tactic(auto, unfolding(clap::proofs::OnLiterals::clap_on_literals, crate::specs::Command::command, crate::specs::Command::faults, crate::specs::Command::request_in, crate::specs::Command::request_of, ll_rights::specs::Abis::all_versions))]
+#[tactic(auto, unfolding(crate::proofs::CommandLine::reading))]
 pub fn command_lines()
     // Without `--workers` and `--grain` there is one worker, and the grain is 64.
     ensures short { request_of

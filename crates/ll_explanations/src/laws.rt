@@ -9,7 +9,7 @@ ghost use Rattle.ll_explanations.specs.Findings.{FindingValue, Finds, Tells, sai
 ghost use Rattle.ll_process.specs.TakenLater.{AreTakenLater};
 
 /// Records are taken later as they are; what is taken later may be taken again; and best effort takes them so.
-#[tactic(auto, using(ll_process::proofs::TakenLater::taken_as_they_are, ll_process::proofs::TakenLater::taken_again, ll_process::proofs::TakenLater::taken_at_best_effort))]
+#[tactic(auto, using(ll_process::proofs::TakenLater::takes_later))]
 pub fn records_are_taken_later()
     ensures same { (records : List OneRecord) → AreTakenLater records records }
     ensures again { (last later records : List OneRecord) → AreTakenLater last later

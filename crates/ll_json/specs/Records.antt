@@ -85,3 +85,12 @@ members_of_both explains tree version place None answer = []
 unfoldable pub members_at : Bool → List Entry → Version → ℕ → List Named
 members_at explains tree version place =
     members_of_both explains tree version place (slice_get version.records place) (slice_get (judged tree version.abi version.records) place)
+
+-- All that unfolds when answers are printed, with what they say.
+unfoldable pub printing : Unit {0}
+unfolding
+    Rattle.json.specs.Print.print_from Rattle.json.specs.Print.escape_byte Rattle.ll_lines.specs.Paths.text_of
+    Rattle.ll_json.specs.Why.objection_json Rattle.ll_json.specs.Why.condition_json Rattle.ll_json.specs.Why.reason_json
+    Rattle.ll_json.specs.Why.layer_json Rattle.ll_json.specs.Records.answer_members Rattle.ll_json.specs.Records.layers_json
+    Rattle.ll_json.specs.Records.why_members
+printing = tt

@@ -17,7 +17,7 @@ ghost use Rattle.ll_json.specs.Records.{answer_json, answer_members};
 ghost use Rattle.ll_json.specs.Why.{condition_json, objection_json, reason_json};
 
 /// The text of some objections.
-#[tactic(auto, unfolding(json::specs::Print::print_from, json::specs::Print::escape_byte, crate::specs::Why::objection_json, ll_lines::specs::Paths::text_of))]
+#[tactic(auto, unfolding(crate::specs::Records::printing))]
 pub fn worked_objections()
     ensures missing { print (json_tokens
         (objection_json [] (missing (refer ∷ []) (codes "build" ∷ codes "tmp" ∷ []))))
@@ -42,7 +42,7 @@ pub fn worked_objections()
 {}
 
 /// The text of some conditions and reasons.
-#[tactic(auto, unfolding(json::specs::Print::print_from, json::specs::Print::escape_byte, crate::specs::Why::condition_json, crate::specs::Why::reason_json, ll_lines::specs::Paths::text_of))]
+#[tactic(auto, unfolding(crate::specs::Records::printing))]
 pub fn worked_conditions()
     ensures unhandled { print (json_tokens (condition_json (unhandled (write_file ∷ []))))
         ≡ codes "{\"condition\":\"unhandled\",\"rights\":[\"write_file\"]}" }
@@ -57,7 +57,7 @@ pub fn worked_conditions()
 {}
 
 /// The text of some answers, in a trace whose first record is on line 6.
-#[tactic(auto, unfolding(json::specs::Print::print_from, json::specs::Print::escape_byte, crate::specs::Why::objection_json, crate::specs::Why::layer_json, crate::specs::Why::reason_json, crate::specs::Records::answer_members, crate::specs::Records::layers_json, crate::specs::Records::why_members, ll_lines::specs::Paths::text_of))]
+#[tactic(auto, unfolding(crate::specs::Records::printing))]
 pub fn worked_answers()
     ensures explained { print (json_tokens (answer_json 1 1 (answer_members
         (record { line = 6; process = record { 0 = 0 }; pid = 10; op = Nnp } ∷ []) (0 ∷ [])

@@ -147,4 +147,6 @@ filled_all depth start left new members so_far end = record {
   shown = so_far.shown;
 }
 
+pub ruleset passing = (passed_none, passed_more, passed_no_value, passed_all)
+
 pub ruleset filling = (filled_none, passed_no_value)

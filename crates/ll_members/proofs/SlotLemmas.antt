@@ -11,6 +11,10 @@ use Rattle.ll_members.specs.Slots.{IsValue, IsLine, behind, behind_value}
 use Rattle.ll_members.specs.declared.row.Members.{Members}
 use Rattle.ll_lines.proofs.Values.{in_range, out_of_range, parse_fails}
 use Rattle.ll_members.proofs.WalkLemmas.{is_unfit}
+use Rattle.ll_members.proofs.FirstLemmas.{no_value, no_array, no_object, whole_stands, array_stands, object_stands}
+
+-- the value of a line, by the token that it begins with
+pub ruleset values_taken = (no_value, no_array, no_object, whole_stands, array_stands, object_stands)
 
 pub line_read : (line : List ℕ) (members : Members) → IsUtf8 line → IsValue (tokens line) [] members → IsLine line members
 line_read line members utf8 read =

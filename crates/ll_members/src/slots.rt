@@ -72,7 +72,7 @@ fn rights_in(reader: &mut Reader<'_>, depth: usize) -> Result<Option<Rights>, Ca
 
 /// Passes over the members of an object, and the brace that closes it.
 #[cycle(slot)]
-#[tactic(auto, using(crate::proofs::PassedLemmas::passed_none, crate::proofs::PassedLemmas::passed_more, crate::proofs::PassedLemmas::passed_no_value, crate::proofs::PassedLemmas::passed_all))]
+#[tactic(auto, using(crate::proofs::PassedLemmas::passing))]
 fn skip_members(reader: &mut Reader<'_>, depth: usize) -> Result<(), Cause>
     ensures value { MatchResult result (λ _. behind_members depth reader.old ≡ Some reader.new)
         (λ _. behind_members depth reader.old ≡ None) }
@@ -113,7 +113,7 @@ fn fill<'l>(reader: &mut Reader<'l>, members: &mut Members<'l>, depth: usize) ->
 }
 
 /// The next value, with its members in their slots where it is an object.
-#[tactic(auto, using(crate::proofs::FirstLemmas::no_value, crate::proofs::FirstLemmas::no_array, crate::proofs::FirstLemmas::no_object, crate::proofs::FirstLemmas::whole_stands, crate::proofs::FirstLemmas::array_stands, crate::proofs::FirstLemmas::object_stands))]
+#[tactic(auto, using(crate::proofs::SlotLemmas::values_taken))]
 fn take_value<'l>(reader: &mut Reader<'l>, members: &mut Members<'l>) -> Result<(), Cause>
     requires { AreMissing members.old }
     ensures value { MatchResult result (λ _. IsValue reader.old reader.new members.new)

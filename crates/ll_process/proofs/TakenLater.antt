@@ -88,6 +88,8 @@ pub taken_at_best_effort : (abi : Abi) (records : List Record) → AreTakenLater
 taken_at_best_effort abi [] = tt
 taken_at_best_effort abi (r ∷ rs) = (one_at_best_effort abi r, taken_at_best_effort abi rs)
 
+pub ruleset takes_later = (taken_as_they_are, taken_again, taken_at_best_effort)
+
 -- the record at a place, as it is taken later
 pub later_there : (later records : List Record) → AreTakenLater later records → (place : ℕ) (r : Record) → slice_get records place ≡ Some r
     → (l : Record) × (slice_get later place ≡ Some l) × IsTakenLater l r

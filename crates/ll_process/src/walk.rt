@@ -17,7 +17,7 @@ use ll_trace::{Op, ProcessId, wants_at_a_path};
 use ll_tree::Place;
 
 /// What the rulebook says of a call, the record at a place. It says nothing of most calls, for which it isn't asked.
-#[tactic(auto, unfolding(ll_semantics::specs::RulesetOutcomes::OutcomeFits, ll_semantics::specs::RulesetOutcomes::is_on_rulesets, ll_semantics::specs::RulesetOutcomes::enforced))]
+#[tactic(auto, unfolding(ll_semantics::specs::RulesetOutcomes::fitting))]
 fn outcome_at(case: &Case, index: u32, op: &Op) -> RulesetOutcome
     requires { index < length case.now.records }
     ensures { (ctx : CallContext) → ((outcome : OneOutcome) →

@@ -39,3 +39,10 @@ unfoldable pub OutcomeFits : CallContext → Op → RulesetOutcome → Type 0
 OutcomeFits ctx op (Answered answer) = (is_on_rulesets op ≡ true) × (answer ≡ answer_to ctx op)
 OutcomeFits ctx op (Frozen id) = IsFrozen ctx (Some id) (enforced ctx.rulesets op ctx.state)
 OutcomeFits ctx op ByState = (is_on_rulesets op ≡ false) × (enforced ctx.rulesets op ctx.state ≡ None)
+
+-- All that unfolds when an outcome is compared with its call.
+unfoldable pub fitting : Unit {0}
+unfolding
+    Rattle.ll_semantics.specs.RulesetOutcomes.is_on_rulesets Rattle.ll_semantics.specs.RulesetOutcomes.enforced
+    Rattle.ll_semantics.specs.RulesetOutcomes.OutcomeFits
+fitting = tt

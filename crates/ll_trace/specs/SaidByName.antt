@@ -24,3 +24,10 @@ texts_of (item value others) = text_of value ∷ texts_of others
 unfoldable pub spelling : Unit {0}
 unfolding Rattle.ll_trace.specs.Operations.paths_of Rattle.ll_trace.specs.Operations.are_spelt Rattle.ll_trace.specs.Members.path_in
 spelling = tt
+
+-- All that unfolds when an operation is found by its name.
+unfoldable pub naming : Unit {0}
+unfolding
+    Rattle.ll_members.specs.Slots.spelt Rattle.ll_trace.specs.Operations.operations Rattle.ll_trace.specs.Operations.operation_named
+    Rattle.ll_trace.specs.SaidByName.spelling
+naming = tt

@@ -129,7 +129,7 @@ fn path_operation(alloc: Global, name: &str, members: &Members<'_>) -> Result<Op
     }
 }
 
-#[tactic(auto, unfolding(ll_members::specs::Slots::spelt, crate::specs::Operations::operations, crate::specs::Operations::operation_named, crate::specs::SaidByName::spelling))]
+#[tactic(auto, unfolding(crate::specs::SaidByName::naming))]
 fn add_path_of(alloc: Global, members: &Members<'_>) -> Result<Op, Cause>
     ensures { (value : Data) → Hold members.now value
         → Gives (λ op. op) result (operation_named (codes "add_path") value) }
