@@ -116,18 +116,18 @@ is_before abi (newer ∷ others) is =
     let parts = both (leb (number_of abi) (number_of newer)) (no_older abi others) is in
     (leb-true (number_of abi) (number_of newer) parts.0, is_before abi others parts.1)
 
-before_those_behind : (versions : List Abi) (place : ℕ) (other : Abi) → rises versions ≡ true → place < length versions
-    → IsBefore (drop (suc place) versions) (get_or versions place other)
-before_those_behind [] place other rising small = omega (arith, small)
+before_those_behind : (versions : List Abi) (index : ℕ) (other : Abi) → rises versions ≡ true → index < length versions
+    → IsBefore (drop (suc index) versions) (get_or versions index other)
+before_those_behind [] index other rising small = omega (arith, small)
 before_those_behind (abi ∷ newer) zero other rising small = is_before abi newer (both (no_older abi newer) (rises newer) rising).0
-before_those_behind (abi ∷ newer) (suc place) other rising small =
-    before_those_behind newer place other (both (no_older abi newer) (rises newer) rising).1 (omega (arith, small))
+before_those_behind (abi ∷ newer) (suc index) other rising small =
+    before_those_behind newer index other (both (no_older abi newer) (rises newer) rising).1 (omega (arith, small))
 
 -- so is each of all versions
-pub before_newer : (place : ℕ) (other : Abi) → place < length all_versions
-    → IsBefore (drop (suc place) all_versions) (get_or all_versions place other)
+pub before_newer : (index : ℕ) (other : Abi) → index < length all_versions
+    → IsBefore (drop (suc index) all_versions) (get_or all_versions index other)
 unfolding all_versions
-before_newer place other small = before_those_behind all_versions place other refl small
+before_newer index other small = before_those_behind all_versions index other refl small
 
 -- records are taken under a version
 pub later_taken : (effort : Effort) (abi : Abi) (records : List Record) → AreTakenLater (taken effort abi records) records
@@ -209,27 +209,27 @@ module _ (options : Options) (tree : List Entry) (records : List Record) where
     found = subst (AreFound options.shown.explanations tree hand []) (sym comes.2) tt;
   }
 
-  -- the version below a place
-  pub next_down : (all : List Abi) (place : ℕ) (other : Abi) (before next : Progress) → all ≡ all_versions → 0 < place → place ≤ length all
-      → IsReached (drop place all) before → GoesOn options (get_or all (place - 1) other) before next → IsReached (drop (place - 1) all) next
-  next_down all place other before next same some within is goes =
-      let abi : Abi = get_or all (place - 1) other in
-      let below : place ≡ suc (place - 1) = omega (arith, some) in
-      let newer : IsBefore (drop (suc (place - 1)) all) abi =
-      subst (λ (vs : List Abi). place - 1 < length vs
-      → IsBefore (drop (suc (place - 1)) vs) (get_or vs (place - 1) other)) (sym same) (before_newer (place - 1) other)
+  -- the version below an index
+  pub next_down : (all : List Abi) (index : ℕ) (other : Abi) (before next : Progress) → all ≡ all_versions → 0 < index → index ≤ length all
+      → IsReached (drop index all) before → GoesOn options (get_or all (index - 1) other) before next → IsReached (drop (index - 1) all) next
+  next_down all index other before next same some within is goes =
+      let abi : Abi = get_or all (index - 1) other in
+      let below : index ≡ suc (index - 1) = omega (arith, some) in
+      let newer : IsBefore (drop (suc (index - 1)) all) abi =
+      subst (λ (vs : List Abi). index - 1 < length vs
+      → IsBefore (drop (suc (index - 1)) vs) (get_or vs (index - 1) other)) (sym same) (before_newer (index - 1) other)
       (omega (arith, some, within)) in
-      subst (λ (done : List Abi). IsReached done next) (sym (drop-cons all (place - 1) other (omega (arith, some, within))))
+      subst (λ (done : List Abi). IsReached done next) (sym (drop-cons all (index - 1) other (omega (arith, some, within))))
       (λ entries later after comes.
       let from = goes entries later after comes in
-      one_down (drop (suc (place - 1)) all) abi entries from.records later from.findings after newer
+      one_down (drop (suc (index - 1)) all) abi entries from.records later from.findings after newer
       (subst (λ (k : ℕ). IsReached (drop k all) before) below is entries from.records from.findings from.came) from.later_is from.adds)
 
   -- behind the oldest
-  pub all_versions_found : (all : List Abi) (place : ℕ) (reached : Progress) → all ≡ all_versions → place ≡ 0 → IsReached (drop place all) reached
+  pub all_versions_found : (all : List Abi) (index : ℕ) (reached : Progress) → all ≡ all_versions → index ≡ 0 → IsReached (drop index all) reached
       → IsThrough options tree records reached
   unfolding versions_in
-  all_versions_found all place reached same none is = λ entries later findings comes.
+  all_versions_found all index reached same none is = λ entries later findings comes.
       let down = is entries later findings comes in
       record {
         same_tree = down.same_tree;

@@ -23,13 +23,13 @@ cause_name cause.UnknownProcess = codes "UnknownProcess"
 cause_name cause.Memory = codes "Memory"
 
 -- which line of a file is wrong, and why
-abbrev pub place_text : List ℕ → ReadFault → List ℕ
-place_text file fault = file ++ codes " line " ++ decimal fault.line ++ codes ": " ++ cause_name fault.cause
+abbrev pub read_fault_text : List ℕ → ReadFault → List ℕ
+read_fault_text file fault = file ++ codes " line " ++ decimal fault.line ++ codes ": " ++ cause_name fault.cause
 
 -- what a line says of an audit; the program asks for no number of workers that there can't be
 abbrev pub fault_text : Fault → List ℕ
-fault_text (fault.Tree bad) = place_text (codes "tree") bad
-fault_text (fault.Trace bad) = place_text (codes "trace") bad
+fault_text (fault.Tree bad) = read_fault_text (codes "tree") bad
+fault_text (fault.Trace bad) = read_fault_text (codes "trace") bad
 fault_text fault.Workers = codes "no such number of workers"
 fault_text fault.Memory = codes "no memory"
 fault_text fault.NoThread = codes "no thread"

@@ -2,7 +2,7 @@
 
 ghost use Rattle.std.specs.Prelude.{◌≡◌, ◌++◌, codes};
 ghost use Rattle.ll_audit.specs.declared.lines.Failure.TheVariants.{Audit};
-ghost use Rattle.ll_audit.specs.FaultLines.{WritesLine, cause_name, error_line, failure_line, failure_status, fault_line, place_text};
+ghost use Rattle.ll_audit.specs.FaultLines.{WritesLine, cause_name, error_line, failure_line, failure_status, fault_line, read_fault_text};
 
 use crate::fault::Fault;
 use itoa::Buffer;
@@ -61,8 +61,8 @@ fn write_fault<W: Write>(err: &mut W, fault: &Fault) -> io::Result<()>
         (fault_line fault.now) }
 {
     match fault {
-        Fault::Tree(bad) => write_place(err, "tree", bad),
-        Fault::Trace(bad) => write_place(err, "trace", bad),
+        Fault::Tree(bad) => write_read_fault(err, "tree", bad),
+        Fault::Trace(bad) => write_read_fault(err, "trace", bad),
         Fault::Workers => write_line(err, "no such number of workers"),
         Fault::Memory => write_line(err, "no memory"),
         Fault::NoThread => write_line(err, "no thread"),
@@ -88,9 +88,9 @@ fn write_unread<W: Write>(err: &mut W, name: &str) -> io::Result<()>
 }
 
 /// Writes the line that says which line of a file is wrong, and why.
-fn write_place<W: Write>(err: &mut W, file: &str, fault: &ReadFault) -> io::Result<()>
+fn write_read_fault<W: Write>(err: &mut W, file: &str, fault: &ReadFault) -> io::Result<()>
     ensures { WritesLine result (W.contents err.old) (W.contents err.new)
-        (error_line (place_text file.now fault.now)) }
+        (error_line (read_fault_text file.now fault.now)) }
 {
     let mut buffer = Buffer::new();
     let line = buffer.format(fault.line);

@@ -78,8 +78,8 @@ impl Progress {
         Ok(Progress::Judged(judged))
     }
 
-    /// What was found under all versions so far. As many threads explain the oldest of them as there are workers, but two
-    /// if there is one worker.
+    /// What was found under all versions so far. As many threads explain the oldest of them as there are workers, but
+    /// two if there is one worker.
     fn finish<R: Threads + Wait + Sync, G: Gate + Sync>(
         self,
         audit: &Audit<'_, R, G>,
@@ -109,8 +109,8 @@ impl Progress {
     {
         let versions = Abi::all();
         let mut progress = Progress::Begun(located);
-        for place in (0..versions.len()).rev() {
-            let abi = versions[place];
+        for index in (0..versions.len()).rev() {
+            let abi = versions[index];
             progress = progress.under(audit, abi)?;
         }
         Ok(progress)

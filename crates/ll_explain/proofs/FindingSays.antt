@@ -47,48 +47,48 @@ said_is tree records op (Mootness (Some reason)) = refl
 -- ---- what a finding says
 
 module _ (tree : List Entry) (abi : Abi) (records later : List Record) (finding : FindingValue) (are : AreTakenLater later records) where
-  told_is : (place : ℕ) (r : Record) (answer : Answer) → slice_get records place ≡ Some r → slice_get (judged tree abi records) place ≡ Some answer
-      → Tells tree abi records place answer r (said_in later finding place) → text_told tree later finding place ≡ text_at tree abi records place
+  told_is : (index : ℕ) (r : Record) (answer : Answer) → slice_get records index ≡ Some r → slice_get (judged tree abi records) index ≡ Some answer
+      → Tells tree abi records index answer r (said_in later finding index) → text_told tree later finding index ≡ text_at tree abi records index
   unfolding text_at
-  told_is place r answer read answered tells =
-      let layers = (origins_at tree abi records place r.process.0).layers in
+  told_is index r answer read answered tells =
+      let layers = (origins_at tree abi records index r.process.0).layers in
       let e : Explanation = tells.0 in
-      let is : IsExplanationOf tree abi records place answer r e = tells.2 in
+      let is : IsExplanationOf tree abi records index answer r e = tells.2 in
       ap (said_text tree later) tells.1 ∙ said_is tree later r.op e ∙ value_is tree later layers r.op e is.made
       ∙ text_later later records are layers (explanation_in tree r.op e)
       ∙ ap (explanation_text records layers) is.means
-      ∙ sym (ap₂ (text_of_both tree abi records place) read answered)
+      ∙ sym (ap₂ (text_of_both tree abi records index) read answered)
 
-  none_there : (place : ℕ) → length records ≡ length later → slice_get records place ≡ None → slice_get later place ≡ None
-  none_there place many none = elim ((slice_get_cases later place).1) [
+  none_there : (index : ℕ) → length records ≡ length later → slice_get records index ≡ None → slice_get later index ≡ None
+  none_there index many none = elim ((slice_get_cases later index).1) [
     | inl found ↦
-        elim ((slice_get_cases records place).1) [
+        elim ((slice_get_cases records index).1) [
           | inl there ↦ absurd (none-some there.0 (sym none ∙ there.2))
           | inr past ↦ absurd (omega (arith, found.1, past.0, many))
         ]
     | inr past ↦ past.1
   ]
 
-  silent_there : (place : ℕ) → slice_get records place ≡ None → text_told tree later finding place ≡ text_at tree abi records place
+  silent_there : (index : ℕ) → slice_get records index ≡ None → text_told tree later finding index ≡ text_at tree abi records index
   unfolding text_at
-  silent_there place none =
-      ap (λ (o : Option Record). said_text tree later (said_by o (kept_at finding place)))
-      (none_there place (sym (length_all_zip IsTakenLater later records are)) none)
-      ∙ sym (ap (λ (o : Option Record). text_of_both tree abi records place o (slice_get (judged tree abi records) place)) none)
+  silent_there index none =
+      ap (λ (o : Option Record). said_text tree later (said_by o (kept_at finding index)))
+      (none_there index (sym (length_all_zip IsTakenLater later records are)) none)
+      ∙ sym (ap (λ (o : Option Record). text_of_both tree abi records index o (slice_get (judged tree abi records) index)) none)
 
-  said_there : Finds true tree abi records finding → (place : ℕ) → text_told tree later finding place ≡ text_at tree abi records place
-  said_there finds place = elim ((slice_get_cases records place).1) [
+  said_there : Finds true tree abi records finding → (index : ℕ) → text_told tree later finding index ≡ text_at tree abi records index
+  said_there finds index = elim ((slice_get_cases records index).1) [
     | inl found ↦
-        elim ((slice_get_cases (judged tree abi records) place).1) [
+        elim ((slice_get_cases (judged tree abi records) index).1) [
           | inl answered ↦
-              told_is place found.0 answered.0 found.2 answered.2 (tells tree abi records later finding finds are place found.0 answered.0 found.2 answered.2)
+              told_is index found.0 answered.0 found.2 answered.2 (tells tree abi records later finding finds are index found.0 answered.0 found.2 answered.2)
           | inr past ↦ let counts = length-judged tree abi records in absurd (omega (arith, found.1, past.0, counts))
         ]
-    | inr past ↦ silent_there place past.1
+    | inr past ↦ silent_there index past.1
   ]
 
 pub said_as_judged : (explains : Bool) (tree : List Entry) (abi : Abi) (records later : List Record) (finding : FindingValue)
-    → Finds explains tree abi records finding → AreTakenLater later records → (place : ℕ)
-    → text_told tree later finding place ≡ cond explains (text_at tree abi records place) []
-said_as_judged true tree abi records later finding finds are place = said_there tree abi records later finding are finds place
-said_as_judged false tree abi records later finding finds are place = ap (said_text tree later) (tells_nothing tree abi records later finding finds place)
+    → Finds explains tree abi records finding → AreTakenLater later records → (index : ℕ)
+    → text_told tree later finding index ≡ cond explains (text_at tree abi records index) []
+said_as_judged true tree abi records later finding finds are index = said_there tree abi records later finding are finds index
+said_as_judged false tree abi records later finding finds are index = ap (said_text tree later) (tells_nothing tree abi records later finding finds index)

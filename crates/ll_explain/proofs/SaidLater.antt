@@ -12,7 +12,6 @@ use Rattle.ll_trace.specs.declared.op.Op.{Op}
 use Rattle.ll_trace.specs.declared.op.Op.TheVariants as calls
 use Rattle.ll_trace.specs.declared.op.Record.{Record}
 use Rattle.ll_reasons.specs.Explanations as meant
-use Rattle.ll_reasons.specs.Explanations.{origins_at}
 use Rattle.ll_reasons.specs.Objections as objecting
 use Rattle.ll_process.specs.TakenLater.{AreTakenLater, IsTakenLater, is_of_rights}
 use Rattle.ll_process.proofs.TakenLater.{of_rights}
@@ -64,9 +63,9 @@ module _ (later records : List Record) (are : AreTakenLater later records) where
   objection_later (objecting.closed rights port) = refl
   objection_later (objecting.gained object rights directory) = refl
   objection_later objecting.mounting = refl
-  objection_later (objecting.kept right place) =
+  objection_later (objecting.kept right index) =
       ap₂ (λ (path : List ℕ) (line : ℕ). word_for (name_of right) ++ codes " on " ++ escape path ++ codes ", opened at line " ++ decimal line)
-      (opened_there later records are place) (line_there later records are place)
+      (opened_there later records are index) (line_there later records are index)
 
   layer_later : (layers : List ℕ) (said : ℕ × List objecting.Objection) → layer_text later layers said ≡ layer_text records layers said
   unfolding layer_text layer_head

@@ -11,11 +11,11 @@ use Rattle.ll_explain.specs.Words.{explanation_text}
 
 -- the text of the explanation of an answer to a record, if there are both
 abbrev pub text_of_both : List Entry → Abi → List Record → ℕ → Option Record → Option Answer → List ℕ
-text_of_both tree abi records place (Some r) (Some answer) =
-    explanation_text records (origins_at tree abi records place r.process.0).layers (explained_at tree abi records place r answer)
-text_of_both tree abi records place (Some r) None = []
-text_of_both tree abi records place None answer = []
+text_of_both tree abi records index (Some r) (Some answer) =
+    explanation_text records (origins_at tree abi records index r.process.0).layers (explained_at tree abi records index r answer)
+text_of_both tree abi records index (Some r) None = []
+text_of_both tree abi records index None answer = []
 
--- the text of the explanation of the record at a place of a trace
+-- the text of the explanation of the record at an index of a trace
 unfoldable pub text_at : List Entry → Abi → List Record → ℕ → List ℕ
-text_at tree abi records place = text_of_both tree abi records place (slice_get records place) (slice_get (judged tree abi records) place)
+text_at tree abi records index = text_of_both tree abi records index (slice_get records index) (slice_get (judged tree abi records) index)

@@ -24,6 +24,6 @@ abbrev pub said_text : List Entry → List Record → Option (Op × Explanation)
 said_text tree records None = []
 said_text tree records (Some said) = value_text tree records said.0 said.1
 
--- the text of the explanation of the record at a place, as a finding tells it
+-- the text of the explanation of the record at an index, as a finding tells it
 abbrev pub text_told : List Entry → List Record → FindingValue → ℕ → List ℕ
-text_told tree records finding place = said_text tree records (said_in records finding place)
+text_told tree records finding index = said_text tree records (said_in records finding index)

@@ -67,8 +67,8 @@ objection_text records (missing rights path) = rights_text rights ++ codes " on 
 objection_text records (closed rights port) = port_rights_text rights ++ codes " on port " ++ decimal port
 objection_text records (gained object rights directory) = path_text object ++ codes " would gain " ++ rights_text rights ++ codes " in " ++ path_text directory
 objection_text records mounting = codes "it handles rights for files"
-objection_text records (kept right place) =
-    word_for (files.name_of right) ++ codes " on " ++ escape (path_opened (slice_get records place)) ++ codes ", opened at line " ++ decimal (line_of (slice_get records place))
+objection_text records (kept right index) =
+    word_for (files.name_of right) ++ codes " on " ++ escape (path_opened (slice_get records index)) ++ codes ", opened at line " ++ decimal (line_of (slice_get records index))
 
 -- a layer by its number, with the line of the record that made it, and what it objects to
 unfoldable pub layer_head : List Record → List ℕ → ℕ → List ℕ

@@ -61,7 +61,7 @@ pub fn push_value(
     }
 }
 
-/// Adds the explanation of the record at a place under a version, if there is one. The records are those of the case,
+/// Adds the explanation of the record at an index under a version, if there is one. The records are those of the case,
 /// or as an older version takes them.
 #[tactic(auto, using(crate::proofs::Buffering::adding_nothing))]
 pub fn push_found(
@@ -69,11 +69,11 @@ pub fn push_found(
     tree: &Tree,
     records: &[Record],
     finding: &Finding,
-    place: usize,
+    index: usize,
 )
-    ensures { text.new ≡ adding text.old (text_told tree.now records.now finding.now place) }
+    ensures { text.new ≡ adding text.old (text_told tree.now records.now finding.now index) }
 {
-    match finding.explained(records, place) {
+    match finding.explained(records, index) {
         Some((op, explanation)) => push_value(text, tree, records, op, explanation),
         None => {}
     }

@@ -23,9 +23,9 @@ ghost use Rattle.ll_explain.specs.{Explained.text_at, Told.text_told, Words.expl
 pub fn findings_say_what_is_judged()
     ensures { (explains : Bool) (tree : List Entry) (abi : Version)
         (records later : List OneRecord) (finding : FindingValue)
-        → Finds explains tree abi records finding → AreTakenLater later records → (place : ℕ)
-        → text_told tree later finding place
-        ≡ (if explains then text_at tree abi records place else []) }
+        → Finds explains tree abi records finding → AreTakenLater later records → (index : ℕ)
+        → text_told tree later finding index
+        ≡ (if explains then text_at tree abi records index else []) }
 {}
 
 /// The text of some explanations, in a trace whose first record is on line 5 and opens a file.

@@ -72,12 +72,12 @@ fn push_gained(text: &mut TextBuffer, tree: &Tree, object: NodeId, rights: Fs, d
     push_node(text, tree, directory);
 }
 
-/// The path that the record at a place opens, which is empty if it opens none.
+/// The path that the record at an index opens, which is empty if it opens none.
 #[tactic(auto, unfolding(crate::specs::Words::path_opened))]
-fn path_opened(records: &[Record], place: u32) -> &str
-    ensures { result.now ≡ path_opened (slice_get records.now place) }
+fn path_opened(records: &[Record], index: u32) -> &str
+    ensures { result.now ≡ path_opened (slice_get records.now index) }
 {
-    match records.get(place as usize) {
+    match records.get(index as usize) {
         None => "",
         Some(record) => match &record.op {
             Op::OpenFile { path, .. } => path.as_str(),
@@ -86,11 +86,11 @@ fn path_opened(records: &[Record], place: u32) -> &str
     }
 }
 
-/// The line of the record at a place, or 0 where there is none.
-pub fn line_at(records: &[Record], place: u32) -> u64
-    ensures { result ≡ line_of (slice_get records.now place) }
+/// The line of the record at an index, or 0 where there is none.
+pub fn line_at(records: &[Record], index: u32) -> u64
+    ensures { result ≡ line_of (slice_get records.now index) }
 {
-    match records.get(place as usize) {
+    match records.get(index as usize) {
         None => 0,
         Some(record) => record.line,
     }
@@ -134,7 +134,7 @@ pub fn line_made(records: &[Record], made: Option<u32>) -> u64
 {
     match made {
         None => 0,
-        Some(place) => line_at(records, place),
+        Some(index) => line_at(records, index),
     }
 }
 

@@ -39,63 +39,63 @@ start_allowed tree abi w process (calls.Start nnp admin) starts = refl
 start_allowed tree abi w process (calls.Fork child) starts = refl
 start_allowed tree abi w process op starts = absurd (true≢false (sym starts))
 
-module _ (tree : List Entry) (abi : Abi) (records : List Record) (place : ℕ) where
+module _ (tree : List Entry) (abi : Abi) (records : List Record) (index : ℕ) where
   -- what is answered stands in the trace
-  pub placed : (a : Answer) → slice_get (judged tree abi records) place ≡ Some a → place < length records
-  placed a is = subst (λ (n : ℕ). place < n) (length-judged tree abi records) (slice_get_within (judged tree abi records) place a is)
+  pub placed : (a : Answer) → slice_get (judged tree abi records) index ≡ Some a → index < length records
+  placed a is = subst (λ (n : ℕ). index < n) (length-judged tree abi records) (slice_get_within (judged tree abi records) index a is)
 
   -- a record that isn't allowed starts nothing
-  pub starts_nothing : (r : Record) (a : Answer) → slice_get records place ≡ Some r → slice_get (judged tree abi records) place ≡ Some a
+  pub starts_nothing : (r : Record) (a : Answer) → slice_get records index ≡ Some r → slice_get (judged tree abi records) index ≡ Some a
       → a ≢ Allowed → is_start r.op ≡ false
   starts_nothing r a eq is not_allowed = elim (cases_Bool (is_start r.op)) [
     | inl starts ↦
-        let told : answer_in tree abi (world_at tree abi records place) r.process.0 r.op ≡ a =
-        same_Some _ a (sym (judged-at tree abi records place r eq) ∙ is) in
-        absurd (not_allowed (sym told ∙ start_allowed tree abi (world_at tree abi records place) r.process.0 r.op starts))
+        let told : answer_in tree abi (world_at tree abi records index) r.process.0 r.op ≡ a =
+        same_Some _ a (sym (judged-at tree abi records index r eq) ∙ is) in
+        absurd (not_allowed (sym told ∙ start_allowed tree abi (world_at tree abi records index) r.process.0 r.op starts))
     | inr goes ↦ goes
   ]
 
   -- what layers that refuse object to
   pub refusing : (r : Record) (error : Errno) (numbers : List ℕ) → numbers ≢ []
-      → objections (objections_to tree (domain_at tree abi records place r.process.0) (origins_at tree abi records place r.process.0) r.op error numbers)
-      ≡ explained_at tree abi records place r (Refused error numbers)
+      → objections (objections_to tree (domain_at tree abi records index r.process.0) (origins_at tree abi records index r.process.0) r.op error numbers)
+      ≡ explained_at tree abi records index r (Refused error numbers)
   unfolding explained_at explained
   refusing r error [] some = absurd (some refl)
   refusing r error (number ∷ numbers) some = refl
 
 -- the record that is found is the one there
-pub explains : (case : CaseValue) (place : ℕ) (answer : Answer) (found : Record) (e : Explanation) → slice_get case.records place ≡ Some found
-    → IsExplanation case place answer found e → Explains case place answer e
-explains case place answer found e read is r eq =
-    subst (λ (one : Record). IsExplanation case place answer one e) (same_Some found r (sym read ∙ eq)) is
+pub explains : (case : CaseValue) (index : ℕ) (answer : Answer) (found : Record) (e : Explanation) → slice_get case.records index ≡ Some found
+    → IsExplanation case index answer found e → Explains case index answer e
+explains case index answer found e read is r eq =
+    subst (λ (one : Record). IsExplanation case index answer one e) (same_Some found r (sym read ∙ eq)) is
 
--- the first place of the call there, if it is known
-pub known_there : (case : CaseValue) (place : ℕ) (tree : List Entry) (op : Op) (trail : ProcessOrigins) → IsFoundAt case place op trail
+-- the first index of the call there, if it is known
+pub known_there : (case : CaseValue) (index : ℕ) (tree : List Entry) (op : Op) (trail : ProcessOrigins) → IsFoundAt case index op trail
     → (known : Option Place) → tree ≡ case.tree
-    → IfSome known (λ one. (r : Record) → slice_get case.records place ≡ Some r → one ≡ first_place case.tree r.op)
+    → IfSome known (λ one. (r : Record) → slice_get case.records index ≡ Some r → one ≡ first_place case.tree r.op)
     → IfSome known (λ one. one ≡ first_place tree op)
-known_there case place tree op trail found known same is =
+known_there case index tree op trail found known same is =
     IfSome_then known is (λ one first. rw (same, found.call) (first found.r found.there))
 
 -- what explains the record there that no layer refuses, and one that is moot
-module _ (tree : List Entry) (abi : Abi) (records : List Record) (place : ℕ) (found r : Record) (read : slice_get records place ≡ Some found)
-    (eq : slice_get records place ≡ Some r) where
+module _ (tree : List Entry) (abi : Abi) (records : List Record) (index : ℕ) (found r : Record) (read : slice_get records index ≡ Some found)
+    (eq : slice_get records index ≡ Some r) where
   same_record : found ≡ r
   same_record = same_Some found r (sym read ∙ eq)
 
   pub fails : (error : Errno) (told : Condition)
-      → condition_in found.op told ≡ condition abi records (origins_at tree abi records place found.process.0) found.op error
-      → IsExplanationOf tree abi records place (Refused error []) r (Failure told)
+      → condition_in found.op told ≡ condition abi records (origins_at tree abi records index found.process.0) found.op error
+      → IsExplanationOf tree abi records index (Refused error []) r (Failure told)
   unfolding explained_at explained explanation_in
   fails error told is =
-      subst (λ (one : Record). IsExplanationOf tree abi records place (Refused error []) one (Failure told)) same_record
+      subst (λ (one : Record). IsExplanationOf tree abi records index (Refused error []) one (Failure told)) same_record
       (record { means = ap failure is; made = tt })
 
-  pub is_moot : (told : Option Reason) → option_map (reason_in found.op) told ≡ reason tree (origins_at tree abi records place found.process.0) found.op
-      → IsExplanationOf tree abi records place Moot r (Mootness told)
+  pub is_moot : (told : Option Reason) → option_map (reason_in found.op) told ≡ reason tree (origins_at tree abi records index found.process.0) found.op
+      → IsExplanationOf tree abi records index Moot r (Mootness told)
   unfolding explained_at explained explanation_in
   is_moot told is =
-      subst (λ (one : Record). IsExplanationOf tree abi records place Moot one (Mootness told)) same_record (record { means = ap mootness is; made = tt })
+      subst (λ (one : Record). IsExplanationOf tree abi records index Moot one (Mootness told)) same_record (record { means = ap mootness is; made = tt })
 
 -- a set without layers
 pub none_of : (numbers : List ℕ) → (length numbers == 0) ≡ true → numbers ≡ []

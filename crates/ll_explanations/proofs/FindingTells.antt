@@ -31,16 +31,16 @@ kept_is_said l r taken e = go (is_silent e) where
   go false = ap (λ (op : Op). Some (op, e)) (call_is l r taken)
 
 pub tells : (tree : List Entry) (abi : Abi) (records later : List Record) (finding : FindingValue) → Finds true tree abi records finding
-    → AreTakenLater later records → (place : ℕ) (r : Record) (answer : Answer) → slice_get records place ≡ Some r
-    → slice_get (judged tree abi records) place ≡ Some answer → Tells tree abi records place answer r (said_in later finding place)
-tells tree abi records later finding finds are place r answer read answered =
-    let there = later_there later records are place r read in
-    let within : place < length finding.explanations = subst (λ (n : ℕ). place < n) (sym finds.as_many) (slice_get_within records place r read) in
-    elim ((slice_get_cases finding.explanations place).1) [
+    → AreTakenLater later records → (index : ℕ) (r : Record) (answer : Answer) → slice_get records index ≡ Some r
+    → slice_get (judged tree abi records) index ≡ Some answer → Tells tree abi records index answer r (said_in later finding index)
+tells tree abi records later finding finds are index r answer read answered =
+    let there = later_there later records are index r read in
+    let within : index < length finding.explanations = subst (λ (n : ℕ). index < n) (sym finds.as_many) (slice_get_within records index r read) in
+    elim ((slice_get_cases finding.explanations index).1) [
       | inl found ↦
-          let kept = finds.each place answer found.0 answered found.2 r read in (
+          let kept = finds.each index answer found.0 answered found.2 r read in (
             kept.0,
-            ap (λ (o : Option Record). said_by o (kept_at finding place)) there.1
+            ap (λ (o : Option Record). said_by o (kept_at finding index)) there.1
                 ∙ ap (λ (o : Option (Option Explained)). said_by (Some there.0) (unwrap_or o None)) found.2
                 ∙ ap (said_by (Some there.0)) kept.1 ∙ kept_is_said there.0 r there.2 kept.0,
             kept.2,
@@ -52,11 +52,11 @@ nothing_said : (o : Option Record) → said_by o None ≡ None
 nothing_said (Some r) = refl
 nothing_said None = refl
 
-none_kept : (all : List (Option Explained)) (place : ℕ) → length all ≡ 0 → unwrap_or (slice_get all place) None ≡ None
-none_kept [] place none = refl
-none_kept (one ∷ more) place none = absurd (omega (arith, none))
+none_kept : (all : List (Option Explained)) (index : ℕ) → length all ≡ 0 → unwrap_or (slice_get all index) None ≡ None
+none_kept [] index none = refl
+none_kept (one ∷ more) index none = absurd (omega (arith, none))
 
 pub tells_nothing : (tree : List Entry) (abi : Abi) (records later : List Record) (finding : FindingValue) → Finds false tree abi records finding
-    → (place : ℕ) → said_in later finding place ≡ None
-tells_nothing tree abi records later finding finds place =
-    ap (said_by (slice_get later place)) (none_kept finding.explanations place finds.as_many) ∙ nothing_said (slice_get later place)
+    → (index : ℕ) → said_in later finding index ≡ None
+tells_nothing tree abi records later finding finds index =
+    ap (said_by (slice_get later index)) (none_kept finding.explanations index finds.as_many) ∙ nothing_said (slice_get later index)

@@ -1,4 +1,4 @@
--- The answers to the records of a case and what is kept of their explanations, by their places.
+-- The answers to the records of a case and what is kept of their explanations, by their indices.
 use Rattle.std.proofs.Common.{◌≡◌, ◌∙◌, ◌<◌, ◌++◌, ℕ, zero, suc, List, [], ◌∷◌, length, get_or, Option, Some, refl, sym, ap, subst, inl, inr}
 use Rattle.std.specs.Prelude.{◌⊎◌, slice_get, unwrap_or}
 use Rattle.std.proofs.lemmas.Option.{slice_get-get_or}
@@ -12,15 +12,15 @@ use Rattle.ll_process.specs.Cases.{CaseValue}
 use Rattle.ll_explanations.specs.Findings.{AreKept, IsKept}
 use Rattle.ll_explanations.specs.declared.explained.Explained.{Explained}
 
--- a place among the answers is one among the records
-pub among : (cv : CaseValue) (answers : List Answer) (place : ℕ) → answers ≡ judged cv.tree cv.abi cv.records → place < length answers
-    → place < length cv.records
-among cv answers place are below = subst (λ n. place < n) (ap length are ∙ length-judged cv.tree cv.abi cv.records) below
+-- an index among the answers is one among the records
+pub among : (cv : CaseValue) (answers : List Answer) (index : ℕ) → answers ≡ judged cv.tree cv.abi cv.records → index < length answers
+    → index < length cv.records
+among cv answers index are below = subst (λ n. index < n) (ap length are ∙ length-judged cv.tree cv.abi cv.records) below
 
-pub given_at : (cv : CaseValue) (answers : List Answer) (place : ℕ) (answer : Answer) → answers ≡ judged cv.tree cv.abi cv.records → place < length answers
-    → answer ≡ get_or answers place answer → slice_get (judged cv.tree cv.abi cv.records) place ≡ Some answer
-given_at cv answers place answer are below is =
-    ap (λ given. slice_get given place) (sym are) ∙ slice_get-get_or answers place answer below ∙ ap Some (sym is)
+pub given_at : (cv : CaseValue) (answers : List Answer) (index : ℕ) (answer : Answer) → answers ≡ judged cv.tree cv.abi cv.records → index < length answers
+    → answer ≡ get_or answers index answer → slice_get (judged cv.tree cv.abi cv.records) index ≡ Some answer
+given_at cv answers index answer are below is =
+    ap (λ given. slice_get given index) (sym are) ∙ slice_get-get_or answers index answer below ∙ ap Some (sym is)
 
 -- one more
 pub last_or_before : {X : Type 0} (xs : List X) (x y : X) (i : ℕ) → slice_get (xs ++ x ∷ []) i ≡ Some y
@@ -34,13 +34,13 @@ last_or_before (x₀ ∷ xs) x y (suc i) is = elim (last_or_before xs x y i is) 
 ]
 
 module _ (tree : List Entry) (abi : Abi) (records : List Record) where
-  pub one_more_kept : (all : List (Option Explained)) (place : ℕ) (one : Option Explained) (answer : Answer) → length all ≡ place → AreKept tree abi records all
-      → slice_get (judged tree abi records) place ≡ Some answer → IsKept tree abi records place answer one → AreKept tree abi records (all ++ one ∷ [])
-  one_more_kept all place one answer many so_far answered is at given kept is_given is_there = elim (last_or_before all one kept at is_there) [
+  pub one_more_kept : (all : List (Option Explained)) (index : ℕ) (one : Option Explained) (answer : Answer) → length all ≡ index → AreKept tree abi records all
+      → slice_get (judged tree abi records) index ≡ Some answer → IsKept tree abi records index answer one → AreKept tree abi records (all ++ one ∷ [])
+  one_more_kept all index one answer many so_far answered is at given kept is_given is_there = elim (last_or_before all one kept at is_there) [
     | inl before ↦ so_far at given kept is_given before
     | inr last ↦
-        let here : at ≡ place = last.0 ∙ many in
+        let here : at ≡ index = last.0 ∙ many in
         let same : answer ≡ given = ap (λ o. unwrap_or o answer) (sym answered ∙ ap (slice_get (judged tree abi records)) (sym here) ∙ is_given) in
         subst (λ n. IsKept tree abi records n given kept) (sym here)
-        (subst (λ a. IsKept tree abi records place a kept) same (subst (IsKept tree abi records place answer) last.1 is))
+        (subst (λ a. IsKept tree abi records index a kept) same (subst (IsKept tree abi records index answer) last.1 is))
   ]

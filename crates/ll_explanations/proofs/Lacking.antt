@@ -55,10 +55,10 @@ numbers-alone test layer = elim (cases_Bool (test layer)) [
 
 -- ---- right by right
 
--- the rights before a place are those that pass a test, and none is behind
-pub record AreBefore (test : files.FsRight → Bool) (set : Fs) (place : ℕ) : Type 0 where
-  pub before : (right : files.FsRight) → files.bit_of right < place → files.has set right ≡ test right
-  pub behind : (right : files.FsRight) → place ≤ files.bit_of right → files.has set right ≡ false
+-- the rights before an index are those that pass a test, and none is behind
+pub record AreBefore (test : files.FsRight → Bool) (set : Fs) (index : ℕ) : Type 0 where
+  pub before : (right : files.FsRight) → files.bit_of right < index → files.has set right ≡ test right
+  pub behind : (right : files.FsRight) → index ≤ files.bit_of right → files.has set right ≡ false
 
 pub none : (right : files.FsRight) → files.has (record { 0 = 0 }) right ≡ false
 unfolding files.has
@@ -68,9 +68,9 @@ none right = refl
 pub none_before : (test : files.FsRight → Bool) (set : Fs) → ((right : files.FsRight) → files.has set right ≡ false) → AreBefore test set 0
 none_before test set none = record { before = λ right there. absurd (omega arith); behind = λ right there. none right }
 
-pub one_more : (test : files.FsRight → Bool) (set : Fs) (place : ℕ) (one : files.FsRight) → files.bit_of one ≡ place → test one ≡ true
-    → AreBefore test set place → AreBefore test (files.united set (files.only one)) (place + 1)
-one_more test set place one eq passes are = record {
+pub one_more : (test : files.FsRight → Bool) (set : Fs) (index : ℕ) (one : files.FsRight) → files.bit_of one ≡ index → test one ≡ true
+    → AreBefore test set index → AreBefore test (files.united set (files.only one)) (index + 1)
+one_more test set index one eq passes are = record {
   before = λ right there. fs_has-united set (files.only one) right ∙ ap (λ b. files.has set right || b) (fs_has-only right one)
       ∙ elim (cases_eq (files.bit_of right) (files.bit_of one)) [
         | inl same ↦
@@ -90,9 +90,9 @@ one_more test set place one eq passes are = record {
   or_true true = refl
   or_true false = refl
 
-pub none_more : (test : files.FsRight → Bool) (set : Fs) (place : ℕ) (one : files.FsRight) → files.bit_of one ≡ place → test one ≡ false
-    → AreBefore test set place → AreBefore test set (place + 1)
-none_more test set place one eq fails are = record {
+pub none_more : (test : files.FsRight → Bool) (set : Fs) (index : ℕ) (one : files.FsRight) → files.bit_of one ≡ index → test one ≡ false
+    → AreBefore test set index → AreBefore test set (index + 1)
+none_more test set index one eq fails are = record {
   before = λ right there. elim (cases_eq (files.bit_of right) (files.bit_of one)) [
     | inl same ↦
         let it : right ≡ one = same_right right one (eq-eqb (files.bit_of right) (files.bit_of one) same) in
@@ -102,6 +102,6 @@ none_more test set place one eq fails are = record {
   behind = λ right there. are.behind right (omega (arith, there));
 }
 
-pub all_before : (test : files.FsRight → Bool) (set : Fs) (place : ℕ) → length files.all_rights ≤ place → AreBefore test set place → (right : files.FsRight)
+pub all_before : (test : files.FsRight → Bool) (set : Fs) (index : ℕ) → length files.all_rights ≤ index → AreBefore test set index → (right : files.FsRight)
     → files.has set right ≡ test right
-all_before test set place end are right = are.before right (omega (arith, below right, end))
+all_before test set index end are right = are.before right (omega (arith, below right, end))

@@ -1,5 +1,5 @@
 pub mod Lacking
-pub mod RightPlaces
+pub mod RightIndices
 pub mod Telling
 pub mod Gaining
 pub mod Adding

@@ -15,7 +15,7 @@ use Rattle.ll_explanations.specs.declared.explained.Explained.{Explained}
 use Rattle.ll_explanations.specs.declared.stretch.Stretch.{Stretch}
 use Rattle.ll_explanations.proofs.KeepingAll.{one_more_kept}
 
--- ---- from a place on
+-- ---- from an index on
 
 pub extends_none : (case : CaseValue) (from : ℕ) (own : List (Option Explained)) → own ≡ [] → Extends case from from own
 extends_none case from own none = record {
@@ -23,17 +23,17 @@ extends_none case from own none = record {
   kept = λ before many kept. subst (AreFirstKept case) (sym (ap (λ xs. before ++ xs) none ∙ append-nil before)) kept;
 }
 
-pub extends_more : (case : CaseValue) (from place : ℕ) (own new : List (Option Explained)) (one : Option Explained) (answer : Answer)
-    → Extends case from place own → new ≡ own ++ one ∷ [] → slice_get (judged case.tree case.abi case.records) place ≡ Some answer
-    → IsKept case.tree case.abi case.records place answer one → Extends case from (place + 1) new
-extends_more case from place own new one answer so_far pushed answered is = record {
+pub extends_more : (case : CaseValue) (from index : ℕ) (own new : List (Option Explained)) (one : Option Explained) (answer : Answer)
+    → Extends case from index own → new ≡ own ++ one ∷ [] → slice_get (judged case.tree case.abi case.records) index ≡ Some answer
+    → IsKept case.tree case.abi case.records index answer one → Extends case from (index + 1) new
+extends_more case from index own new one answer so_far pushed answered is = record {
   as_many =
       let many : length new ≡ length own + 1 = ap length pushed ∙ length-append own (one ∷ []) in
       omega (arith, many, so_far.as_many);
   kept = λ before many kept.
-      let all : length (before ++ own) ≡ place = length-append before own ∙ omega (arith, many, so_far.as_many) in
+      let all : length (before ++ own) ≡ index = length-append before own ∙ omega (arith, many, so_far.as_many) in
       subst (AreFirstKept case) (append_assoc before own (one ∷ []) ∙ ap (λ xs. before ++ xs) (sym pushed))
-      (one_more_kept case.tree case.abi case.records (before ++ own) place one answer all (so_far.kept before many kept) answered is);
+      (one_more_kept case.tree case.abi case.records (before ++ own) index one answer all (so_far.kept before many kept) answered is);
 }
 
 -- ---- stretches, one behind the other

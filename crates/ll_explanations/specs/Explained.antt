@@ -13,21 +13,21 @@ use Rattle.ll_trails.specs.declared.trail.ProcessOrigins.{ProcessOrigins}
 use Rattle.ll_explanations.specs.Meanings.{AreMade, explanation_in}
 use Rattle.ll_explanations.specs.declared.explanation.Explanation.{Explanation}
 
--- a value means the explanation of the record at a place of a trace, which is answered so, and names the records that made the layers
-pub record IsExplanationOf (tree : List Entry) (abi : Abi) (records : List Record) (place : ℕ) (answer : Answer) (r : Record) (e : Explanation) : Type 0 where
-  pub means : explanation_in tree r.op e ≡ explained_at tree abi records place r answer
-  pub made : AreMade (origins_at tree abi records place r.process.0).layers e
+-- a value means the explanation of the record at an index of a trace, which is answered so, and names the records that made the layers
+pub record IsExplanationOf (tree : List Entry) (abi : Abi) (records : List Record) (index : ℕ) (answer : Answer) (r : Record) (e : Explanation) : Type 0 where
+  pub means : explanation_in tree r.op e ≡ explained_at tree abi records index r answer
+  pub made : AreMade (origins_at tree abi records index r.process.0).layers e
 
 -- of a case
 abbrev pub IsExplanation : CaseValue → ℕ → Answer → Record → Explanation → Type 0
 IsExplanation case = IsExplanationOf case.tree case.abi case.records
 
 abbrev pub Explains : CaseValue → ℕ → Answer → Explanation → Type 0
-Explains case place answer e = (r : Record) → slice_get case.records place ≡ Some r → IsExplanation case place answer r e
+Explains case index answer e = (r : Record) → slice_get case.records index ≡ Some r → IsExplanation case index answer r e
 
--- the call of the record at a place of a case, and where all that its process has before it comes from
-pub record IsFoundAt (case : CaseValue) (place : ℕ) (op : Op) (trail : ProcessOrigins) : Type 0 where
+-- the call of the record at an index of a case, and where all that its process has before it comes from
+pub record IsFoundAt (case : CaseValue) (index : ℕ) (op : Op) (trail : ProcessOrigins) : Type 0 where
   pub r : Record
-  pub there : slice_get case.records place ≡ Some r
+  pub there : slice_get case.records index ≡ Some r
   pub call : op ≡ r.op
-  pub follows : Follows trail (origins_at case.tree case.abi case.records place r.process.0)
+  pub follows : Follows trail (origins_at case.tree case.abi case.records index r.process.0)

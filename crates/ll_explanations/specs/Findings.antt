@@ -21,16 +21,16 @@ pub record FindingValue : Type 0 where
   pub answers : List Answer
   pub explanations : List (Option Explained)
 
--- What is found otherwise than in a base: the places of these records, in rising order, and what is found of each.
+-- What is found otherwise than in a base: the indices of these records, in rising order, and what is found of each.
 pub record ChangesValue : Type 0 where
-  pub places : List ℕ
+  pub indices : List ℕ
   pub found : FindingValue
 
 -- what is found, where only the changes to a base are kept
 abbrev pub with_changes : FindingValue → List ℕ → FindingValue → FindingValue
-with_changes base places changes = record {
-  answers = overlay base.answers places changes.answers;
-  explanations = overlay base.explanations places changes.explanations;
+with_changes base indices changes = record {
+  answers = overlay base.answers indices changes.answers;
+  explanations = overlay base.explanations indices changes.explanations;
 }
 
 -- what is found of some records, and of others behind them
@@ -42,7 +42,7 @@ both_found one other = record {
 
 abbrev pub both_changed : ChangesValue → ChangesValue → ChangesValue
 both_changed one other = record {
-  places = one.places ++ other.places;
+  indices = one.indices ++ other.indices;
   found = both_found one.found other.found;
 }
 
@@ -51,29 +51,29 @@ abbrev pub found_once : Answer → Option Explained → FindingValue
 found_once answer kept = record { answers = answer ∷ []; explanations = kept ∷ [] }
 
 abbrev pub changed_once : ℕ → Answer → Option Explained → ChangesValue
-changed_once place answer kept = record { places = place ∷ []; found = found_once answer kept }
+changed_once index answer kept = record { indices = index ∷ []; found = found_once answer kept }
 
--- this is found of the record at a place
+-- this is found of the record at an index
 abbrev pub IsFoundAt : FindingValue → ℕ → Answer → Option Explained → Type 0
-IsFoundAt finding place answer kept = (slice_get finding.answers place ≡ Some answer) × (slice_get finding.explanations place ≡ Some kept)
+IsFoundAt finding index answer kept = (slice_get finding.answers index ≡ Some answer) × (slice_get finding.explanations index ≡ Some kept)
 
 -- what is found of a record is added to the changes, unless the base has the same
 abbrev pub Notes : FindingValue → ℕ → Answer → Option Explained → ChangesValue → ChangesValue → Type 0
-Notes base place answer kept before after =
-    (IsFoundAt base place answer kept × (after ≡ before)) ⊎ (after ≡ both_changed before (changed_once place answer kept))
+Notes base index answer kept before after =
+    (IsFoundAt base index answer kept × (after ≡ before)) ⊎ (after ≡ both_changed before (changed_once index answer kept))
 
 -- so many records are answered and explained
 pub record IsAboutAll (count : ℕ) (finding : FindingValue) : Type 0 where
   pub answers : length finding.answers ≡ count
   pub explanations : length finding.explanations ≡ count
 
--- the answer to the record at a place
+-- the answer to the record at an index
 abbrev pub answer_in : FindingValue → ℕ → Answer
-answer_in finding place = unwrap_or (slice_get finding.answers place) Moot
+answer_in finding index = unwrap_or (slice_get finding.answers index) Moot
 
--- what is kept of the explanation of the record at a place
+-- what is kept of the explanation of the record at an index
 abbrev pub kept_at : FindingValue → ℕ → Option Explained
-kept_at finding place = unwrap_or (slice_get finding.explanations place) None
+kept_at finding index = unwrap_or (slice_get finding.explanations index) None
 
 -- a call with its explanation: the call that was kept, or that of the record at hand
 abbrev pub said_by : Option Record → Option Explained → Option (Op × Explanation)
@@ -83,27 +83,27 @@ said_by None kept = None
 
 -- the same, by a base and the changes to it
 abbrev pub answer_over : FindingValue → ChangesValue → ℕ → Answer
-answer_over base changes place = unwrap_or (change_at place changes.places changes.found.answers) (answer_in base place)
+answer_over base changes index = unwrap_or (change_at index changes.indices changes.found.answers) (answer_in base index)
 
 abbrev pub kept_over : FindingValue → ChangesValue → ℕ → Option Explained
-kept_over base changes place = unwrap_or (change_at place changes.places changes.found.explanations) (kept_at base place)
+kept_over base changes index = unwrap_or (change_at index changes.indices changes.found.explanations) (kept_at base index)
 
--- the call and the explanation of the record at a place, by the records at hand
+-- the call and the explanation of the record at an index, by the records at hand
 abbrev pub said_in : List Record → FindingValue → ℕ → Option (Op × Explanation)
-said_in records finding place = said_by (slice_get records place) (kept_at finding place)
+said_in records finding index = said_by (slice_get records index) (kept_at finding index)
 
 -- ---- what a finding has to do with a tree, a version and the records of a trace
 
--- what is kept is the explanation of the record at a place, which is answered so
+-- what is kept is the explanation of the record at an index, which is answered so
 abbrev pub IsKept : List Entry → Abi → List Record → ℕ → Answer → Option Explained → Type 0
-IsKept tree abi records place answer kept =
-    (r : Record) → slice_get records place ≡ Some r → (e : Explanation) × (kept ≡ kept_of r.op e) × IsExplanationOf tree abi records place answer r e
+IsKept tree abi records index answer kept =
+    (r : Record) → slice_get records index ≡ Some r → (e : Explanation) × (kept ≡ kept_of r.op e) × IsExplanationOf tree abi records index answer r e
 
 -- each of these is
 abbrev pub AreKept : List Entry → Abi → List Record → List (Option Explained) → Type 0
 AreKept tree abi records all =
-    (place : ℕ) (answer : Answer) (kept : Option Explained) → slice_get (judged tree abi records) place ≡ Some answer → slice_get all place ≡ Some kept
-    → IsKept tree abi records place answer kept
+    (index : ℕ) (answer : Answer) (kept : Option Explained) → slice_get (judged tree abi records) index ≡ Some answer → slice_get all index ≡ Some kept
+    → IsKept tree abi records index answer kept
 
 -- what is found of these records: the answers are those of one fold over all, and each record's explanation is kept, if explanations are kept
 pub record Finds (explains : Bool) (tree : List Entry) (abi : Abi) (records : List Record) (finding : FindingValue) : Type 0 where
@@ -116,6 +116,6 @@ abbrev pub StandsInFront : Bool → List Entry → Abi → List Record → List 
 StandsInFront explains tree abi records newer all =
     (finding : FindingValue) × (all ≡ finding ∷ newer) × Finds explains tree abi records finding
 
--- what is said of the record at a place, which is answered so: its call and its explanation, if there is anything to explain
+-- what is said of the record at an index, which is answered so: its call and its explanation, if there is anything to explain
 abbrev pub Tells : List Entry → Abi → List Record → ℕ → Answer → Record → Option (Op × Explanation) → Type 0
-Tells tree abi records place answer r said = (e : Explanation) × (said ≡ if_said e (r.op, e)) × IsExplanationOf tree abi records place answer r e
+Tells tree abi records index answer r said = (e : Explanation) × (said ≡ if_said e (r.op, e)) × IsExplanationOf tree abi records index answer r e

@@ -37,7 +37,7 @@ pub record IsOne (set : Net) : Type 0 where
   pub one : network.NetRight
   pub same : set ≡ network.only one
 
--- ---- objections; nodes are of the case's tree, and what a descriptor's file lacked is told by the place of the record that opened it
+-- ---- objections; nodes are of the case's tree, and what a descriptor's file lacked is told by the index of the record that opened it
 
 abbrev pub objection_in : List Entry → Objection → meant.Objection
 objection_in tree (Missing rights node) = meant.missing (rights_in rights) (path_at tree node)

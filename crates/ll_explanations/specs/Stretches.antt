@@ -40,19 +40,19 @@ pub record AreAllKept (case : CaseValue) (count : ℕ) (all : List (Option Expla
 
 -- ---- records of which only what differs from a base is kept
 
--- a base and the changes to it have the answer to the record at a place, and what is kept of its explanation
-pub record IsCovered (case : CaseValue) (base : FindingValue) (changes : ChangesValue) (place : ℕ) : Type 0 where
-  pub answer : slice_get (judged case.tree case.abi case.records) place ≡ Some (answer_over base changes place)
-  pub kept : IsKept case.tree case.abi case.records place (answer_over base changes place) (kept_over base changes place)
+-- a base and the changes to it have the answer to the record at an index, and what is kept of its explanation
+pub record IsCovered (case : CaseValue) (base : FindingValue) (changes : ChangesValue) (index : ℕ) : Type 0 where
+  pub answer : slice_get (judged case.tree case.abi case.records) index ≡ Some (answer_over base changes index)
+  pub kept : IsKept case.tree case.abi case.records index (answer_over base changes index) (kept_over base changes index)
 
 -- changes to a base cover the records from one index to another, and are about these alone
 pub record Covers (case : CaseValue) (base : FindingValue) (from end : ℕ) (changes : ChangesValue) : Type 0 where
   pub ordered : from ≤ end
-  pub rise : Rise from changes.places
-  pub below : All (λ place. place < end) changes.places
-  pub answers : length changes.found.answers ≡ length changes.places
-  pub explanations : length changes.found.explanations ≡ length changes.places
-  pub covered : (place : ℕ) → from ≤ place → place < end → IsCovered case base changes place
+  pub rise : Rise from changes.indices
+  pub below : All (λ index. index < end) changes.indices
+  pub answers : length changes.found.answers ≡ length changes.indices
+  pub explanations : length changes.found.explanations ≡ length changes.indices
+  pub covered : (index : ℕ) → from ≤ index → index < end → IsCovered case base changes index
 
 -- what is found of the records of a stretch otherwise than in a base, unless memory ran out
 abbrev pub IsCompared : FindingValue → Stretch → Result ChangesValue NoMemory → Type 0

@@ -9,10 +9,10 @@ use ll_semantics::Answer;
 use std::alloc::{AllocError, Global};
 use std::marker::Model;
 
-/// The places of records of which something else is found than in a base, in rising order, and what is found of each.
+/// The indices of records of which something else is found than in a base, in rising order, and what is found of each.
 #[derive(Drop)]
 pub(crate) struct Changes {
-    pub(crate) places: Vec<u32>,
+    pub(crate) indices: Vec<u32>,
     pub(crate) found: Found,
 }
 
@@ -22,58 +22,58 @@ impl Model for Changes {
     ghost Value = { ChangesValue };
 
     ghost view = { λ changes.
-        record { places = changes.places.items; found = changes.found } };
+        record { indices = changes.indices.items; found = changes.found } };
 }
 
 impl Changes {
     /// No change.
     pub(crate) fn none(alloc: Global) -> Changes
         ensures { result
-            ≡ record { places = []; found = record { answers = []; explanations = [] } } }
+            ≡ record { indices = []; found = record { answers = []; explanations = [] } } }
     {
         Changes {
-            places: Vec::new(alloc),
+            indices: Vec::new(alloc),
             found: Found::nothing(alloc),
         }
     }
 
-    /// Adds what is found of the record at a place.
+    /// Adds what is found of the record at an index.
     fn push(
         &mut self,
-        place: u32,
+        index: u32,
         answer: Answer,
         kept: SharedExplanation,
     ) -> Result<(), AllocError>
         ensures { OnOk result
-            (self.new ≡ both_changed self.old (changed_once place answer kept)) }
+            (self.new ≡ both_changed self.old (changed_once index answer kept)) }
     {
-        self.places.push(place)?;
+        self.indices.push(index)?;
         self.found.push(answer, kept)
     }
 
-    /// Adds what is found of the record at a place, unless the base has the same.
+    /// Adds what is found of the record at an index, unless the base has the same.
     pub(crate) fn note(
         &mut self,
         base: &Found,
-        place: usize,
+        index: usize,
         answer: Answer,
         kept: &SharedExplanation,
     ) -> Result<(), AllocError>
-        requires { place < 2 ^ 32 }
-        ensures { OnOk result (Notes base.now place answer kept.now self.old self.new) }
+        requires { index < 2 ^ 32 }
+        ensures { OnOk result (Notes base.now index answer kept.now self.old self.new) }
     {
-        if base.has(place, answer, kept) {
+        if base.has(index, answer, kept) {
             return Ok(());
         }
-        self.push(place as u32, answer, kept.again()?)
+        self.push(index as u32, answer, kept.again()?)
     }
 
     /// Adds changes about records behind those of these.
     pub(crate) fn append(&mut self, others: Changes) -> Result<(), AllocError>
         ensures { OnOk result (self.new ≡ both_changed self.old others) }
     {
-        let Changes { mut places, found } = others;
-        self.places.append(&mut places)?;
+        let Changes { mut indices, found } = others;
+        self.indices.append(&mut indices)?;
         self.found.append(found)
     }
 }

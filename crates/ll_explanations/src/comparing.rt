@@ -26,7 +26,7 @@ use std::thread::Threads;
 /// What is found of consecutive records otherwise than in a base, or that memory ran out.
 type Comparing = Result<Changes, NoMemory>;
 
-/// What is found of the records from a place on, up to another, otherwise than in a base.
+/// What is found of the records from an index on, up to another, otherwise than in a base.
 fn compare_from(
     alloc: Global,
     case: &CaseView<'_>,
@@ -45,11 +45,11 @@ fn compare_from(
 {
     let mut trails = trails;
     let mut changes = Changes::none(alloc);
-    for place in from..end {
-        let answer = answer_at(case, answers, place);
-        let kept = explain_one(alloc, case, &trails, place, answer, newer)?;
-        changes.note(base, place, answer_at(case, answers, place), &kept)?;
-        trails.follow(alloc, case, place, answer_at(case, answers, place))?;
+    for index in from..end {
+        let answer = answer_at(case, answers, index);
+        let kept = explain_one(alloc, case, &trails, index, answer, newer)?;
+        changes.note(base, index, answer_at(case, answers, index), &kept)?;
+        trails.follow(alloc, case, index, answer_at(case, answers, index))?;
     }
     Ok(changes)
 }

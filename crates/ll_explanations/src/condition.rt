@@ -83,8 +83,8 @@ fn creation<'t>(case: &'t CaseView<'_>, trail: &ProcessOrigins, rs: u64) -> Opti
     ensures { option_map (λ op. op.now) result ≡ option_map (λ r. r.op)
         (option_and_then (slice_get case.now.records) (get trail.now.rulesets rs)) }
 {
-    let place = *trail.rulesets.get(rs)?;
-    case.op(place as usize)
+    let index = *trail.rulesets.get(rs)?;
+    case.op(index as usize)
 }
 
 /// The rights for files and those for ports that a ruleset of a process handles.

@@ -17,7 +17,7 @@ pub(crate) struct Confinement<'a> {
     pub(crate) tree: &'a Tree,
     /// All layers of the case.
     pub(crate) layers: &'a [Layer],
-    /// The places of the process's own among them, the oldest first.
+    /// The indices of the process's own among them, the oldest first.
     pub(crate) domain: &'a [LayerId],
     ghost inside: { IsDomainOf layers.now domain.now } by { Prim.hlevel props },
     ghost rules: { All (AreInTree tree.now) layers.now } by { Prim.hlevel props },
@@ -30,15 +30,15 @@ pub(crate) struct OneLayer<'a> {
     pub(crate) ctx: Confinement<'a>,
     /// Its number among these, from 1 on.
     pub(crate) number: u64,
-    /// Its place among the layers of the case.
+    /// Its index among the layers of the case.
     pub(crate) id: LayerId,
     ghost positive: { 0 < number },
     ghost inside: { id.0 < length ctx.layers.now },
 }
 
-/// The record that made the layer at a place among those of a process, by its place in the trace.
-pub(crate) fn made_by(trail: &ProcessOrigins, place: usize) -> Option<u32>
-    ensures { result ≡ slice_get trail.now.layers.items place }
+/// The record that made the layer at an index among those of a process, by its index in the trace.
+pub(crate) fn made_by(trail: &ProcessOrigins, index: usize) -> Option<u32>
+    ensures { result ≡ slice_get trail.now.layers.items index }
 {
-    trail.layers.get(place).copied()
+    trail.layers.get(index).copied()
 }

@@ -20,7 +20,7 @@ use ll_trails::{ProcessOrigins, TraceOrigins, domain_of};
 use std::alloc::Global;
 
 /// Why a record is refused or moot. Its paths are those that the record's call names, its nodes are of the case's tree,
-/// and other records are told by their places in the trace.
+/// and other records are told by their indices in the trace.
 #[derive(Drop)]
 pub enum Explanation {
     /// The record is allowed.
@@ -46,42 +46,43 @@ impl Explanation {
     }
 }
 
-/// The call of the record at a place, and where all that its process has comes from; the record isn't the process's first.
+/// The call of the record at an index, and where all that its process has comes from; the record isn't the process's
+/// first.
 fn found_at<'t>(
     case: &'t CaseView<'_>,
     trails: &'t TraceOrigins,
-    place: usize,
+    index: usize,
     answer: Answer,
 ) -> (&'t Op, &'t ProcessOrigins)
-    requires answer { IsAnswerAt case.now place answer }
+    requires answer { IsAnswerAt case.now index answer }
     requires known { answer ≢ Allowed }
-    requires trails { AreTrailsAt case.now place trails.now }
+    requires trails { AreTrailsAt case.now index trails.now }
     ensures case { IsCase case.now }
-    ensures found { IsFoundAt case.now place result.0.now result.1.now }
+    ensures found { IsFoundAt case.now index result.0.now result.1.now }
 {
-    let (op, process) = case.call(place);
+    let (op, process) = case.call(index);
     (op, trails.of(process))
 }
 
 /// Why a moot record isn't asked about.
-fn moot(case: &CaseView<'_>, trails: &TraceOrigins, place: usize) -> Explanation
-    requires answer { IsAnswerAt case.now place Moot }
-    requires trails { AreTrailsAt case.now place trails.now }
-    ensures { Explains case.now place Moot result }
+fn moot(case: &CaseView<'_>, trails: &TraceOrigins, index: usize) -> Explanation
+    requires answer { IsAnswerAt case.now index Moot }
+    requires trails { AreTrailsAt case.now index trails.now }
+    ensures { Explains case.now index Moot result }
 {
-    let (op, trail) = found_at(case, trails, place, Answer::Moot);
-    let known = case.known_place(place);
+    let (op, trail) = found_at(case, trails, index, Answer::Moot);
+    let known = case.known_place(index);
     Explanation::Mootness(reason_of(case.tree(), trail, op, known))
 }
 
 /// Why a record is refused by no layer.
-fn failed(case: &CaseView<'_>, trails: &TraceOrigins, place: usize, error: Errno) -> Explanation
-    requires answer { IsAnswerAt case.now place (Refused error []) }
-    requires trails { AreTrailsAt case.now place trails.now }
-    ensures { Explains case.now place (Refused error []) result }
+fn failed(case: &CaseView<'_>, trails: &TraceOrigins, index: usize, error: Errno) -> Explanation
+    requires answer { IsAnswerAt case.now index (Refused error []) }
+    requires trails { AreTrailsAt case.now index trails.now }
+    ensures { Explains case.now index (Refused error []) result }
 {
     let answer = Answer::Refused(error, LayerSet::new());
-    let (op, trail) = found_at(case, trails, place, answer);
+    let (op, trail) = found_at(case, trails, index, answer);
     Explanation::Failure(condition_of(case, trail, case.abi(), op, error))
 }
 
@@ -90,16 +91,16 @@ fn refused(
     alloc: Global,
     case: &CaseView<'_>,
     trails: &TraceOrigins,
-    place: usize,
+    index: usize,
     error: Errno,
     numbers: LayerSet,
 ) -> Result<Explanation, NoMemory>
-    requires answer { IsAnswerAt case.now place (Refused error numbers) }
+    requires answer { IsAnswerAt case.now index (Refused error numbers) }
     requires some { numbers ≢ [] }
-    requires trails { AreTrailsAt case.now place trails.now }
-    ensures { IfOk result (Explains case.now place (Refused error numbers)) }
+    requires trails { AreTrailsAt case.now index trails.now }
+    ensures { IfOk result (Explains case.now index (Refused error numbers)) }
 {
-    let (op, trail) = found_at(case, trails, place, Answer::Refused(error, numbers));
+    let (op, trail) = found_at(case, trails, index, Answer::Refused(error, numbers));
     let domain = domain_of(alloc, case, trail)?;
     let ctx = Confinement {
         trail,
@@ -107,32 +108,32 @@ fn refused(
         layers: case.layers(),
         domain: &domain,
     };
-    let known = case.known_place(place);
+    let known = case.known_place(index);
     let all = objections_to(alloc, &ctx, op, error, numbers, known)?;
     Ok(Explanation::Objections(LayerObjections { all }))
 }
 
-/// The explanation of the record at a place of a case, by its answer and by where all that its process has comes from.
+/// The explanation of the record at an index of a case, by its answer and by where all that its process has comes from.
 /// An error says that memory ran out.
 pub fn explain(
     alloc: Global,
     case: &CaseView<'_>,
     trails: &TraceOrigins,
-    place: usize,
+    index: usize,
     answer: Answer,
 ) -> Result<Explanation, NoMemory>
-    requires answer { IsAnswerAt case.now place answer }
-    requires trails { AreTrailsAt case.now place trails.now }
-    ensures { IfOk result (Explains case.now place answer) }
+    requires answer { IsAnswerAt case.now index answer }
+    requires trails { AreTrailsAt case.now index trails.now }
+    ensures { IfOk result (Explains case.now index answer) }
 {
     match answer {
         Answer::Allowed => Ok(Explanation::Nothing),
-        Answer::Moot => Ok(moot(case, trails, place)),
+        Answer::Moot => Ok(moot(case, trails, index)),
         Answer::Refused(error, numbers) => {
             if numbers.is_empty() {
-                Ok(failed(case, trails, place, error))
+                Ok(failed(case, trails, index, error))
             } else {
-                refused(alloc, case, trails, place, error, numbers)
+                refused(alloc, case, trails, index, error, numbers)
             }
         }
     }

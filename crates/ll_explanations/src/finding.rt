@@ -12,9 +12,9 @@ use crate::comparing::compare_all;
 use crate::explained::SharedExplanation;
 use crate::explanation::Explanation;
 use crate::found::Found;
+use crate::indices::Indices;
 use crate::marks::{mark_all, mark_differing};
 use crate::overlay::overlaid;
-use crate::places::Places;
 use crate::stretches::explain_all;
 use ll_process::CaseView;
 use ll_rules::NoMemory;
@@ -25,13 +25,13 @@ use std::marker::Model;
 use std::sync::Arc;
 use std::thread::Threads;
 
-/// What is found under a version: the answers to all records, and their explanations, if these are kept. An older version
-/// may share its base with a newer one: then it keeps only what it finds otherwise, and of which records. A version
-/// without changes finds what its base has.
+/// What is found under a version: the answers to all records, and their explanations, if these are kept. An older
+/// version may share its base with a newer one: then it keeps only what it finds otherwise, and of which records. A
+/// version without changes finds what its base has.
 #[derive(Drop)]
 pub struct Finding {
     base: Arc<Found>,
-    places: Places,
+    indices: Indices,
     changes: Found,
 }
 
@@ -41,7 +41,7 @@ impl Model for Finding {
     ghost Value = { FindingValue };
 
     ghost view = { λ finding.
-        with_changes finding.base.value finding.places finding.changes };
+        with_changes finding.base.value finding.indices finding.changes };
 }
 
 impl Finding {
@@ -65,8 +65,8 @@ impl Finding {
         Ok(Finding::whole(alloc, answers, explanations)?)
     }
 
-    /// What is found under an older version, by the answers to its records. Marks the records of which this version finds
-    /// something else. An explanation shares the memory of a like one of this version.
+    /// What is found under an older version, by the answers to its records. Marks the records of which this version
+    /// finds something else. An explanation shares the memory of a like one of this version.
     pub(crate) fn older<R: Threads + Sync>(
         &self,
         rt: &R,
@@ -84,8 +84,8 @@ impl Finding {
     {
         if explains && self.base.is_about_all(answers.len()) {
             let changes = compare_all(rt, alloc, case, &answers, self, &self.base, workers)?;
-            mark_all(marks, &changes.places);
-            mark_all(marks, self.places.as_slice());
+            mark_all(marks, &changes.indices);
+            mark_all(marks, self.indices.as_slice());
             return Ok(Finding::over(alloc, &self.base, changes)?);
         }
         let finding = Finding::of(rt, alloc, case, answers, explains, workers)?;
@@ -109,21 +109,21 @@ impl Finding {
         };
         Ok(Finding {
             base: Arc::new(alloc, found)?,
-            places: Places::none(alloc),
+            indices: Indices::none(alloc),
             changes: Found::nothing(alloc),
         })
     }
 
     /// What is found, of which only the changes to a base are kept.
     fn over(alloc: Global, base: &Arc<Found>, changes: Changes) -> Result<Finding, AllocError>
-        requires { Rise 0 changes.places }
+        requires { Rise 0 changes.indices }
         ensures { IfOk result (λ finding. finding
-            ≡ with_changes base.now.value changes.places changes.found) }
+            ≡ with_changes base.now.value changes.indices changes.found) }
     {
-        let Changes { places, found } = changes;
+        let Changes { indices, found } = changes;
         Ok(Finding {
             base: Arc::try_clone(base)?,
-            places: Places::of(alloc, places)?,
+            indices: Indices::of(alloc, indices)?,
             changes: found,
         })
     }
@@ -136,45 +136,45 @@ impl Finding {
         self.base.count()
     }
 
-    /// The answer to the record at a place.
-    pub fn answer(&self, place: usize) -> Answer
-        ensures { result ≡ answer_in self.now place }
+    /// The answer to the record at an index.
+    pub fn answer(&self, index: usize) -> Answer
+        ensures { result ≡ answer_in self.now index }
     {
         match overlaid(
             &self.base.answers,
-            &self.places,
+            &self.indices,
             &self.changes.answers,
-            place,
+            index,
         ) {
             Some(answer) => *answer,
             None => Answer::Moot,
         }
     }
 
-    /// What is kept of the explanation of the record at a place.
-    pub(crate) fn kept(&self, place: usize) -> Option<&SharedExplanation>
-        ensures { option_map (λ kept. kept.now) result ≡ slice_get self.now.explanations place }
+    /// What is kept of the explanation of the record at an index.
+    pub(crate) fn kept(&self, index: usize) -> Option<&SharedExplanation>
+        ensures { option_map (λ kept. kept.now) result ≡ slice_get self.now.explanations index }
     {
         overlaid(
             &self.base.explanations,
-            &self.places,
+            &self.indices,
             &self.changes.explanations,
-            place,
+            index,
         )
     }
 
-    /// The call and the explanation of the record at a place; none if there is nothing to explain. The records are
+    /// The call and the explanation of the record at an index; none if there is nothing to explain. The records are
     /// those of the case, or as an older version takes them.
     pub fn explained<'a>(
         &'a self,
         records: &'a [Record],
-        place: usize,
+        index: usize,
     ) -> Option<(&'a Op, &'a Explanation)>
         ensures { option_map (λ said. (said.0.now, said.1.now)) result
-            ≡ said_in records.now self.now place }
+            ≡ said_in records.now self.now index }
     {
-        let record = records.get(place)?;
-        let explained = self.kept(place)?.get()?;
+        let record = records.get(index)?;
+        let explained = self.kept(index)?.get()?;
         let op = match &explained.call {
             Some(call) => call,
             None => &record.op,
@@ -182,22 +182,22 @@ impl Finding {
         Some((op, &explained.explanation))
     }
 
-    /// Whether another finding explains the record at a place by the same value, or neither explains it. Explanations of
-    /// calls that name rights never count as the same.
-    pub fn explains_as(&self, other: &Finding, place: usize) -> bool
-        ensures { result ≡ true → kept_at self.now place ≡ kept_at other.now place }
+    /// Whether another finding explains the record at an index by the same value, or neither explains it. Explanations
+    /// of calls that name rights never count as the same.
+    pub fn explains_as(&self, other: &Finding, index: usize) -> bool
+        ensures { result ≡ true → kept_at self.now index ≡ kept_at other.now index }
     {
-        match (self.kept(place), other.kept(place)) {
+        match (self.kept(index), other.kept(index)) {
             (Some(kept), Some(others)) => kept.is_same(others),
             (None, None) => true,
             _ => false,
         }
     }
 
-    /// Whether the same is found of the record at a place as another finding has.
-    pub(crate) fn finds_as(&self, one: &Finding, place: usize) -> bool
-        ensures { OnTrue result (FindsAs one.now place self.now) }
+    /// Whether the same is found of the record at an index as another finding has.
+    pub(crate) fn finds_as(&self, one: &Finding, index: usize) -> bool
+        ensures { OnTrue result (FindsAs one.now index self.now) }
     {
-        self.answer(place) == one.answer(place) && self.explains_as(one, place)
+        self.answer(index) == one.answer(index) && self.explains_as(one, index)
     }
 }

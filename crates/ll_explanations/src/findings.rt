@@ -13,8 +13,8 @@ use std::alloc::{AllocError, Global};
 use std::marker::Model;
 use std::thread::Threads;
 
-/// What is found under neighbouring versions, the oldest first, with a mark for each record about which they may differ.
-/// What an older version finds is compared with what a newer one finds as soon as it is known.
+/// What is found under neighbouring versions, the oldest first, with a mark for each record about which they may
+/// differ. What an older version finds is compared with what a newer one finds as soon as it is known.
 #[derive(Drop)]
 pub struct Findings {
     all: Vec<Finding>,
@@ -53,8 +53,8 @@ impl Findings {
         }
     }
 
-    /// What is found under an older version too, by the answers to the records of its case. At most this many threads work
-    /// its explanations out, if these are asked for.
+    /// What is found under an older version too, by the answers to the records of its case. At most this many threads
+    /// work its explanations out, if these are asked for.
     pub fn with<R: Threads + Sync>(
         self,
         rt: &R,
@@ -91,11 +91,11 @@ impl Findings {
         &self.all
     }
 
-    /// Whether versions may differ about the record at a place.
-    pub fn is_apart(&self, place: usize) -> bool
-        ensures { result ≡ false → AreAlike self.now place }
+    /// Whether versions may differ about the record at an index.
+    pub fn is_apart(&self, index: usize) -> bool
+        ensures { result ≡ false → AreAlike self.now index }
     {
-        match self.marks.get(place) {
+        match self.marks.get(index) {
             Some(is_apart) => *is_apart,
             None => true,
         }

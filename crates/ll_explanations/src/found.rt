@@ -57,32 +57,32 @@ impl Found {
         self.answers.len() == count && self.explanations.len() == count
     }
 
-    /// Whether the record at a place is answered so.
-    fn answers_so(&self, place: usize, answer: Answer) -> bool
-        ensures { result ≡ true → slice_get self.now.answers place ≡ Some answer }
+    /// Whether the record at an index is answered so.
+    fn answers_so(&self, index: usize, answer: Answer) -> bool
+        ensures { result ≡ true → slice_get self.now.answers index ≡ Some answer }
     {
-        match self.answers.get(place) {
+        match self.answers.get(index) {
             Some(there) => is_equal(*there, answer),
             None => false,
         }
     }
 
-    /// Whether what is kept of the explanation of the record at a place is like this.
-    fn explains_so(&self, place: usize, kept: &SharedExplanation) -> bool
-        ensures { result ≡ true → slice_get self.now.explanations place ≡ Some kept.now }
+    /// Whether what is kept of the explanation of the record at an index is like this.
+    fn explains_so(&self, index: usize, kept: &SharedExplanation) -> bool
+        ensures { result ≡ true → slice_get self.now.explanations index ≡ Some kept.now }
     {
-        match self.explanations.get(place) {
+        match self.explanations.get(index) {
             Some(there) => there.is_same(kept),
             None => false,
         }
     }
 
-    /// Whether the same is found of the record at a place.
-    pub(crate) fn has(&self, place: usize, answer: Answer, kept: &SharedExplanation) -> bool
-        ensures answer { result ≡ true → slice_get self.now.answers place ≡ Some answer }
-        ensures kept { result ≡ true → slice_get self.now.explanations place ≡ Some kept.now }
+    /// Whether the same is found of the record at an index.
+    pub(crate) fn has(&self, index: usize, answer: Answer, kept: &SharedExplanation) -> bool
+        ensures answer { result ≡ true → slice_get self.now.answers index ≡ Some answer }
+        ensures kept { result ≡ true → slice_get self.now.explanations index ≡ Some kept.now }
     {
-        self.answers_so(place, answer) && self.explains_so(place, kept)
+        self.answers_so(index, answer) && self.explains_so(index, kept)
     }
 
     /// Adds what is found of one record.

@@ -13,7 +13,7 @@ use ll_rights::FsRight;
 use ll_rules::{LayerSet, MOST_LAYERS};
 use std::alloc::Global;
 
-/// What some layers object to under which a right was missing when the record at a place of the trace opened a file.
+/// What some layers object to under which a right was missing when the record at an index of the trace opened a file.
 fn kept_since(
     alloc: Global,
     ctx: &Confinement,
@@ -57,6 +57,6 @@ pub(crate) fn kept_by_descriptor(
 {
     match ctx.trail.openings.get(fd) {
         None => Ok(Vec::new(alloc)),
-        Some(place) => kept_since(alloc, ctx, right, numbers, place),
+        Some(index) => kept_since(alloc, ctx, right, numbers, index),
     }
 }

@@ -24,10 +24,10 @@ pub fn records_are_taken_later()
 pub fn findings_tell_what_is_judged()
     ensures told { (tree : List Entry) (abi : Version) (records later : List OneRecord)
         (finding : FindingValue) → Finds true tree abi records finding → AreTakenLater later records
-        → (place : ℕ) (r : OneRecord) (answer : Given) → slice_get records place ≡ Some r
-        → slice_get (judged tree abi records) place ≡ Some answer
-        → Tells tree abi records place answer r (said_in later finding place) }
+        → (index : ℕ) (r : OneRecord) (answer : Given) → slice_get records index ≡ Some r
+        → slice_get (judged tree abi records) index ≡ Some answer
+        → Tells tree abi records index answer r (said_in later finding index) }
     ensures nothing { (tree : List Entry) (abi : Version) (records later : List OneRecord)
         (finding : FindingValue) → Finds false tree abi records finding
-        → (place : ℕ) → said_in later finding place ≡ None }
+        → (index : ℕ) → said_in later finding index ≡ None }
 {}

@@ -71,7 +71,7 @@ fn is_missing(layer: &OneLayer, node: NodeId, asked: Fs, right: FsRight) -> bool
 }
 
 /// Whether a right is one that files have.
-#[tactic(auto, using(crate::proofs::RightPlaces::is_file))]
+#[tactic(auto, using(crate::proofs::RightIndices::is_file))]
 fn is_file_right(right: FsRight) -> bool
     ensures { result ≡ files.is_file_right (fs_right right) }
 {

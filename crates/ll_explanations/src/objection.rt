@@ -28,7 +28,7 @@ pub enum Objection {
     },
     /// What is mounted stays as it is, since rights for files are handled.
     Mounting,
-    /// A right was missing on the file when the record at a place of the trace opened it.
+    /// A right was missing on the file when the record at an index of the trace opened it.
     Kept {
         right: FsRight,
         opened: u32,
@@ -40,7 +40,7 @@ pub enum Objection {
 pub struct LayerObjection {
     /// The layer's number, from 1 on.
     pub layer: u64,
-    /// The place in the trace of the record that made the layer.
+    /// The index in the trace of the record that made the layer.
     pub made: Option<u32>,
     /// What it objects to.
     pub objection: Objection,

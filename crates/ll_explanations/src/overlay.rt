@@ -3,29 +3,29 @@
 ghost use Rattle.std.specs.Prelude.{◌≡◌, option_map, slice_get};
 ghost use Rattle.ll_explanations.specs.Overlays.{change_at, overlay};
 
-use crate::places::Places;
+use crate::indices::Indices;
 
-/// The change at a place, if there is one.
-fn change_at<'a, T>(places: &Places, changes: &'a [T], place: usize) -> Option<&'a T>
-    ensures { option_map (λ one. one.now) result ≡ change_at place places.now changes.now }
+/// The change at an index, if there is one.
+fn change_at<'a, T>(indices: &Indices, changes: &'a [T], index: usize) -> Option<&'a T>
+    ensures { option_map (λ one. one.now) result ≡ change_at index indices.now changes.now }
 {
-    let index = places.find(place)?;
-    changes.get(index)
+    let position = indices.find(index)?;
+    changes.get(position)
 }
 
-/// What stands at a place of a base with changes.
+/// What stands at an index of a base with changes.
 #[tactic(auto, using(crate::proofs::Overlaying::nothing_there, crate::proofs::Overlaying::stays_there, crate::proofs::Overlaying::change_there))]
 pub(crate) fn overlaid<'a, T>(
     base: &'a [T],
-    places: &Places,
+    indices: &Indices,
     changes: &'a [T],
-    place: usize,
+    index: usize,
 ) -> Option<&'a T>
     ensures { option_map (λ one. one.now) result
-        ≡ slice_get (overlay base.now places.now changes.now) place }
+        ≡ slice_get (overlay base.now indices.now changes.now) index }
 {
-    let stays = base.get(place)?;
-    match change_at(places, changes, place) {
+    let stays = base.get(index)?;
+    match change_at(indices, changes, index) {
         Some(change) => Some(change),
         None => Some(stays),
     }

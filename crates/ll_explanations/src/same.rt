@@ -35,8 +35,8 @@ fn are_same_objections(all: &[LayerObjection], others: &[LayerObjection]) -> boo
     if all.len() != others.len() {
         return false;
     }
-    for (place, one) in all.iter().enumerate() {
-        if !is_same_objection(one, &others[place]) {
+    for (index, one) in all.iter().enumerate() {
+        if !is_same_objection(one, &others[index]) {
             return false;
         }
     }

@@ -30,43 +30,43 @@ const RECORDS_EACH: usize = 8;
 /// What is kept of the explanations of consecutive records, or that memory ran out.
 pub(crate) type Explaining = Result<Vec<SharedExplanation>, NoMemory>;
 
-/// What is kept of the explanation of the record at a place of a case.
+/// What is kept of the explanation of the record at an index of a case.
 pub(crate) fn explain_one(
     alloc: Global,
     case: &CaseView<'_>,
     trails: &TraceOrigins,
-    place: usize,
+    index: usize,
     answer: Answer,
     newer: Option<&Finding>,
 ) -> Result<SharedExplanation, NoMemory>
-    requires place { place < length case.now.records }
-    requires answer { IsAnswerAt case.now place answer }
-    requires trails { AreTrailsAt case.now place trails.now }
+    requires index { index < length case.now.records }
+    requires answer { IsAnswerAt case.now index answer }
+    requires trails { AreTrailsAt case.now index trails.now }
     ensures kept { IfOk result
-        (IsKept case.now.tree case.now.abi case.now.records place answer) }
-    ensures few { OnOk result (place < 2 ^ 32) }
+        (IsKept case.now.tree case.now.abi case.now.records index answer) }
+    ensures few { OnOk result (index < 2 ^ 32) }
 {
-    let explanation = explain(alloc, case, trails, place, answer)?;
-    let (op, _) = case.call(place);
+    let explanation = explain(alloc, case, trails, index, answer)?;
+    let (op, _) = case.call(index);
     let newer = match newer {
-        Some(newer) => newer.kept(place),
+        Some(newer) => newer.kept(index),
         None => None,
     };
     let kept = SharedExplanation::new(alloc, explanation, op, newer)?;
     Ok(kept)
 }
 
-/// The answer to the record at a place of a case.
-pub(crate) fn answer_at(case: &CaseView<'_>, answers: &[Answer], place: usize) -> Answer
+/// The answer to the record at an index of a case.
+pub(crate) fn answer_at(case: &CaseView<'_>, answers: &[Answer], index: usize) -> Answer
     requires judged { answers.now ≡ judged case.now.tree case.now.abi case.now.records }
-    requires within { place < length answers.now }
-    ensures answer { IsAnswerAt case.now place result }
-    ensures place { place < length case.now.records }
+    requires within { index < length answers.now }
+    ensures answer { IsAnswerAt case.now index result }
+    ensures index { index < length case.now.records }
 {
-    answers[place]
+    answers[index]
 }
 
-/// Follows the records of a case from a place on, up to another.
+/// Follows the records of a case from an index on, up to another.
 fn follow_to(
     alloc: Global,
     case: &CaseView<'_>,
@@ -81,13 +81,13 @@ fn follow_to(
     requires begins { AreTrailsAt case.now from trails.old }
     ensures { OnOk result (AreTrailsAt case.now end trails.new) }
 {
-    for place in from..end {
-        trails.follow(alloc, case, place, answer_at(case, answers, place))?;
+    for index in from..end {
+        trails.follow(alloc, case, index, answer_at(case, answers, index))?;
     }
     Ok(())
 }
 
-/// What is kept of the explanations of the records from a place on, up to another.
+/// What is kept of the explanations of the records from an index on, up to another.
 fn explain_from(
     alloc: Global,
     case: &CaseView<'_>,
@@ -105,12 +105,12 @@ fn explain_from(
 {
     let mut trails = trails;
     let mut all = Vec::with_capacity(alloc, end - from)?;
-    for place in from..end {
-        let answer = answer_at(case, answers, place);
-        let kept = explain_one(alloc, case, &trails, place, answer, newer)?;
+    for index in from..end {
+        let answer = answer_at(case, answers, index);
+        let kept = explain_one(alloc, case, &trails, index, answer, newer)?;
         all.reserve(1)?;
         all.push_reserved(kept);
-        trails.follow(alloc, case, place, answer_at(case, answers, place))?;
+        trails.follow(alloc, case, index, answer_at(case, answers, index))?;
     }
     Ok(all)
 }

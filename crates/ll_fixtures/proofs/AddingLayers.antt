@@ -12,7 +12,7 @@ pub layer_pushed : (tree : List Entry) (layers more : List (RulesOn ℕ)) (layer
     → All (AreInTree tree) layers → AreInTree tree layer → All (AreInTree tree) more
 layer_pushed tree layers more layer is all one = All-same (AreInTree tree) more _ is (All-push (AreInTree tree) layers layer all one)
 
--- the domain names places of the longer list, too
+-- the domain names indices of the longer list, too
 pub still_domain : (layers more : List (RulesOn ℕ)) (layer : RulesOn ℕ) (ids : List LayerId) → more ≡ layers ++ layer ∷ []
     → IsDomainOf layers ids → IsDomainOf more ids
 still_domain layers more layer ids is all = λ k d within. let here = all k d within in rw is (omega (arith, length-append layers (layer ∷ [])))

@@ -107,8 +107,8 @@ pub fn refusing<L: Refuses>(tree: &Tree, layers: &[L], node: NodeId, wanted: Fs)
     requires { IsNode tree.now node }
 {
     let mut refusing = [false; MOST_LAYERS];
-    for (place, layer) in refusing.iter_mut().zip(layers) {
-        *place = layer.refuses(tree, node, wanted);
+    for (mark, layer) in refusing.iter_mut().zip(layers) {
+        *mark = layer.refuses(tree, node, wanted);
     }
     refusing
 }

@@ -171,8 +171,8 @@ pub fn answer(tree: &Tree, layers: &[PlainLayer], attempt: &Attempt) -> Option<(
     requires onto { IsNode tree.now attempt.now.onto }
 {
     let mut denied = [false; MOST_LAYERS];
-    for (place, layer) in denied.iter_mut().zip(layers) {
-        *place = denies(tree, layer, attempt);
+    for (mark, layer) in denied.iter_mut().zip(layers) {
+        *mark = denies(tree, layer, attempt);
     }
     if denied.contains(&true) {
         return Some((Errno::Acces, denied));
@@ -181,8 +181,8 @@ pub fn answer(tree: &Tree, layers: &[PlainLayer], attempt: &Attempt) -> Option<(
         return None;
     }
     let mut held_back = [false; MOST_LAYERS];
-    for (place, layer) in held_back.iter_mut().zip(layers) {
-        *place = holds_back(tree, layer, attempt);
+    for (mark, layer) in held_back.iter_mut().zip(layers) {
+        *mark = holds_back(tree, layer, attempt);
     }
     if held_back.contains(&true) {
         return Some((Errno::XDev, held_back));

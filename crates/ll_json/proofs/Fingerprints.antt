@@ -28,8 +28,8 @@ by_answer tree records Moot (Some said) = refl
 by_answer tree records (Refused error numbers) None = refl
 by_answer tree records (Refused error numbers) (Some said) = refl
 
-pub told_by_answer : (explains : Bool) (tree : List Entry) (records : List Record) (finding : FindingValue) (place : ℕ)
-    → fingerprint_of 0 (verdict_text (verdict_of (answer_in finding place))) ≡ fingerprint_of answer_at (members_told explains tree records finding place)
+pub told_by_answer : (explains : Bool) (tree : List Entry) (records : List Record) (finding : FindingValue) (index : ℕ)
+    → fingerprint_of 0 (verdict_text (verdict_of (answer_in finding index))) ≡ fingerprint_of answer_at (members_told explains tree records finding index)
 unfolding Rattle.ll_json.specs.Rows.said_of
-told_by_answer true tree records finding place = by_answer tree records (answer_in finding place) (said_in records finding place)
-told_by_answer false tree records finding place = by_answer tree records (answer_in finding place) None
+told_by_answer true tree records finding index = by_answer tree records (answer_in finding index) (said_in records finding index)
+told_by_answer false tree records finding index = by_answer tree records (answer_in finding index) None

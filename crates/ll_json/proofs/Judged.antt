@@ -54,7 +54,7 @@ module _ (tree : List Entry) (later records : List Record) (are : AreTakenLater 
   objection_there (objecting.closed rights port) = refl
   objection_there (objecting.gained object rights directory) = refl
   objection_there objecting.mounting = refl
-  objection_there (objecting.kept right place) = rw (line_there later records are place, opened_there later records are place) refl
+  objection_there (objecting.kept right index) = rw (line_there later records are index, opened_there later records are index) refl
 
   opening_there : (before : ℕ) (one : LayerObjection) → opening later before one ≡ opening records before one
   unfolding opening
@@ -105,17 +105,17 @@ bare records layers Allowed = refl
 bare records layers Moot = refl
 bare records layers (Refused error numbers) = refl
 
-module _ (tree : List Entry) (version : Version) (place : ℕ) (r : Record) (answer : Answer)
-    (there : slice_get version.records place ≡ Some r) (answered : slice_get (judged tree version.abi version.records) place ≡ Some answer) where
-  pub members_are : (explains : Bool) → members_at explains tree version place ≡ members_with explains tree version place r answer
+module _ (tree : List Entry) (version : Version) (index : ℕ) (r : Record) (answer : Answer)
+    (there : slice_get version.records index ≡ Some r) (answered : slice_get (judged tree version.abi version.records) index ≡ Some answer) where
+  pub members_are : (explains : Bool) → members_at explains tree version index ≡ members_with explains tree version index r answer
   unfolding members_at
   members_are explains =
-      ap (λ (found : Option Record). members_of_both explains tree version place found (slice_get (judged tree version.abi version.records) place)) there
-      ∙ ap (λ (given : Option Answer). members_of_both explains tree version place (Some r) given) answered
+      ap (λ (found : Option Record). members_of_both explains tree version index found (slice_get (judged tree version.abi version.records) index)) there
+      ∙ ap (λ (given : Option Answer). members_of_both explains tree version index (Some r) given) answered
 
   module _ (later : List Record) (are : AreTakenLater later version.records) (finding : FindingValue) where
     abbrev layers : List ℕ
-    layers = (origins_at tree version.abi version.records place r.process.0).layers
+    layers = (origins_at tree version.abi version.records index r.process.0).layers
 
     -- what is written of a value that may say nothing
     value_means : (e : Explanation) → AreMade layers e
@@ -126,27 +126,27 @@ module _ (tree : List Entry) (version : Version) (place : ℕ) (r : Record) (ans
     ]
 
     explained : Finds true tree version.abi version.records finding
-        → members_tokens tree later answer (said_in later finding place) ≡ named_tokens (members_with true tree version place r answer)
+        → members_tokens tree later answer (said_in later finding index) ≡ named_tokens (members_with true tree version index r answer)
     explained finds =
-        let told = tells tree version.abi version.records later finding finds are place r answer there answered in
+        let told = tells tree version.abi version.records later finding finds are index r answer there answered in
         ap (members_tokens tree later answer) told.1 ∙ value_means told.0 told.2.made
         ∙ ap (λ (why : meant.Explanation). named_tokens (answer_members version.records layers answer why)) told.2.means
 
     members_told : (explains : Bool) → Finds explains tree version.abi version.records finding
-        → members_tokens tree later answer (if explains then said_in later finding place else None)
-        ≡ named_tokens (members_with explains tree version place r answer)
+        → members_tokens tree later answer (if explains then said_in later finding index else None)
+        ≡ named_tokens (members_with explains tree version index r answer)
     members_told true finds = explained finds
     members_told false finds = ap named_tokens (bare version.records layers answer)
 
-    answer_is : (explains : Bool) → Finds explains tree version.abi version.records finding → answer_in finding place ≡ answer
+    answer_is : (explains : Bool) → Finds explains tree version.abi version.records finding → answer_in finding index ≡ answer
     answer_is explains finds =
-        ap (λ (answers : List Answer). unwrap_or (slice_get answers place) Moot) finds.answers
+        ap (λ (answers : List Answer). unwrap_or (slice_get answers index) Moot) finds.answers
         ∙ ap (λ (given : Option Answer). unwrap_or given Moot) answered
 
     pub said_is : (explains : Bool) → Finds explains tree version.abi version.records finding
-        → said_of explains tree later place finding ≡ members_text (members_at explains tree version place)
+        → said_of explains tree later index finding ≡ members_text (members_at explains tree version index)
     unfolding said_of
     said_is explains finds =
         ap (λ (ts : List Token). print (ts ++ token.end_object ∷ []))
-        (ap (λ (given : Answer). members_tokens tree later given (if explains then said_in later finding place else None)) (answer_is explains finds)
+        (ap (λ (given : Answer). members_tokens tree later given (if explains then said_in later finding index else None)) (answer_is explains finds)
         ∙ members_told explains finds ∙ ap named_tokens (sym (members_are explains)))

@@ -9,7 +9,7 @@ use Rattle.ll_explain.proofs.Buffering.{adding_nothing}
 use Rattle.ll_report.specs.declared.options.Shown.{Shown}
 use Rattle.ll_report.specs.Made.{Made, row_at}
 use Rattle.ll_report.specs.Rows.{is_row_left_out}
-use Rattle.ll_report.proofs.Making.{length-rows, row_at_place}
+use Rattle.ll_report.proofs.Making.{length-rows, row_at_index}
 use Rattle.ll_report.specs.Versions.{answers_in}
 use Rattle.ll_json.specs.Rows.{json_made, line_of, row_text, said_of}
 
@@ -18,23 +18,23 @@ module _ (shown : Shown) (oldest : ℕ) (tree : List Entry) (records : List Reco
   pub as_many : length made.shown ≡ length records
   as_many = sym (ap (λ (m : Made). length m.shown) is) ∙ length-rows (row_text shown oldest tree records findings) 0 records
 
-  -- a place that has a row is among the records
-  pub among : (place : ℕ) → place < length made.shown → place < length records
-  among place below = subst (λ (n : ℕ). place < n) as_many below
+  -- an index that has a row is among the records
+  pub among : (index : ℕ) → index < length made.shown → index < length records
+  among index below = subst (λ (n : ℕ). index < n) as_many below
 
-  module _ (place : ℕ) (r : Record) (there : slice_get records place ≡ Some r) where
-    row_there : row_at made place ≡ row_text shown oldest tree records findings place r
+  module _ (index : ℕ) (r : Record) (there : slice_get records index ≡ Some r) where
+    row_there : row_at made index ≡ row_text shown oldest tree records findings index r
     row_there =
-        sym (ap (λ (m : Made). row_at m place) is)
-        ∙ row_at_place (row_text shown oldest tree records findings) place records r (json_made shown oldest tree records findings program).last there
+        sym (ap (λ (m : Made). row_at m index) is)
+        ∙ row_at_index (row_text shown oldest tree records findings) index records r (json_made shown oldest tree records findings program).last there
 
     abbrev line : List ℕ
-    line = line_of oldest r (map (said_of shown.explanations tree records place) findings)
+    line = line_of oldest r (map (said_of shown.explanations tree records index) findings)
 
-    pub nothing_added : (text : Buffered) → is_row_left_out shown (answers_in findings) place ≡ true → text ≡ adding text (row_at made place)
+    pub nothing_added : (text : Buffered) → is_row_left_out shown (answers_in findings) index ≡ true → text ≡ adding text (row_at made index)
     nothing_added text out =
         adding_nothing text ∙ ap (adding text) (sym (row_there ∙ ap (λ (b : Bool). if b then [] else line) out))
 
-    pub line_added : (text after : Buffered) → is_row_left_out shown (answers_in findings) place ≡ false → after ≡ adding text line
-        → after ≡ adding text (row_at made place)
+    pub line_added : (text after : Buffered) → is_row_left_out shown (answers_in findings) index ≡ false → after ≡ adding text line
+        → after ≡ adding text (row_at made index)
     line_added text after out added = added ∙ ap (adding text) (sym (row_there ∙ ap (λ (b : Bool). if b then [] else line) out))

@@ -45,36 +45,36 @@ abbrev HasOne : List Named → Type 0
 HasOne [] = ⊥
 HasOne (named ∷ more) = Unit {0}
 
-has_one : (explains : Bool) (tree : List Entry) (version : Version) (place : ℕ) (answer : Answer) (r : Record)
-    → HasOne (members_with explains tree version place r answer)
+has_one : (explains : Bool) (tree : List Entry) (version : Version) (index : ℕ) (answer : Answer) (r : Record)
+    → HasOne (members_with explains tree version index r answer)
 unfolding answer_members
-has_one explains tree version place Allowed r = tt
-has_one explains tree version place Moot r = tt
-has_one explains tree version place (Refused error layers) r = tt
+has_one explains tree version index Allowed r = tt
+has_one explains tree version index Moot r = tt
+has_one explains tree version index (Refused error layers) r = tt
 
 abbrev AllHaveOne : List (List Named) → Type 0
 AllHaveOne [] = Unit {0}
 AllHaveOne (members ∷ more) = HasOne members × AllHaveOne more
 
-module _ (shown : Shown) (tree : List Entry) (later : List Record) (place : ℕ) (below : place < length later) (d : Record) where
+module _ (shown : Shown) (tree : List Entry) (later : List Record) (index : ℕ) (below : index < length later) (d : Record) where
   version_says : (version : Version) (finding : FindingValue) → IsFound shown.explanations tree later version finding
-      → (said_of shown.explanations tree later place finding ≡ members_text (members_at shown.explanations tree version place))
-      × HasOne (members_at shown.explanations tree version place)
+      → (said_of shown.explanations tree later index finding ≡ members_text (members_at shown.explanations tree version index))
+      × HasOne (members_at shown.explanations tree version index)
   version_says version finding found =
-      let within : place < length version.records = subst (λ (n : ℕ). place < n) (length_all_zip _ later version.records found.taken) below in
-      let r = get_or version.records place d in
-      let answer = get_or (judged tree version.abi version.records) place Moot in
-      let there : slice_get version.records place ≡ Some r = slice_get-get_or version.records place d within in
-      let answered : slice_get (judged tree version.abi version.records) place ≡ Some answer =
-      slice_get-get_or (judged tree version.abi version.records) place Moot
-      (subst (λ (n : ℕ). place < n) (sym (length-judged tree version.abi version.records)) within) in (
-        said_is tree version place r answer there answered later found.taken finding shown.explanations found.finds,
-        subst HasOne (sym (members_are tree version place r answer there answered shown.explanations)) (has_one shown.explanations tree version place answer r),
+      let within : index < length version.records = subst (λ (n : ℕ). index < n) (length_all_zip _ later version.records found.taken) below in
+      let r = get_or version.records index d in
+      let answer = get_or (judged tree version.abi version.records) index Moot in
+      let there : slice_get version.records index ≡ Some r = slice_get-get_or version.records index d within in
+      let answered : slice_get (judged tree version.abi version.records) index ≡ Some answer =
+      slice_get-get_or (judged tree version.abi version.records) index Moot
+      (subst (λ (n : ℕ). index < n) (sym (length-judged tree version.abi version.records)) within) in (
+        said_is tree version index r answer there answered later found.taken finding shown.explanations found.finds,
+        subst HasOne (sym (members_are tree version index r answer there answered shown.explanations)) (has_one shown.explanations tree version index answer r),
       )
 
   each_says : (versions : List Version) (findings : List FindingValue) → AreFound shown.explanations tree later versions findings
-      → (map (said_of shown.explanations tree later place) findings ≡ map members_text (said_under shown tree versions place))
-      × AllHaveOne (said_under shown tree versions place)
+      → (map (said_of shown.explanations tree later index) findings ≡ map members_text (said_under shown tree versions index))
+      × AllHaveOne (said_under shown tree versions index)
   each_says [] [] found = (refl, tt)
   each_says [] (finding ∷ others) found = absurd found
   each_says (version ∷ newer) [] found = absurd found
@@ -234,18 +234,18 @@ answered_alike shown tree later (version ∷ newer) (finding ∷ others) found =
 
 module _ (shown : Shown) (tree : List Entry) (later : List Record) (versions : List Version) (findings : List FindingValue)
     (found : AreFound shown.explanations tree later versions findings) where
-  answers_are : (place : ℕ) → answers_said (answers_in findings) place ≡ answers_said (found_of shown tree versions) place
-  answers_are place =
-      ap (λ (founds : List Found). answers_said founds place) (answered_alike shown tree later versions findings found)
-      ∙ map_map (λ (one : Found). verdict_text (verdict_of (answer_at one place))) bare (found_of shown tree versions)
+  answers_are : (index : ℕ) → answers_said (answers_in findings) index ≡ answers_said (found_of shown tree versions) index
+  answers_are index =
+      ap (λ (founds : List Found). answers_said founds index) (answered_alike shown tree later versions findings found)
+      ∙ map_map (λ (one : Found). verdict_text (verdict_of (answer_at one index))) bare (found_of shown tree versions)
 
-  refused_are : (place : ℕ) → is_refused_under_some (answers_in findings) place ≡ is_refused_under_some (found_of shown tree versions) place
-  refused_are place =
-      ap (λ (founds : List Found). is_refused_under_some founds place) (answered_alike shown tree later versions findings found)
-      ∙ any_map (λ (one : Found). is_refused (verdict_of (answer_at one place))) bare (found_of shown tree versions)
+  refused_are : (index : ℕ) → is_refused_under_some (answers_in findings) index ≡ is_refused_under_some (found_of shown tree versions) index
+  refused_are index =
+      ap (λ (founds : List Found). is_refused_under_some founds index) (answered_alike shown tree later versions findings found)
+      ∙ any_map (λ (one : Found). is_refused (verdict_of (answer_at one index))) bare (found_of shown tree versions)
 
-  some_are : (place : ℕ) → some_refuses findings place ≡ is_refused_under_some (found_of shown tree versions) place
-  some_are place = sym (refused_alone findings place) ∙ refused_are place
+  some_are : (index : ℕ) → some_refuses findings index ≡ is_refused_under_some (found_of shown tree versions) index
+  some_are index = sym (refused_alone findings index) ∙ refused_are index
 
   totals_are : (oldest : ℕ) → totals_from oldest (answers_in findings) ≡ totals_from oldest (found_of shown tree versions)
   totals_are oldest = ap (totals_from oldest) (answered_alike shown tree later versions findings found) ∙ bare_totals oldest (found_of shown tree versions)
@@ -254,25 +254,25 @@ module _ (shown : Shown) (tree : List Entry) (later : List Record) (versions : L
 
 module _ (shown : Shown) (oldest : ℕ) (tree : List Entry) (versions : List Version) (later : List Record) (findings : List FindingValue)
     (found : AreFound shown.explanations tree later versions findings) where
-  row_is : (place : ℕ) (r : Record) → place < length later
-      → row_text shown oldest tree later findings place r ≡ row_line shown tree oldest versions place r
-  row_is place r below =
-      let said : List (List Named) = said_under shown tree versions place in
-      let each = each_says shown tree later place below r versions findings found in
+  row_is : (index : ℕ) (r : Record) → index < length later
+      → row_text shown oldest tree later findings index r ≡ row_line shown tree oldest versions index r
+  row_is index r below =
+      let said : List (List Named) = said_under shown tree versions index in
+      let each = each_says shown tree later index below r versions findings found in
       let spans : List Span = spans_of oldest (map members_text said) in
       ap₂ (λ (out : Bool) (line : List ℕ). if out then [] else line)
-      (rw (refused_are shown tree later versions findings found place, answers_are shown tree later versions findings found place) refl)
+      (rw (refused_are shown tree later versions findings found index, answers_are shown tree later versions findings found index) refl)
       (ap (line_of oldest r) each.0
       ∙ sym (line_printed r (answers_json oldest said) (separated false spans) (separated_is oldest said false spans (fit_all oldest said each.1))))
 
-  pub rows_are : (place : ℕ) (records : List Record) → place + length records ≤ length later
-      → flat_map (λ (row : List ℕ). row) (rows_of (row_text shown oldest tree later findings) place records)
-      ≡ lines_from shown tree oldest versions place records
+  pub rows_are : (index : ℕ) (records : List Record) → index + length records ≤ length later
+      → flat_map (λ (row : List ℕ). row) (rows_of (row_text shown oldest tree later findings) index records)
+      ≡ lines_from shown tree oldest versions index records
   unfolding rows_of lines_from
-  rows_are place [] fits = refl
-  rows_are place (r ∷ others) fits =
-      next_rows (row_text shown oldest tree later findings) place r others
-      ∙ ap₂ (λ (line rest : List ℕ). line ++ rest) (row_is place r (omega (arith, fits))) (rows_are (place + 1) others (omega (arith, fits)))
+  rows_are index [] fits = refl
+  rows_are index (r ∷ others) fits =
+      next_rows (row_text shown oldest tree later findings) index r others
+      ∙ ap₂ (λ (line rest : List ℕ). line ++ rest) (row_is index r (omega (arith, fits))) (rows_are (index + 1) others (omega (arith, fits)))
 
   pub report_is : (program : List ℕ) → IsJsonReport shown tree oldest versions later program (record {
     text = text_of (json_made shown oldest tree later findings program);
@@ -287,16 +287,16 @@ module _ (shown : Shown) (oldest : ℕ) (tree : List Entry) (versions : List Ver
 
 -- ---- records of which the same is told
 
-pub same_lines : (shown : Shown) (tree : List Entry) (oldest : ℕ) (versions : List Version) (place : ℕ) (records others : List Record)
-    → map about records ≡ map about others → lines_from shown tree oldest versions place records ≡ lines_from shown tree oldest versions place others
+pub same_lines : (shown : Shown) (tree : List Entry) (oldest : ℕ) (versions : List Version) (index : ℕ) (records others : List Record)
+    → map about records ≡ map about others → lines_from shown tree oldest versions index records ≡ lines_from shown tree oldest versions index others
 unfolding lines_from
-same_lines shown tree oldest versions place [] [] same = refl
-same_lines shown tree oldest versions place [] (other ∷ others) same = absurd (omega (arith, ap length same))
-same_lines shown tree oldest versions place (r ∷ records) [] same = absurd (omega (arith, ap length same))
-same_lines shown tree oldest versions place (r ∷ records) (other ∷ others) same =
+same_lines shown tree oldest versions index [] [] same = refl
+same_lines shown tree oldest versions index [] (other ∷ others) same = absurd (omega (arith, ap length same))
+same_lines shown tree oldest versions index (r ∷ records) [] same = absurd (omega (arith, ap length same))
+same_lines shown tree oldest versions index (r ∷ records) (other ∷ others) same =
     let first : about r ≡ about other = cc in
     let later : map about records ≡ map about others = cc in
     let line : ℕ × ℕ × List ℕ → List ℕ =
-    λ (of : ℕ × ℕ × List ℕ). if is_row_left_out shown (found_of shown tree versions) place then []
-    else line_text (record_of of (answers_json oldest (said_under shown tree versions place))) in
-    ap₂ (λ (told : ℕ × ℕ × List ℕ) (rest : List ℕ). line told ++ rest) first (same_lines shown tree oldest versions (place + 1) records others later)
+    λ (of : ℕ × ℕ × List ℕ). if is_row_left_out shown (found_of shown tree versions) index then []
+    else line_text (record_of of (answers_json oldest (said_under shown tree versions index))) in
+    ap₂ (λ (told : ℕ × ℕ × List ℕ) (rest : List ℕ). line told ++ rest) first (same_lines shown tree oldest versions (index + 1) records others later)

@@ -65,26 +65,26 @@ record_of told answers = object_of ((codes "line", whole told.0) ∷ (codes "pid
 abbrev pub record_json : Record → List Json → Json
 record_json r answers = record_of (about r) answers
 
--- ---- what a version answers to the record at a place of its trace
+-- ---- what a version answers to the record at an index of its trace
 
 abbrev pub explained_if : Bool → Explanation → Explanation
 explained_if explains why = if explains then why else nothing
 
 -- with the explanation, or without
 abbrev pub members_with : Bool → List Entry → Version → ℕ → Record → Answer → List Named
-members_with explains tree version place r answer =
-    answer_members version.records (origins_at tree version.abi version.records place r.process.0).layers answer
-    (explained_if explains (explained_at tree version.abi version.records place r answer))
+members_with explains tree version index r answer =
+    answer_members version.records (origins_at tree version.abi version.records index r.process.0).layers answer
+    (explained_if explains (explained_at tree version.abi version.records index r answer))
 
 -- where there is a record with an answer
 abbrev pub members_of_both : Bool → List Entry → Version → ℕ → Option Record → Option Answer → List Named
-members_of_both explains tree version place (Some r) (Some answer) = members_with explains tree version place r answer
-members_of_both explains tree version place (Some r) None = []
-members_of_both explains tree version place None answer = []
+members_of_both explains tree version index (Some r) (Some answer) = members_with explains tree version index r answer
+members_of_both explains tree version index (Some r) None = []
+members_of_both explains tree version index None answer = []
 
 unfoldable pub members_at : Bool → List Entry → Version → ℕ → List Named
-members_at explains tree version place =
-    members_of_both explains tree version place (slice_get version.records place) (slice_get (judged tree version.abi version.records) place)
+members_at explains tree version index =
+    members_of_both explains tree version index (slice_get version.records index) (slice_get (judged tree version.abi version.records) index)
 
 -- All that unfolds when answers are printed, with what they say.
 unfoldable pub printing : Unit {0}

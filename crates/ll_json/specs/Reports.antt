@@ -17,25 +17,25 @@ use Rattle.ll_json.specs.Judged.{Version}
 
 -- ---- the lines of records
 
--- what each version answers to the record at a place, with its explanation where these are shown
+-- what each version answers to the record at an index, with its explanation where these are shown
 abbrev pub said_under : Shown → List Entry → List Version → ℕ → List (List Named)
-said_under shown tree versions place = map (λ version. members_at shown.explanations tree version place) versions
+said_under shown tree versions index = map (λ version. members_at shown.explanations tree version index) versions
 
 -- what is found under each version
 abbrev pub found_of : Shown → List Entry → List Version → List Found
 found_of shown tree versions = map (λ version. found_under shown tree version.records version.abi) versions
 
--- the line of the record at a place; those records are left out that the report's text leaves out
+-- the line of the record at an index; those records are left out that the report's text leaves out
 abbrev pub row_line : Shown → List Entry → ℕ → List Version → ℕ → Record → List ℕ
-row_line shown tree oldest versions place r =
-    if is_row_left_out shown (found_of shown tree versions) place then []
-    else line_text (record_json r (answers_json oldest (said_under shown tree versions place)))
+row_line shown tree oldest versions index r =
+    if is_row_left_out shown (found_of shown tree versions) index then []
+    else line_text (record_json r (answers_json oldest (said_under shown tree versions index)))
 
--- the lines of records, the first of which is at a place of the trace
+-- the lines of records, the first of which is at an index of the trace
 unfoldable pub lines_from : Shown → List Entry → ℕ → List Version → ℕ → List Record → List ℕ
-lines_from shown tree oldest versions place [] = []
-lines_from shown tree oldest versions place (r ∷ others) =
-    row_line shown tree oldest versions place r ++ lines_from shown tree oldest versions (place + 1) others
+lines_from shown tree oldest versions index [] = []
+lines_from shown tree oldest versions index (r ∷ others) =
+    row_line shown tree oldest versions index r ++ lines_from shown tree oldest versions (index + 1) others
 
 -- ---- the totals
 

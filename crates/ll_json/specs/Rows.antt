@@ -29,14 +29,14 @@ abbrev pub members_tokens : List Entry → List Record → Answer → Option (Op
 members_tokens tree records answer None = named_tokens (plain_members answer)
 members_tokens tree records answer (Some said) = answer_tokens tree records said.0 answer said.1
 
--- the same of the record at a place, to the end of the object
+-- the same of the record at an index, to the end of the object
 abbrev pub said_tokens : Bool → List Entry → List Record → ℕ → FindingValue → List Token
-said_tokens explains tree records place finding =
-    members_tokens tree records (answer_in finding place) (if explains then said_in records finding place else None) ++ token.end_object ∷ []
+said_tokens explains tree records index finding =
+    members_tokens tree records (answer_in finding index) (if explains then said_in records finding index else None) ++ token.end_object ∷ []
 
 -- printed
 unfoldable pub said_of : Bool → List Entry → List Record → ℕ → FindingValue → List ℕ
-said_of explains tree records place finding = print (said_tokens explains tree records place finding)
+said_of explains tree records index finding = print (said_tokens explains tree records index finding)
 
 -- ---- the answers of neighbouring versions
 
@@ -68,11 +68,11 @@ head_tokens r =
 abbrev pub line_of : ℕ → Record → List (List ℕ) → List ℕ
 line_of oldest r said = print (head_tokens r) ++ (separated false (spans_of oldest said) ++ codes "]}\n")
 
--- the row of the record at a place
+-- the row of the record at an index
 abbrev pub row_text : Shown → ℕ → List Entry → List Record → List FindingValue → ℕ → Record → List ℕ
-row_text shown oldest tree records findings place r =
-    if is_row_left_out shown (answers_in findings) place then []
-    else line_of oldest r (map (said_of shown.explanations tree records place) findings)
+row_text shown oldest tree records findings index r =
+    if is_row_left_out shown (answers_in findings) index then []
+    else line_of oldest r (map (said_of shown.explanations tree records index) findings)
 
 -- what a report is made of, over versions of which the oldest has this number
 abbrev pub json_made : Shown → ℕ → List Entry → List Record → List FindingValue → List ℕ → Made

@@ -12,21 +12,21 @@ use Rattle.ll_explanations.specs.Findings as findings
 use Rattle.ll_explanations.specs.declared.explained.Explained.{Explained}
 use Rattle.ll_json.specs.Rows.{members_tokens, said_of}
 
--- the place of the first letter of an answer's word, behind the name of its member
+-- the index of the first letter of an answer's word, behind the name of its member
 abbrev pub answer_at : ℕ
 answer_at = 10
 
 abbrev pub members_told : Bool → List Entry → List Record → FindingValue → ℕ → List ℕ
-members_told explains tree records finding place = said_of explains tree records place finding
+members_told explains tree records finding index = said_of explains tree records index finding
 
 -- findings that answer and explain a record by the same values are told alike
-pub members_by_value : (explains : Bool) (tree : List Entry) (records : List Record) (one other : FindingValue) (place : ℕ)
-    → answer_in one place ≡ answer_in other place → kept_at one place ≡ kept_at other place
-    → members_told explains tree records one place ≡ members_told explains tree records other place
+pub members_by_value : (explains : Bool) (tree : List Entry) (records : List Record) (one other : FindingValue) (index : ℕ)
+    → answer_in one index ≡ answer_in other index → kept_at one index ≡ kept_at other index
+    → members_told explains tree records one index ≡ members_told explains tree records other index
 unfolding said_of
-members_by_value true tree records one other place answered explained =
+members_by_value true tree records one other index answered explained =
     ap₂ (λ (answer : Answer) (kept : Option Explained).
-    print (members_tokens tree records answer (findings.said_by (slice_get records place) kept) ++ token.end_object ∷ []))
+    print (members_tokens tree records answer (findings.said_by (slice_get records index) kept) ++ token.end_object ∷ []))
     answered explained
-members_by_value false tree records one other place answered explained =
+members_by_value false tree records one other index answered explained =
     ap (λ (answer : Answer). print (members_tokens tree records answer None ++ token.end_object ∷ [])) answered

@@ -32,21 +32,21 @@ port_rights_json rights = words_json network.name_of rights
 
 -- ---- what layers object to
 
--- What a descriptor's file lacked is missing on the path that the record at a place opened, whose line is told.
+-- What a descriptor's file lacked is missing on the path that the record at an index opened, whose line is told.
 unfoldable pub objection_json : List Record → Objection → Json
 objection_json records (missing rights path) = object_of ((codes "missing", rights_json rights) ∷ (codes "on", path_json path) ∷ [])
 objection_json records (closed rights port) = object_of ((codes "closed", port_rights_json rights) ∷ (codes "port", whole port) ∷ [])
 objection_json records (gained object rights directory) = object_of ((codes "gains", rights_json rights) ∷ (codes "object", path_json object) ∷ (codes "in", path_json directory) ∷ [])
 objection_json records mounting = object_of ((codes "mounting", boolean true) ∷ [])
-objection_json records (kept right place) =
-    object_of ((codes "missing", rights_json (right ∷ [])) ∷ (codes "on", string (path_opened (slice_get records place))) ∷ (codes "opened", whole (line_of (slice_get records place))) ∷ [])
+objection_json records (kept right index) =
+    object_of ((codes "missing", rights_json (right ∷ [])) ∷ (codes "on", string (path_opened (slice_get records index))) ∷ (codes "opened", whole (line_of (slice_get records index))) ∷ [])
 
 -- all that a layer objects to, with its number and the line of the record that made it
 abbrev pub layer_with : List Record → Option ℕ → ℕ → List Objection → Json
 layer_with records made number objections =
     object_of ((codes "layer", whole number) ∷ (codes "line", whole (line_of (option_and_then (slice_get records) made))) ∷ (codes "objections", array_of (map (objection_json records) objections)) ∷ [])
 
--- where the layers of the process were made by the records at these places
+-- where the layers of the process were made by the records at these indices
 unfoldable pub layer_json : List Record → List ℕ → ℕ × List Objection → Json
 layer_json records layers said = layer_with records (slice_get layers (said.0 - 1)) said.0 said.1
 

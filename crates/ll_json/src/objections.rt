@@ -75,11 +75,11 @@ fn write_mounting(out: &mut JsonText)
     out.end_object();
 }
 
-/// The path that the record at a place opens, or no text if it opens none.
-fn path_opened(records: &[Record], place: u32) -> &str
-    ensures { result.now ≡ spec.path_opened (slice_get records.now place) }
+/// The path that the record at an index opens, or no text if it opens none.
+fn path_opened(records: &[Record], index: u32) -> &str
+    ensures { result.now ≡ spec.path_opened (slice_get records.now index) }
 {
-    match records.get(place as usize) {
+    match records.get(index as usize) {
         None => "",
         Some(record) => match &record.op {
             Op::OpenFile { path, .. } => path.as_str(),
@@ -99,7 +99,7 @@ fn write_right_as(out: &mut JsonText, name: &str, right: FsRight)
     out.end_array();
 }
 
-/// Writes members that are the path that the record at a place opens, and its line.
+/// Writes members that are the path that the record at an index opens, and its line.
 fn write_opened(out: &mut JsonText, records: &[Record], opened: u32)
     ensures { out.new ≡ writing out.old
         (token.key (codes "on") ∷ token.string (spec.path_opened (slice_get records.now opened))

@@ -71,15 +71,15 @@ impl<'p> Rows for JsonRows<'p> {
         self.located.trace.records().len()
     }
 
-    fn push_row(&mut self, text: &mut TextBuffer, place: usize) {
+    fn push_row(&mut self, text: &mut TextBuffer, index: usize) {
         let Located { tree, trace, .. } = &self.located;
         let records = trace.records();
-        let found = &records[place];
+        let found = &records[index];
         let sayings = Sayings {
             tree,
             records,
             findings: &self.findings,
-            place,
+            index,
         };
         if is_left_out(self.shown, &sayings, &mut self.scratch) {
             return;

@@ -48,7 +48,7 @@ fn push_line_as<T: Telling>(
     oldest: u64,
 )
     requires few { oldest + length sayings.now.findings.now < 2 ^ 64 }
-    requires comparable { AreComparable T.byte_at scratch.old sayings.now.place
+    requires comparable { AreComparable T.byte_at scratch.old sayings.now.index
         (said_by T.told sayings.now) }
     ensures text { text.new
         ≡ adding text.old (line_of oldest found.now (said_by T.told sayings.now)) }
@@ -69,7 +69,7 @@ pub(crate) fn push_line(
     explains: bool,
 )
     requires few { oldest + length sayings.now.findings.now < 2 ^ 64 }
-    requires comparable { AreComparable answer_at scratch.old sayings.now.place
+    requires comparable { AreComparable answer_at scratch.old sayings.now.index
         (said_by (members_told explains) sayings.now) }
     ensures text { text.new ≡ adding text.old
         (line_of oldest found.now (said_by (members_told explains) sayings.now)) }

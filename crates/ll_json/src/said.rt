@@ -33,18 +33,18 @@ fn write_members(
     }
 }
 
-/// The call and the explanation of the record at a place, if explanations are shown and there is one.
+/// The call and the explanation of the record at an index, if explanations are shown and there is one.
 fn explained_if<'f>(
     explains: bool,
     finding: &'f Finding,
     records: &'f [Record],
-    place: usize,
+    index: usize,
 ) -> Option<(&'f Op, &'f Explanation)>
     ensures { option_map (λ said. (said.0.now, said.1.now)) result
-        ≡ (if explains then said_in records.now finding.now place else None) }
+        ≡ (if explains then said_in records.now finding.now index else None) }
 {
     if explains {
-        finding.explained(records, place)
+        finding.explained(records, index)
     } else {
         None
     }
@@ -53,10 +53,10 @@ fn explained_if<'f>(
 /// Writes what a version says of the record, to the end of the object.
 fn write_said(out: &mut JsonText, explains: bool, saying: &Saying<'_>)
     ensures { out.new ≡ writing out.old (said_tokens explains saying.now.tree.now
-        saying.now.records.now saying.now.place saying.now.finding.now) }
+        saying.now.records.now saying.now.index saying.now.finding.now) }
 {
-    let said = explained_if(explains, saying.finding, saying.records, saying.place);
-    let answer = saying.finding.answer(saying.place);
+    let said = explained_if(explains, saying.finding, saying.records, saying.index);
+    let answer = saying.finding.answer(saying.index);
     write_members(out, saying, answer, said);
     out.end_object();
 }
@@ -65,7 +65,7 @@ fn write_said(out: &mut JsonText, explains: bool, saying: &Saying<'_>)
 #[tactic(auto, using(crate::proofs::Printed::printed), unfolding(crate::specs::Rows::said_of))]
 fn push_said(text: &mut TextBuffer, explains: bool, saying: &Saying<'_>)
     ensures { text.new ≡ adding text.old (said_of explains saying.now.tree.now
-        saying.now.records.now saying.now.place saying.now.finding.now) }
+        saying.now.records.now saying.now.index saying.now.finding.now) }
 {
     let mut out = JsonText::behind(text.take());
     write_said(&mut out, explains, saying);
@@ -90,7 +90,7 @@ impl Telling for Members {
     }
 
     fn fingerprint(saying: &Saying<'_>) -> u64 {
-        verdict_fingerprint(saying.finding.answer(saying.place))
+        verdict_fingerprint(saying.finding.answer(saying.index))
     }
 }
 
@@ -106,6 +106,6 @@ impl Telling for BareMembers {
     }
 
     fn fingerprint(saying: &Saying<'_>) -> u64 {
-        verdict_fingerprint(saying.finding.answer(saying.place))
+        verdict_fingerprint(saying.finding.answer(saying.index))
     }
 }

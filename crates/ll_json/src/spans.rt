@@ -46,7 +46,7 @@ fn push_range(text: &mut TextBuffer, behind: bool, first: u64, last: u64)
     push_words(text, ",");
 }
 
-/// Adds the answer of the versions from the first to the last, which is that of a version by its place among all. It
+/// Adds the answer of the versions from the first to the last, which is that of a version by its index among all. It
 /// is behind another answer, unless it is that of the oldest version.
 fn push_span<T: Telling>(
     text: &mut TextBuffer,
@@ -88,7 +88,7 @@ pub(crate) fn push_answers<T: Telling>(
     oldest: u64,
 )
     requires few { oldest + length sayings.now.findings.now < 2 ^ 64 }
-    requires comparable { AreComparable T.byte_at scratch.old sayings.now.place
+    requires comparable { AreComparable T.byte_at scratch.old sayings.now.index
         (said_by T.told sayings.now) }
     ensures text { text.new
         ≡ adding text.old (separated false (spans_of oldest (said_by T.told sayings.now))) }

@@ -8,7 +8,7 @@ use Rattle.std.proofs.lemmas.List.Splits.{slice_split-cons_yes, slice_split-cons
 use Rattle.memchr.specs.Find.{NoneBefore, Nowhere, Passes, is_byte}
 use Rattle.ll_lines.specs.Paths.{is_slash}
 
--- no slash stands below the place
+-- no slash stands before the end
 abbrev NoSlash : List ℕ → ℕ → Type 0
 NoSlash bytes end = (k : ℕ) → k < end → eqb (slice_index bytes k) 47 ≡ true → ⊥
 

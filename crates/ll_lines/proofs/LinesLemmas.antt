@@ -11,7 +11,7 @@ use Rattle.std.proofs.lemmas.List.Elements.{filter-append}
 use Rattle.std.proofs.lemmas.List.Sums.{sum_by-cons}
 use Rattle.std.proofs.Math.Seq.{drop-cons}
 
--- the byte is no line feed where none is below the place
+-- the byte is no line feed where none is below it
 abbrev pub NoLineFeed : List ℕ → ℕ → Type 0
 NoLineFeed bytes end = (k : ℕ) → k < end → eqb (slice_index bytes k) 10 ≡ true → ⊥
 
@@ -105,7 +105,7 @@ filled-append n front after =
     ∙ (filter-append kept (numbered_from n first) (numbered_from (n + length first) (lines after))
     ∙ ap (λ m. filter kept (numbered_from n first) ++ filter kept (numbered_from (n + m) (lines after))) (length-lines front)))
 
--- as the code says it: the first line feed of what is behind a place
+-- as the code says it: the first line feed of what is behind an index
 pub filled-cut : (bytes : List ℕ) (from end n : ℕ) → from ≤ length bytes
     → NoneBefore (Passes (is_byte 10) (take (length bytes - from) (drop from bytes))) 0 (length (take (length bytes - from) (drop from bytes))) end
     → Passes (is_byte 10) (take (length bytes - from) (drop from bytes)) end → filled_from n bytes ≡ filled_from n (take (from + end + 1) bytes)

@@ -100,11 +100,11 @@ impl<'a> FilledLines<'a> {
         Ok(parts)
     }
 
-    /// The lines up to the one with the byte at this place, and the lines after it.
-    fn cut(self, place: usize) -> (FilledLines<'a>, FilledLines<'a>)
+    /// The lines up to the one with the byte at this index, and the lines after it.
+    fn cut(self, index: usize) -> (FilledLines<'a>, FilledLines<'a>)
         ensures { self.entry ≡ result.0 ++ result.1 }
     {
-        let (part, rest) = cut_behind_line(self.rest, place);
+        let (part, rest) = cut_behind_line(self.rest, index);
         let others = FilledLines {
             number: self.number + count_line_feeds(part),
             rest,
@@ -155,14 +155,14 @@ fn cut_line(bytes: &[u8]) -> (&[u8], &[u8])
     }
 }
 
-/// The bytes up to the end of the line with the byte at this place, with its line feed,
+/// The bytes up to the end of the line with the byte at this index, with its line feed,
 /// and the bytes after them.
-fn cut_behind_line(bytes: &[u8], place: usize) -> (&[u8], &[u8])
+fn cut_behind_line(bytes: &[u8], index: usize) -> (&[u8], &[u8])
     ensures lines { (n : ℕ) → filled_from n bytes.now
         ≡ filled_from n result.0.now ++ filled_from (n + line_feeds result.0.now) result.1.now }
     ensures whole { length result.0.now + length result.1.now ≡ length bytes.now }
 {
-    let from = place.min(bytes.len());
+    let from = index.min(bytes.len());
     match memchr(LINE_FEED, &bytes[from..]) {
         Some(end) => bytes.split_at(from + end + 1),
         None => (bytes, &[]),

@@ -47,7 +47,7 @@ rest_unescaped line front rest is all = all_parts is_unescaped front rest (ap (l
 pub unescaped_behind : (line rest : List ℕ) (mark : ℕ) → line ≡ mark ∷ rest → IsUnescaped line → IsUnescaped rest
 unescaped_behind line rest mark is all = rest_unescaped line (mark ∷ []) rest is all
 
--- no quote stands below the place
+-- no quote stands before the end
 abbrev NoQuote : List ℕ → ℕ → Type 0
 NoQuote bytes end = (k : ℕ) → k < end → (slice_index bytes k == 34) ≡ true → ⊥
 

@@ -99,30 +99,30 @@ named key =
     if bytes_eq key (codes "driver") then Some Driver else (
     None)))))))))))))))))))
 
--- the place of a name's slot
-unfoldable pub place : Name → ℕ
-place Op = 0
-place Pid = 1
-place Child = 2
-place Rs = 3
-place Fs = 4
-place Net = 5
-place Path = 6
-place From = 7
-place To = 8
-place Port = 9
-place Fd = 10
-place Mode = 11
-place Create = 12
-place Trunc = 13
-place Kind = 14
-place Exchange = 15
-place Nnp = 16
-place Admin = 17
-place Driver = 18
+-- the number of a name's slot
+unfoldable pub slot_of : Name → ℕ
+slot_of Op = 0
+slot_of Pid = 1
+slot_of Child = 2
+slot_of Rs = 3
+slot_of Fs = 4
+slot_of Net = 5
+slot_of Path = 6
+slot_of From = 7
+slot_of To = 8
+slot_of Port = 9
+slot_of Fd = 10
+slot_of Mode = 11
+slot_of Create = 12
+slot_of Trunc = 13
+slot_of Kind = 14
+slot_of Exchange = 15
+slot_of Nnp = 16
+slot_of Admin = 17
+slot_of Driver = 18
 
 abbrev pub slot_at : Members → Name → Slot
-slot_at members name = get_or members.slots (place name) Missing
+slot_at members name = get_or members.slots (slot_of name) Missing
 
 -- rights, and what one more value of a list stands for, by what its text is
 abbrev pub with_text : Option Rights → Result (List ℕ) Cause → Option Rights

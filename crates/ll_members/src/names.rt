@@ -1,15 +1,15 @@
 //! The names of members, and the slot of each.
 
 ghost use Rattle.std.specs.Prelude.{◌≡◌, ◌<◌, length, slice_set, IfSome};
-ghost use Rattle.ll_members.specs.Slots.{spelt, named, place, slot_at, AreMissing, Keeps};
+ghost use Rattle.ll_members.specs.Slots.{spelt, named, slot_of, slot_at, AreMissing, Keeps};
 
 use crate::row::{Members, NAMES, Name, Slot};
 
 impl Name {
-    /// The place of the name's slot.
-    #[tactic(auto, unfolding(crate::specs::Slots::place))]
-    fn place(self) -> usize
-        ensures place { result ≡ place self }
+    /// The number of the name's slot.
+    #[tactic(auto, unfolding(crate::specs::Slots::slot_of))]
+    fn slot(self) -> usize
+        ensures number { result ≡ slot_of self }
         ensures fits { result < 19 }
     {
         match self {
@@ -81,15 +81,15 @@ impl<'l> Members<'l> {
     pub(crate) fn at(&self, name: Name) -> Slot<'l>
         ensures { result ≡ slot_at self.now name }
     {
-        self.slots[name.place()]
+        self.slots[name.slot()]
     }
 
     /// Keeps what there is of a member.
     fn put(&mut self, name: Name, slot: Slot<'l>)
-        ensures put { self.new.slots ≡ slice_set self.old.slots (place name) slot.entry }
+        ensures put { self.new.slots ≡ slice_set self.old.slots (slot_of name) slot.entry }
         ensures size { length self.old.slots ≡ 19 }
     {
-        self.slots[name.place()] = slot;
+        self.slots[name.slot()] = slot;
     }
 
     /// Keeps a value under the name that its key is, where it is one.

@@ -17,12 +17,12 @@ use Rattle.ll_process.specs.Judging.{answer_at, answers_of}
 use Rattle.ll_process.specs.Cases.{CaseValue, IsCase, own_answers}
 use Rattle.ll_semantics.proofs.Steps.{length-judged}
 use Rattle.ll_trace.proofs.Numbers.{numbered_below, count-all}
-use Rattle.ll_trace.proofs.OwnRecords.{own_place, own_record, stands_at}
+use Rattle.ll_trace.proofs.OwnRecords.{own_index, own_record, stands_at}
 use Rattle.ll_pool.specs.Gathered.{ArePiecesOf, processes_in, answers_of_pieces, placed}
 use Rattle.ll_trace.proofs.EachOnce.{times-append, times-cons, times-nil, times-same, times-other}
 use Rattle.ll_pool.proofs.Placing.{length-placed}
 
--- ---- places
+-- ---- indices
 
 own_within : (records : List Record) (p : ℕ) → All (λ (k : ℕ). k < length records) (own_records records p)
 own_within records p =
@@ -41,9 +41,9 @@ all_within cv [] = All-nil (λ (part : ℕ × Answer). part.0 < length cv.record
 all_within cv (p ∷ ps) =
     All-append (λ (part : ℕ × Answer). part.0 < length cv.records) (own_answers cv p) (flat_map (own_answers cv) ps) (answers_within cv p) (all_within cv ps)
 
-pub all_places : (cv : CaseValue) (piece : Piece) (n : ℕ) → piece.case.now ≡ cv → length cv.records ≡ n
+pub all_indices : (cv : CaseValue) (piece : Piece) (n : ℕ) → piece.case.now ≡ cv → length cv.records ≡ n
     → All (λ (part : ℕ × Answer). part.0 < n) piece.answers.items
-all_places cv piece n its len =
+all_indices cv piece n its len =
     All-same (λ (part : ℕ × Answer). part.0 < n) piece.answers.items (flat_map (own_answers piece.case.now) (numbers piece.processes.items)) piece.answered
     (λ i d within. omega (arith, all_within piece.case.now (numbers piece.processes.items) i d within, ap (λ (m : CaseValue). length m.records) its, len))
 
@@ -73,7 +73,7 @@ stands_often k (x ∷ xs) (suc j) eq = omega (arith, times-cons k x xs, stands_o
 
 own_has : (records : List Record) (k : ℕ) (r : Record) → slice_get records k ≡ Some r → 0 < times k (own_records records r.process.0)
 own_has records k r eq =
-    let (j, there) = own_place records r.process.0 k r eq refl in
+    let (j, there) = own_index records r.process.0 k r eq refl in
     stands_often k (own_records records r.process.0) j there
 
 flat_has : (f : ℕ → List ℕ) (k p : ℕ) (ps : List ℕ) → 0 < times p ps → 0 < times k (f p) → 0 < times k (flat_map f ps)

@@ -12,7 +12,7 @@ use Rattle.ll_pool.specs.declared.queue.TheConstants.{PARTS}
 use Rattle.ll_pool.specs.declared.queue.Ledger.{Ledger}
 use Rattle.ll_pool.specs.Rule.{ledger, Fits, IsFair}
 
--- ---- lists read by place
+-- ---- lists read by index
 
 at_within : (l : List Ledger) (i : ℕ) (a : Ledger) → get_elem? l i ≡ some a → i < length l
 at_within [] i a e = absurd (some-ne-none a (sym e))

@@ -18,7 +18,7 @@ ArePiecesOf case pieces = All (λ piece. piece.case.now ≡ case) pieces
 unfoldable pub processes_in : List Piece → List ℕ
 processes_in pieces = flat_map (λ piece. numbers piece.processes.items) pieces
 
--- the places of records in pieces, each with its answer
+-- the indices of records in pieces, each with its answer
 unfoldable pub answers_of_pieces : List Piece → List (ℕ × Answer)
 answers_of_pieces pieces = flat_map (λ piece. piece.answers.items) pieces
 

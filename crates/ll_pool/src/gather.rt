@@ -85,8 +85,8 @@ fn count(seen: &mut Vec<u8>, processes: &[ProcessId])
         ≡ min 255 (slice_index seen.old.items process + times process (numbers processes.now)) }
 {
     for process in processes {
-        let place = process.0 as usize;
-        seen[place] = seen[place].saturating_add(1);
+        let index = process.0 as usize;
+        seen[index] = seen[index].saturating_add(1);
     }
 }
 
@@ -135,7 +135,7 @@ fn first_absent(seen: &[u8]) -> Option<u32>
 }
 
 /// Puts answers in their places.
-fn place(answers: &mut Vec<Answer>, parts: &[(u32, Answer)])
+fn put_answers(answers: &mut Vec<Answer>, parts: &[(u32, Answer)])
     requires { All (λ part. part.0 < vec_len answers.old) parts.now }
     ensures len { length answers.new.items ≡ length answers.old.items }
     ensures placed { answers.new.items ≡ placed parts.now answers.old.items }
@@ -155,7 +155,7 @@ fn assemble(alloc: Global, case: &Case, pieces: &[Piece<'_>]) -> Result<Vec<Answ
 {
     let mut answers = vec![in alloc; Answer::Moot; case.trace().records().len()]?;
     for piece in pieces {
-        place(&mut answers, piece.answers());
+        put_answers(&mut answers, piece.answers());
     }
     Ok(answers)
 }

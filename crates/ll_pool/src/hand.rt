@@ -69,8 +69,8 @@ pub(crate) struct Pool<'s, 'c, N: Naming, R, G> {
 impl<'s, 'c, N: Naming, R, G> Pool<'s, 'c, N, R, G> {
     /// The job of this process goes to the queue when its parent forks it.
     fn is_cut(&self, process: ProcessId) -> bool {
-        let place = process.0 as usize;
-        place < self.cut.len() && self.cut[place]
+        let index = process.0 as usize;
+        index < self.cut.len() && self.cut[index]
     }
 }
 

@@ -90,11 +90,11 @@ taken_at_best_effort abi (r ∷ rs) = (one_at_best_effort abi r, taken_at_best_e
 
 pub ruleset takes_later = (taken_as_they_are, taken_again, taken_at_best_effort)
 
--- the record at a place, as it is taken later
-pub later_there : (later records : List Record) → AreTakenLater later records → (place : ℕ) (r : Record) → slice_get records place ≡ Some r
-    → (l : Record) × (slice_get later place ≡ Some l) × IsTakenLater l r
-later_there [] [] are place r is = absurd (none-some r is)
-later_there [] (x ∷ xs) are place r is = absurd are
-later_there (l ∷ ls) [] are place r is = absurd are
+-- the record at an index, as it is taken later
+pub later_there : (later records : List Record) → AreTakenLater later records → (index : ℕ) (r : Record) → slice_get records index ≡ Some r
+    → (l : Record) × (slice_get later index ≡ Some l) × IsTakenLater l r
+later_there [] [] are index r is = absurd (none-some r is)
+later_there [] (x ∷ xs) are index r is = absurd are
+later_there (l ∷ ls) [] are index r is = absurd are
 later_there (l ∷ ls) (x ∷ xs) are zero r is = (l, refl, subst (IsTakenLater l) (same_Some x r is) are.0)
-later_there (l ∷ ls) (x ∷ xs) are (suc place) r is = later_there ls xs are.1 place r is
+later_there (l ∷ ls) (x ∷ xs) are (suc index) r is = later_there ls xs are.1 index r is

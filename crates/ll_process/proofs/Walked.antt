@@ -24,7 +24,7 @@ module _ (cv : CaseValue) (process : ℕ) where
   abbrev with_answer : ℕ → ℕ × Answer
   with_answer k = (k, answer_at cv.tree cv.abi cv.records k)
 
-  -- The own records before place j were walked: what was there before, with all that the process answers and forks, is what there is now with what the rest
+  -- The own records before index j were walked: what was there before, with all that the process answers and forks, is what there is now with what the rest
   -- answers and forks.
   pub record Walked (j : ℕ) (own : OwnState) (answers_before answers : List (ℕ × Answer)) (kept_before kept : List ℕ) (todo_then todo : List Job) : Type 0 where
     pub meets : (i : ℕ) → slice_get (own_records cv.records process) j ≡ Some i → Meets cv i process own
@@ -50,11 +50,11 @@ module _ (cv : CaseValue) (process : ℕ) where
 
   module _ (j : ℕ) (items : List ℕ) (is : items ≡ own_records cv.records process) where
     -- the record that the walk is at
-    pub place_now : j < length items → slice_get (own_records cv.records process) j ≡ Some (get_or items j 0)
-    place_now within = rw (← is) (slice_get-get_or items j 0 within)
+    pub index_now : j < length items → slice_get (own_records cv.records process) j ≡ Some (get_or items j 0)
+    index_now within = rw (← is) (slice_get-get_or items j 0 within)
 
     pub own_now : j < length items → IsOwn cv (get_or items j 0) process
-    own_now within = own_record cv.records process j (get_or items j 0) (place_now within)
+    own_now within = own_record cv.records process j (get_or items j 0) (index_now within)
 
     pub walked_more : (given : Answer) (own own_after : OwnState) (answers_before answers : List (ℕ × Answer)) (kept_before kept kept_after : List ℕ)
         (todo_before todo todo_after : List Job) → IsCase cv → j < length items →
@@ -68,7 +68,7 @@ module _ (cv : CaseValue) (process : ℕ) where
         let rest : drop j (own_records cv.records process) ≡ i ∷ drop (j + 1) (own_records cv.records process) = rw (← is) (drop_more items j 0 within) in
         record {
           meets =
-              λ k next. rw (met_next cv.tree cv.abi cv.records process j i k case.numbered (place_now within)
+              λ k next. rw (met_next cv.tree cv.abi cv.records process j i k case.numbered (index_now within)
               (let more : suc j ≡ j + 1 = omega arith in rw more next)) leaves;
           answered = rw (append_assoc, told) (rw rest at walked.answered);
           shared = λ weight. omega (

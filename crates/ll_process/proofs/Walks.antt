@@ -11,7 +11,7 @@ use Rattle.ll_semantics.specs.Answers.{answer}
 use Rattle.ll_semantics.specs.Worlds.{answer_in, judged}
 use Rattle.ll_semantics.specs.CallContexts.{world_at, state_after}
 use Rattle.ll_trace.specs.Processes.{is_start, process_count, own_records, IsNumbered}
-use Rattle.ll_process.specs.Judging.{place_met, state_met, state_left, answer_at}
+use Rattle.ll_process.specs.Judging.{index_met, state_met, state_left, answer_at}
 use Rattle.ll_semantics.proofs.Steps.{world_at-more, judged-at, step-other, step-own, count-world_at, answer-start, state_after-start}
 use Rattle.ll_trace.proofs.Numbers.{count-le, count-started, StartedAt, numbered_below, not_own_before}
 use Rattle.ll_trace.proofs.OwnRecords.{stands_at, own_record, own_rising, first_own, next_own}
@@ -40,14 +40,14 @@ pub met_at_start : (tree : List Entry) (abi : Abi) (records : List Record) (i p 
     → state_met tree abi records i p ≡ (world_at tree abi records (i + 1)).processes p
 unfolding state_met
 met_at_start tree abi records i p r eq starts =
-    let after : place_met i (slice_get records i) ≡ i + 1 = rw (eq, starts) refl in
+    let after : index_met i (slice_get records i) ≡ i + 1 = rw (eq, starts) refl in
     ap (λ (n : ℕ). (world_at tree abi records n).processes p) after
 
 pub met_going_on : (tree : List Entry) (abi : Abi) (records : List Record) (i p : ℕ) (r : Record) → slice_get records i ≡ Some r → is_start r.op ≡ false
     → state_met tree abi records i p ≡ (world_at tree abi records i).processes p
 unfolding state_met
 met_going_on tree abi records i p r eq goes =
-    let before : place_met i (slice_get records i) ≡ i = rw (eq, goes) refl in
+    let before : index_met i (slice_get records i) ≡ i = rw (eq, goes) refl in
     ap (λ (n : ℕ). (world_at tree abi records n).processes p) before
 
 -- the answer of the fold is that of the state which the record meets

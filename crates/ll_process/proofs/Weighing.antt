@@ -44,19 +44,19 @@ pub child_below : (records : List Record) (i : ℕ) (r : Record) → slice_get r
     → process_count (take i records) < process_count records
 child_below records i r eq forks = omega (arith, count-started records i r eq (fork-starts r.op forks), count-all records (suc i))
 
--- a power above the weights of a process's children from a place on
+-- a power above the weights of a process's children from an index on
 abbrev Covers : List Record → ℕ → ℕ → ℕ → ℕ → Type 0
 Covers records b p n e = (n ≤ e + p) ⊎ (n + 1 ≤ e + process_count (take b records))
 
--- records from a place on
-abbrev FromPlace : List Record → ℕ → List Record → Type 0
-FromPlace records b rs = (k : ℕ) → slice_get rs k ≡ slice_get records (b + k)
+-- records from an index on
+abbrev FromIndex : List Record → ℕ → List Record → Type 0
+FromIndex records b rs = (k : ℕ) → slice_get rs k ≡ slice_get records (b + k)
 
-at_place : (records : List Record) (b : ℕ) (r : Record) (rs : List Record) → FromPlace records b (r ∷ rs) → slice_get records b ≡ Some r
-at_place records b r rs from = (let same : b ≡ b + 0 = omega arith in ap (λ n. slice_get records n) same) ∙ sym (from 0)
+at_index : (records : List Record) (b : ℕ) (r : Record) (rs : List Record) → FromIndex records b (r ∷ rs) → slice_get records b ≡ Some r
+at_index records b r rs from = (let same : b ≡ b + 0 = omega arith in ap (λ n. slice_get records n) same) ∙ sym (from 0)
 
-next_place : (records : List Record) (b : ℕ) (r : Record) (rs : List Record) → FromPlace records b (r ∷ rs) → FromPlace records (b + 1) rs
-next_place records b r rs from k = from (suc k) ∙ (let same : b + suc k ≡ b + 1 + k = omega arith in ap (λ n. slice_get records n) same)
+next_index : (records : List Record) (b : ℕ) (r : Record) (rs : List Record) → FromIndex records b (r ∷ rs) → FromIndex records (b + 1) rs
+next_index records b r rs from k = from (suc k) ∙ (let same : b + suc k ≡ b + 1 + k = omega arith in ap (λ n. slice_get records n) same)
 
 covers_next : (records : List Record) (b p n e : ℕ) → Covers records b p n e → Covers records (b + 1) p n e
 covers_next records b p n e (inl by_process) = inl by_process
@@ -76,14 +76,14 @@ child_and_rest : (n c e s : ℕ) → c < n → n + 1 ≤ e + c → ((d : ℕ) �
 child_and_rest n c zero s below covered less = absurd (omega arith)
 child_and_rest n c (suc e) s below covered less = halves n c e s covered (less e (omega arith))
 
-pub children_weigh : (records rs : List Record) (b p n e : ℕ) → IsNumbered records → FromPlace records b rs → process_count records ≤ n → Covers records b p n e
+pub children_weigh : (records rs : List Record) (b p n e : ℕ) → IsNumbered records → FromIndex records b rs → process_count records ≤ n → Covers records b p n e
     → sum_by (weight n) (filter_map (forked_at records) (own_from p b rs)) < 2 ^ e
 children_weigh records [] b p n e numbered from all covers =
     subst (λ (xs : List ℕ). sum_by (weight n) (filter_map (forked_at records) xs) < 2 ^ e) (sym (own_from-nil p b)) (pow_pos e)
 children_weigh records (r ∷ rs) b p n e numbered from all covers =
-    let eq : slice_get records b ≡ Some r = at_place records b r rs from in
+    let eq : slice_get records b ≡ Some r = at_index records b r rs from in
     let rest : (d : ℕ) → Covers records (b + 1) p n d → sum_by (weight n) (filter_map (forked_at records) (own_from p (b + 1) rs)) < 2 ^ d =
-    λ d covered. children_weigh records rs (b + 1) p n d numbered (next_place records b r rs from) all covered in
+    λ d covered. children_weigh records rs (b + 1) p n d numbered (next_index records b r rs from) all covered in
     elim (cases_Bool (r.process.0 == p)) [
       | inr other ↦
           subst (λ (xs : List ℕ). sum_by (weight n) (filter_map (forked_at records) xs) < 2 ^ e) (sym (own_from-no p b r rs (eqb-false r.process.0 p other)))

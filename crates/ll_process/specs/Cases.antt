@@ -37,6 +37,6 @@ AgreesIn case own s = Agrees case.tree case.layers own s
 abbrev pub BeginsAs : CaseValue → ℕ → OwnState → Type 0
 BeginsAs case process own = (k : ℕ) → started_at case.records k ≡ Some process → AgreesIn case own (state_left case.tree case.abi case.records k process)
 
--- the answers to a process's own records, with their places
+-- the answers to a process's own records, with their indices
 abbrev pub own_answers : CaseValue → ℕ → List (ℕ × Answer)
 own_answers case process = answers_of case.tree case.abi case.records process

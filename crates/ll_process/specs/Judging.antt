@@ -11,14 +11,14 @@ use Rattle.ll_semantics.specs.CallContexts.{world_at}
 use Rattle.ll_semantics.specs.Worlds.{judged}
 use Rattle.ll_trace.specs.Processes.{is_start, own_records}
 
--- the place in the trace from which a record finds its process as it is: a start finds it as it begins
-abbrev pub place_met : ℕ → Option Record → ℕ
-place_met k None = k
-place_met k (Some r) = if is_start r.op then k + 1 else k
+-- the index in the trace from which a record finds its process as it is: a start finds it as it begins
+abbrev pub index_met : ℕ → Option Record → ℕ
+index_met k None = k
+index_met k (Some r) = if is_start r.op then k + 1 else k
 
 -- the state that a record finds its process in
 unfoldable pub state_met : List Entry → Abi → List Record → ℕ → ℕ → State
-state_met tree abi records k process = (world_at tree abi records (place_met k (slice_get records k))).processes process
+state_met tree abi records k process = (world_at tree abi records (index_met k (slice_get records k))).processes process
 
 -- the state that a record leaves a process in
 unfoldable pub state_left : List Entry → Abi → List Record → ℕ → ℕ → State
@@ -28,6 +28,6 @@ state_left tree abi records k process = (world_at tree abi records (k + 1)).proc
 unfoldable pub answer_at : List Entry → Abi → List Record → ℕ → Answer
 answer_at tree abi records k = unwrap_or (slice_get (judged tree abi records) k) Moot
 
--- a process's own records by their places, each with its answer
+-- a process's own records by their indices, each with its answer
 unfoldable pub answers_of : List Entry → Abi → List Record → ℕ → List (ℕ × Answer)
 answers_of tree abi records process = map (λ k. (k, answer_at tree abi records k)) (own_records records process)

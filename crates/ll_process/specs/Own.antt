@@ -7,11 +7,11 @@ use Rattle.ll_semantics.specs.CallContexts.{CallContext, world_at}
 use Rattle.ll_process.specs.Cases.{CaseValue, AgreesIn}
 use Rattle.ll_process.specs.Judging.{state_met, state_left}
 
--- the record at a place is the process's own
+-- the record at an index is the process's own
 abbrev pub IsOwn : CaseValue → ℕ → ℕ → Type 0
 IsOwn case index process = (r : Record) × (slice_get case.records index ≡ Some r) × (r.process.0 ≡ process)
 
--- what a process has by itself is what its record at a place meets
+-- what a process has by itself is what its record at an index meets
 abbrev pub Meets : CaseValue → ℕ → ℕ → OwnState → Type 0
 Meets case index process own = AgreesIn case own (state_met case.tree case.abi case.records index process)
 
@@ -19,7 +19,7 @@ Meets case index process own = AgreesIn case own (state_met case.tree case.abi c
 abbrev pub Leaves : CaseValue → ℕ → ℕ → OwnState → Type 0
 Leaves case index process own = AgreesIn case own (state_left case.tree case.abi case.records index process)
 
--- what the record at a place meets
+-- what the record at an index meets
 abbrev pub context_at : CaseValue → ℕ → ℕ → CallContext
 context_at case index process = record {
   tree = case.tree;

@@ -8,7 +8,7 @@ use Rattle.ll_trace.specs.declared.op.Record.{Record}
 use Rattle.ll_trace.specs.BestEffort.{names_rights}
 use Rattle.ll_process.specs.TakenLater.{is_of_rights}
 
--- calls by the places of their records
+-- calls by the indices of their records
 abbrev pub Calls : Type 0
 Calls = BTreeMap ℕ Op
 
@@ -19,20 +19,20 @@ right_call (Some r) = if names_rights r.op then Some r.op else None
 
 -- these are the calls of some records that name rights
 abbrev pub AreCallsOf : List Record → Calls → Type 0
-AreCallsOf records calls = (place : ℕ) → get nat_cmp calls place ≡ right_call (slice_get records place)
+AreCallsOf records calls = (index : ℕ) → get nat_cmp calls index ≡ right_call (slice_get records index)
 
 -- each of these is of rights
 abbrev pub AreOfRights : Calls → Type 0
-AreOfRights calls = (place : ℕ) (op : Op) → get nat_cmp calls place ≡ Some op → is_of_rights op ≡ true
+AreOfRights calls = (index : ℕ) (op : Op) → get nat_cmp calls index ≡ Some op → is_of_rights op ≡ true
 
--- the call of the record at a place as it was, by what an older version has made of it
+-- the call of the record at an index as it was, by what an older version has made of it
 abbrev pub call_before : Calls → ℕ → Op → Op
-call_before calls place op = if is_of_rights op then unwrap_or (get nat_cmp calls place) op else op
+call_before calls index op = if is_of_rights op then unwrap_or (get nat_cmp calls index) op else op
 
 abbrev pub record_before : Calls → ℕ → Record → Record
-record_before calls place r = record r { op = call_before calls place r.op }
+record_before calls index r = record r { op = call_before calls index r.op }
 
--- the same of all records from a place on
+-- the same of all records from an index on
 unfoldable pub records_before : Calls → ℕ → List Record → List Record
-records_before calls place [] = []
-records_before calls place (r ∷ others) = record_before calls place r ∷ records_before calls (suc place) others
+records_before calls index [] = []
+records_before calls index (r ∷ others) = record_before calls index r ∷ records_before calls (suc index) others

@@ -14,23 +14,23 @@ const TOGETHER: usize = 16;
 #[derive(Clone, Copy)]
 pub(crate) struct Ahead<'c> {
     pub(crate) case: &'c Case,
-    pub(crate) places: &'c [u32],
+    pub(crate) indices: &'c [u32],
     from: usize,
     end: usize,
     forks: bool,
-    ghost within: { All (λ place. place < length case.now.records) places.now },
-    ghost calm: { forks ≡ false → (at place : ℕ) → from ≤ at → at < end
-        → slice_get places.now at ≡ Some place → forked_at case.now.records place ≡ None },
+    ghost within: { All (λ index. index < length case.now.records) indices.now },
+    ghost calm: { forks ≡ false → (at index : ℕ) → from ≤ at → at < end
+        → slice_get indices.now at ≡ Some index → forked_at case.now.records index ≡ None },
 }
 
-/// Whether one of the records at these places forks.
-fn forks_among(case: &Case, places: &[u32]) -> bool
-    requires { All (λ place. place < length case.now.records) places.now }
-    ensures { result ≡ false → (at place : ℕ) → slice_get places.now at ≡ Some place
-        → forked_at case.now.records place ≡ None }
+/// Whether one of the records at these indices forks.
+fn forks_among(case: &Case, indices: &[u32]) -> bool
+    requires { All (λ index. index < length case.now.records) indices.now }
+    ensures { result ≡ false → (at index : ℕ) → slice_get indices.now at ≡ Some index
+        → forked_at case.now.records index ≡ None }
 {
-    for place in places {
-        if case.child_at(*place).is_some() {
+    for index in indices {
+        if case.child_at(*index).is_some() {
             return true;
         }
     }
@@ -38,15 +38,15 @@ fn forks_among(case: &Case, places: &[u32]) -> bool
 }
 
 impl<'c> Ahead<'c> {
-    /// Nothing is known of the records at these places.
-    pub(crate) fn new(case: &'c Case, places: &'c [u32]) -> Ahead<'c>
-        requires { All (λ place. place < length case.now.records) places.now }
+    /// Nothing is known of the records at these indices.
+    pub(crate) fn new(case: &'c Case, indices: &'c [u32]) -> Ahead<'c>
+        requires { All (λ index. index < length case.now.records) indices.now }
         ensures case { result.case.now ≡ case.now }
-        ensures places { result.places.now ≡ places.now }
+        ensures indices { result.indices.now ≡ indices.now }
     {
         Ahead {
             case,
-            places,
+            indices,
             from: 0,
             end: 0,
             forks: false,
@@ -55,28 +55,29 @@ impl<'c> Ahead<'c> {
 
     /// What is known from the record at a position on.
     fn from(self, from: usize) -> Ahead<'c>
-        requires { from < length self.places.now }
+        requires { from < length self.indices.now }
         ensures case { result.case.now ≡ self.entry.case.now }
-        ensures places { result.places.now ≡ self.entry.places.now }
+        ensures indices { result.indices.now ≡ self.entry.indices.now }
         ensures there { (result.from ≤ from) × (from < result.end) }
     {
-        let end = (self.places.len() - from).min(TOGETHER) + from;
+        let end = (self.indices.len() - from).min(TOGETHER) + from;
         Ahead {
             case: self.case,
-            places: self.places,
+            indices: self.indices,
             from,
             end,
-            forks: forks_among(self.case, &self.places[from..end]),
+            forks: forks_among(self.case, &self.indices[from..end]),
         }
     }
 
-    /// Whether the record at a position of the places may fork; if not, it forks none.
+    /// Whether the record at a position of the indices may fork; if not, it forks none.
     pub(crate) fn may_fork(&mut self, at: usize) -> bool
-        requires { at < length self.old.places.now }
+        requires { at < length self.old.indices.now }
         ensures case { self.new.case.now ≡ self.old.case.now }
-        ensures places { self.new.places.now ≡ self.old.places.now }
-        ensures known { result ≡ false → (place : ℕ) → slice_get self.old.places.now at ≡ Some place
-            → forked_at self.old.case.now.records place ≡ None }
+        ensures indices { self.new.indices.now ≡ self.old.indices.now }
+        ensures known { result ≡ false → (index : ℕ)
+            → slice_get self.old.indices.now at ≡ Some index
+            → forked_at self.old.case.now.records index ≡ None }
     {
         if at < self.from || at >= self.end {
             *self = self.from(at);

@@ -170,7 +170,7 @@ impl Case {
         &self.layers
     }
 
-    /// The record at a place.
+    /// The record at an index.
     pub(crate) fn record(&self, index: usize) -> &Record
         requires { index < length self.now.records }
         ensures at { slice_get self.now.records index ≡ Some result.now }
@@ -179,7 +179,7 @@ impl Case {
         &self.trace.records()[index]
     }
 
-    /// What the rulebook says of the record at a place.
+    /// What the rulebook says of the record at an index.
     pub fn outcome(&self, index: usize) -> &RulesetOutcome
         requires { index < length self.now.records }
         ensures { slice_get self.now.outcomes index ≡ Some result.now }
@@ -187,7 +187,7 @@ impl Case {
         &self.outcomes[index]
     }
 
-    /// The place of the first path of the record at a place, if it is known.
+    /// The place of the first path of the record at an index, if it is known.
     pub fn known_place(&self, index: usize) -> Option<Place>
         ensures { IfSome result (λ one. (r : OneRecord) → slice_get self.now.records index ≡ Some r
             → one ≡ first_place self.now.tree r.op) }
@@ -195,17 +195,17 @@ impl Case {
         self.places.get(index).copied()
     }
 
-    /// The places of a process's own records.
+    /// The indices of a process's own records.
     pub(crate) fn own_records(&self, process: ProcessId) -> &[u32]
         requires { process.0 < process_count self.now.records }
-        ensures places { result.now ≡ own_records self.now.records process.0 }
-        ensures within { All (λ place. place < length self.now.records) result.now }
+        ensures indices { result.now ≡ own_records self.now.records process.0 }
+        ensures within { All (λ index. index < length self.now.records) result.now }
         ensures case { IsCase self.now }
     {
         self.trace().records_of(process)
     }
 
-    /// The child that the record at a place forks, if it forks one.
+    /// The child that the record at an index forks, if it forks one.
     pub(crate) fn child_at(&self, index: u32) -> Option<ProcessId>
         requires { index < length self.now.records }
         ensures child { option_map (λ child. child.0) result ≡ forked_at self.now.records index }

@@ -96,9 +96,9 @@ fn judge_own<'c, H: Hand<'c>>(
         mut own,
         ..
     } = job;
-    let places = case.own_records(process);
-    let mut ahead = Ahead::new(case, places);
-    for (at, index) in places.iter().enumerate() {
+    let indices = case.own_records(process);
+    let mut ahead = Ahead::new(case, indices);
+    for (at, index) in indices.iter().enumerate() {
         let forks = ahead.may_fork(at);
         judge_record(case, process, *index, forks, &mut own, hand, todo, answers)?;
     }

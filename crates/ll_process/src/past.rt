@@ -13,7 +13,7 @@ use std::alloc::{AllocError, Global};
 use std::collections::BTreeMap;
 
 /// What is kept of a case once an older version takes its trace, which may change the calls that name rights: its own
-/// version, its rulebook, and those calls as they were, by the places of their records.
+/// version, its rulebook, and those calls as they were, by the indices of their records.
 #[derive(Drop)]
 pub struct PastCase {
     pub(crate) abi: Abi,
@@ -38,46 +38,46 @@ fn is_of_rights(op: &Op) -> bool
     )
 }
 
-/// The calls of a trace that name rights, by the places of their records.
+/// The calls of a trace that name rights, by the indices of their records.
 pub(crate) fn calls_of_rights(alloc: Global, trace: &Trace) -> Result<BTreeMap<u32, Op>, AllocError>
     ensures { IfOk result (AreCallsOf trace.now) }
 {
     let mut calls = BTreeMap::new(alloc);
-    for place in trace.rights() {
-        if let Some(op) = call_of_rights(alloc, trace.records(), *place)? {
-            keep(&mut calls, *place, op)?;
+    for index in trace.rights() {
+        if let Some(op) = call_of_rights(alloc, trace.records(), *index)? {
+            keep(&mut calls, *index, op)?;
         }
     }
     Ok(calls)
 }
 
-/// The call of the record at a place, if there is one that names rights.
-fn call_of_rights(alloc: Global, records: &[Record], place: u32) -> Result<Option<Op>, AllocError>
-    ensures { IfOk result (λ call. call ≡ right_call (slice_get records.now place)) }
+/// The call of the record at an index, if there is one that names rights.
+fn call_of_rights(alloc: Global, records: &[Record], index: u32) -> Result<Option<Op>, AllocError>
+    ensures { IfOk result (λ call. call ≡ right_call (slice_get records.now index)) }
 {
-    match records.get(place as usize) {
+    match records.get(index as usize) {
         Some(record) => record.op.copy_if_naming_rights(alloc),
         None => Ok(None),
     }
 }
 
-/// Keeps the call of the record at a place.
-fn keep(calls: &mut BTreeMap<u32, Op>, place: u32, op: Op) -> Result<(), AllocError>
-    ensures { OnOk result (Updates nat_cmp calls.old calls.new place (Some op)) }
+/// Keeps the call of the record at an index.
+fn keep(calls: &mut BTreeMap<u32, Op>, index: u32, op: Op) -> Result<(), AllocError>
+    ensures { OnOk result (Updates nat_cmp calls.old calls.new index (Some op)) }
 {
-    calls.insert(place, op)?;
+    calls.insert(index, op)?;
     Ok(())
 }
 
 impl PastCase {
-    /// The call of the record at a place as it was, by what it is now.
-    pub(crate) fn call<'p>(&'p self, place: u32, op: &'p Op) -> &'p Op
-        ensures { result.now ≡ call_before self.now.calls place op.now }
+    /// The call of the record at an index as it was, by what it is now.
+    pub(crate) fn call<'p>(&'p self, index: u32, op: &'p Op) -> &'p Op
+        ensures { result.now ≡ call_before self.now.calls index op.now }
     {
         if !is_of_rights(op) {
             return op;
         }
-        match self.calls.get(&place) {
+        match self.calls.get(&index) {
             Some(before) => before,
             None => op,
         }

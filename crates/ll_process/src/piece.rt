@@ -11,7 +11,7 @@ use ll_semantics::Answer;
 use ll_trace::ProcessId;
 
 /// Some processes of a case, with the answers to their records: one process after another, each
-/// record by its place in the trace, with the answer that it has in the whole trace.
+/// record by its index in the trace, with the answer that it has in the whole trace.
 #[derive(Drop)]
 pub struct Piece<'c> {
     pub(crate) case: &'c Case,
@@ -31,7 +31,7 @@ impl<'c> Piece<'c> {
         &self.processes
     }
 
-    /// The places of their records, each with its answer.
+    /// The indices of their records, each with its answer.
     pub fn answers(&self) -> &[(u32, Answer)]
         ensures { result.now ≡ self.now.answers.items }
     {

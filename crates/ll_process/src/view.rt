@@ -103,54 +103,54 @@ impl<'c> CaseView<'c> {
         self.case.trace().processes()
     }
 
-    /// The call of the record at a place, and the process that makes it.
-    pub fn call(&self, place: usize) -> (&Op, ProcessId)
-        requires { place < length self.now.records }
-        ensures op { (r : OneRecord) → slice_get self.now.records place ≡ Some r
+    /// The call of the record at an index, and the process that makes it.
+    pub fn call(&self, index: usize) -> (&Op, ProcessId)
+        requires { index < length self.now.records }
+        ensures op { (r : OneRecord) → slice_get self.now.records index ≡ Some r
             → result.0.now ≡ r.op }
-        ensures process { (r : OneRecord) → slice_get self.now.records place ≡ Some r
+        ensures process { (r : OneRecord) → slice_get self.now.records index ≡ Some r
             → result.1 ≡ r.process }
         ensures few { length self.now.records ≤ MOST_RECORDS }
         ensures case { IsCase self.now }
     {
         let records = self.records;
-        let record = &records[place];
+        let record = &records[index];
         let op = match self.past {
-            Some(past) => past.call(place as u32, &record.op),
+            Some(past) => past.call(index as u32, &record.op),
             None => &record.op,
         };
         (op, record.process)
     }
 
-    /// The call of the record at a place, if there is one.
-    pub fn op(&self, place: usize) -> Option<&Op>
+    /// The call of the record at an index, if there is one.
+    pub fn op(&self, index: usize) -> Option<&Op>
         ensures { option_map (λ op. op.now) result
-            ≡ option_map (λ r. r.op) (slice_get self.now.records place) }
+            ≡ option_map (λ r. r.op) (slice_get self.now.records index) }
     {
-        if place >= self.count() {
+        if index >= self.count() {
             return None;
         }
-        let (op, _) = self.call(place);
+        let (op, _) = self.call(index);
         Some(op)
     }
 
-    /// What the rulebook says of the record at a place.
-    pub fn outcome(&self, place: usize) -> &RulesetOutcome
-        requires { place < length self.now.records }
-        ensures outcome { slice_get self.now.outcomes place ≡ Some result.now }
+    /// What the rulebook says of the record at an index.
+    pub fn outcome(&self, index: usize) -> &RulesetOutcome
+        requires { index < length self.now.records }
+        ensures outcome { slice_get self.now.outcomes index ≡ Some result.now }
         ensures case { IsCase self.now }
     {
         match self.past {
-            Some(past) => &past.outcomes[place],
-            None => self.case.outcome(place),
+            Some(past) => &past.outcomes[index],
+            None => self.case.outcome(index),
         }
     }
 
-    /// The place of the first path of the record at a place, if it is known.
-    pub fn known_place(&self, place: usize) -> Option<Place>
-        ensures { IfSome result (λ one. (r : OneRecord) → slice_get self.now.records place ≡ Some r
+    /// The place of the first path of the record at an index, if it is known.
+    pub fn known_place(&self, index: usize) -> Option<Place>
+        ensures { IfSome result (λ one. (r : OneRecord) → slice_get self.now.records index ≡ Some r
             → one ≡ first_place self.now.tree r.op) }
     {
-        self.case.known_place(place)
+        self.case.known_place(index)
     }
 }

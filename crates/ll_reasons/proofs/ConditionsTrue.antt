@@ -55,7 +55,7 @@ by_create P false false false error is too_big inval no_msg = absurd (cc)
 create_condition : (abi : Abi) (rulesets : List Layer) (s : State) (rs : ℕ) (fs : Fs) (net : Net) (held : Option ℕ) (error : Errno)
     → answers.create_answer abi fs net held ≡ Refused error [] → IsCondition abi rulesets s (calls.Create rs fs net) (of_create abi fs error)
 unfolding answers.create_answer of_create IsCondition files_of ports_of
-create_condition abi rulesets s rs fs net (Some place) error is = absurd (cc)
+create_condition abi rulesets s rs fs net (Some index) error is = absurd (cc)
 create_condition abi rulesets s rs fs net None error is =
     by_create (λ (e : Errno). IsCondition abi rulesets s (calls.Create rs fs net) (of_create abi fs e))
     (not (network.is_empty net) && not (has_ports abi)) (not (knows_all abi fs net)) (files.is_empty fs && network.is_empty net) error is
@@ -241,12 +241,12 @@ call_condition tree abi records rulesets calls.Exit s o error handles is = absur
 call_condition tree abi records rulesets calls.Nnp s o error handles is = absurd (cc)
 call_condition tree abi records rulesets op s o error handles is = never_faulty _ _ _ _ error (can_request tree s.domain (request tree (wanted op))) is
 
-pub condition_at : (tree : List Entry) (abi : Abi) (records : List Record) (place process : ℕ) (op : Op) (error : Errno)
-    → answer_in tree abi (world_at tree abi records place) process op ≡ Refused error []
-    → IsCondition abi (world_at tree abi records place).rulesets ((world_at tree abi records place).processes process) op
-    (condition abi records (origins_at tree abi records place process) op error)
+pub condition_at : (tree : List Entry) (abi : Abi) (records : List Record) (index process : ℕ) (op : Op) (error : Errno)
+    → answer_in tree abi (world_at tree abi records index) process op ≡ Refused error []
+    → IsCondition abi (world_at tree abi records index).rulesets ((world_at tree abi records index).processes process) op
+    (condition abi records (origins_at tree abi records index process) op error)
 unfolding answer_in
-condition_at tree abi records place process op error is =
-    let w : World = world_at tree abi records place in
-    call_condition tree abi records w.rulesets op (w.processes process) (origins_at tree abi records place process) error
-    (λ rs layer named. ruleset_handles tree abi records place process rs layer named) is
+condition_at tree abi records index process op error is =
+    let w : World = world_at tree abi records index in
+    call_condition tree abi records w.rulesets op (w.processes process) (origins_at tree abi records index process) error
+    (λ rs layer named. ruleset_handles tree abi records index process rs layer named) is

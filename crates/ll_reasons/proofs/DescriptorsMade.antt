@@ -18,7 +18,7 @@ use Rattle.ll_reasons.specs.Explanations.{origins_at}
 use Rattle.ll_reasons.proofs.Lockstep.{Keeps, holds_at}
 use Rattle.ll_reasons.proofs.Alike.{Alike, alike-some, alike-update, alike-weaker}
 
--- a descriptor is what the record at an earlier place opened
+-- a descriptor is what the record at an earlier index opened
 abbrev Opens : List Entry → Abi → List Record → ℕ → Descriptor → ℕ → Type 0
 Opens tree abi records ix d k = IsEarlier is_opening tree abi records ix k × (opened_at tree abi records k ≡ Some d)
 

@@ -100,14 +100,14 @@ gives path right (missing rights there) = is_prefix there path && one_of rights 
 gives path right (closed rights port) = false
 gives path right (gained object rights directory) = is_prefix object path && one_of rights right
 gives path right mounting = false
-gives path right (kept one place) = false
+gives path right (kept one index) = false
 
 gives_on_port : ℕ → network.NetRight → Objection → Bool
 gives_on_port port right (missing rights there) = false
 gives_on_port port right (closed rights there) = (port == there) && list_any (network.is_right right) rights
 gives_on_port port right (gained object rights directory) = false
 gives_on_port port right mounting = false
-gives_on_port port right (kept one place) = false
+gives_on_port port right (kept one index) = false
 
 one_rule_more : (p : Bool) (h v g : Bool) → ((p && h) || (v || g)) ≡ (((p && h) || v) || g)
 one_rule_more p h v g = sym (or_assoc (p && h) v g)
@@ -124,7 +124,7 @@ granted-satisfied (gained object rights directory ∷ objections) layer path rig
     (one_rule_more (is_prefix object path) (one_of rights right) (list_any (gives path right) objections) (granted layer path right))
 granted-satisfied (closed rights port ∷ objections) layer path right = granted-satisfied objections layer path right
 granted-satisfied (mounting ∷ objections) layer path right = granted-satisfied objections layer path right
-granted-satisfied (kept one place ∷ objections) layer path right = granted-satisfied objections layer path right
+granted-satisfied (kept one index ∷ objections) layer path right = granted-satisfied objections layer path right
 
 granted_on_port-satisfied : (objections : List Objection) (layer : Layer) (port : ℕ) (right : network.NetRight)
     → granted_on_port (all_satisfied layer objections) port right ≡ (list_any (gives_on_port port right) objections || granted_on_port layer port right)
@@ -137,7 +137,7 @@ granted_on_port-satisfied (closed rights there ∷ objections) layer port right 
     (one_rule_more (port == there) (list_any (network.is_right right) rights) (list_any (gives_on_port port right) objections)
     (granted_on_port layer port right))
 granted_on_port-satisfied (mounting ∷ objections) layer port right = granted_on_port-satisfied objections layer port right
-granted_on_port-satisfied (kept one place ∷ objections) layer port right = granted_on_port-satisfied objections layer port right
+granted_on_port-satisfied (kept one index ∷ objections) layer port right = granted_on_port-satisfied objections layer port right
 
 handled-satisfied : (objections : List Objection) (layer : Layer)
     → ((all_satisfied layer objections).handled_files ≡ layer.handled_files) × ((all_satisfied layer objections).handled_network ≡ layer.handled_network)
@@ -147,7 +147,7 @@ handled-satisfied (missing rights there ∷ objections) layer = handled-satisfie
 handled-satisfied (gained object rights directory ∷ objections) layer = handled-satisfied objections layer
 handled-satisfied (closed rights there ∷ objections) layer = handled-satisfied objections layer
 handled-satisfied (mounting ∷ objections) layer = handled-satisfied objections layer
-handled-satisfied (kept one place ∷ objections) layer = handled-satisfied objections layer
+handled-satisfied (kept one index ∷ objections) layer = handled-satisfied objections layer
 
 handles-same : (a b : Layer) (right : FsRight) → a.handled_files ≡ b.handled_files → handles a right ≡ handles b right
 handles-same a b refer same = ap (λ (set : Fs). not (files.is_empty set)) same

@@ -69,7 +69,7 @@ module _ (tree : List Entry) (abi : Abi) (records : List Record) where
         changed k r.op w.rulesets s o (ap (λ (x : Option Record). domain_by w x) eq) all);
   }
 
-  pub grown : (place process fd : ℕ) → IfSome ((origins_at tree abi records place process).openings fd)
-      (λ k. BeganAs (domain_at tree abi records place process) (domain_there tree abi records k))
+  pub grown : (index process fd : ℕ) → IfSome ((origins_at tree abi records index process).openings fd)
+      (λ k. BeganAs (domain_at tree abi records index process) (domain_there tree abi records k))
   unfolding AllBegan Began domain_at
-  grown place process fd = holds_at tree abi records (AllBegan tree abi records) keeps place process fd
+  grown index process fd = holds_at tree abi records (AllBegan tree abi records) keeps index process fd

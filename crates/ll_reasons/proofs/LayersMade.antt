@@ -57,11 +57,11 @@ origins_changed tree abi records k r (Restrict rs) o is eq allowed all =
     (omega arith, record { of = r; at = eq; such = ap (λ (op : Op). is_restrict op) is; allowed = allowed })
 origins_changed tree abi records k r op o is eq allowed all = earlier tree abi records k o.layers all
 
--- ---- of every process at every place
+-- ---- of every process at every index
 
-pub record Made (tree : List Entry) (abi : Abi) (records : List Record) (place : ℕ) (s : State) (o : Origins) : Type 0 where
+pub record Made (tree : List Entry) (abi : Abi) (records : List Record) (index : ℕ) (s : State) (o : Origins) : Type 0 where
   pub layers : s.domain ≡ filter_map (enforced_at tree abi records) o.layers
-  pub restricts : All (IsEarlier is_restrict tree abi records place) o.layers
+  pub restricts : All (IsEarlier is_restrict tree abi records index) o.layers
 
 keeps : (tree : List Entry) (abi : Abi) (records : List Record) → Keeps tree abi records (Made tree abi records)
 unfolding fresh no_origins enforced_at enforced_by
@@ -78,9 +78,9 @@ keeps tree abi records = record {
       });
 }
 
-pub made_at : (tree : List Entry) (abi : Abi) (records : List Record) (place process : ℕ)
-    → Made tree abi records place ((world_at tree abi records place).processes process) (origins_at tree abi records place process)
-made_at tree abi records place process = holds_at tree abi records (Made tree abi records) (keeps tree abi records) place process
+pub made_at : (tree : List Entry) (abi : Abi) (records : List Record) (index process : ℕ)
+    → Made tree abi records index ((world_at tree abi records index).processes process) (origins_at tree abi records index process)
+made_at tree abi records index process = holds_at tree abi records (Made tree abi records) (keeps tree abi records) index process
 
 -- ---- none of these makes no layer
 
@@ -109,7 +109,7 @@ makes_layer tree abi records k is =
     same_Some (answer_in tree abi w p is.of.op) Allowed (sym (judged-at tree abi records k is.of is.at) ∙ is.allowed) in
     rw (is.at) (enforces tree abi w is.of.op p is.such allowed)
 
--- ---- so they are at the same places
+-- ---- so they are at the same indices
 
 some_first : {X Y : Type 0} (h : X → Option Y) (x : X) (xs : List X) (o : Option Y) → is_some o ≡ true → (i : ℕ) → h x ≡ o
     → ((j : ℕ) → slice_get (filter_map h xs) j ≡ option_and_then h (slice_get xs j))
@@ -135,25 +135,25 @@ as_long h (x ∷ xs) all = ap suc (as_long h xs (All-tail (λ x. is_some (h x) �
 
 -- ---- the law
 
-all_make : (tree : List Entry) (abi : Abi) (records : List Record) (place process : ℕ)
-    → All (λ k. is_some (enforced_at tree abi records k) ≡ true) (origins_at tree abi records place process).layers
-all_make tree abi records place process =
-    All-weaker (IsEarlier is_restrict tree abi records place) (λ k. is_some (enforced_at tree abi records k) ≡ true)
-    (λ k is. makes_layer tree abi records k is.1) (origins_at tree abi records place process).layers (made_at tree abi records place process).restricts
+all_make : (tree : List Entry) (abi : Abi) (records : List Record) (index process : ℕ)
+    → All (λ k. is_some (enforced_at tree abi records k) ≡ true) (origins_at tree abi records index process).layers
+all_make tree abi records index process =
+    All-weaker (IsEarlier is_restrict tree abi records index) (λ k. is_some (enforced_at tree abi records k) ≡ true)
+    (λ k is. makes_layer tree abi records k is.1) (origins_at tree abi records index process).layers (made_at tree abi records index process).restricts
 
-pub layers_made : (tree : List Entry) (abi : Abi) (records : List Record) (place process : ℕ)
-    → domain_at tree abi records place process ≡ filter_map (enforced_at tree abi records) (origins_at tree abi records place process).layers
+pub layers_made : (tree : List Entry) (abi : Abi) (records : List Record) (index process : ℕ)
+    → domain_at tree abi records index process ≡ filter_map (enforced_at tree abi records) (origins_at tree abi records index process).layers
 unfolding domain_at
-layers_made tree abi records place process = (made_at tree abi records place process).layers
+layers_made tree abi records index process = (made_at tree abi records index process).layers
 
-pub layers_counted : (tree : List Entry) (abi : Abi) (records : List Record) (place process : ℕ)
-    → length (origins_at tree abi records place process).layers ≡ length (domain_at tree abi records place process)
-layers_counted tree abi records place process =
-    as_long (enforced_at tree abi records) (origins_at tree abi records place process).layers (all_make tree abi records place process)
-    ∙ ap (λ (layers : List Layer). length layers) (sym (layers_made tree abi records place process))
+pub layers_counted : (tree : List Entry) (abi : Abi) (records : List Record) (index process : ℕ)
+    → length (origins_at tree abi records index process).layers ≡ length (domain_at tree abi records index process)
+layers_counted tree abi records index process =
+    as_long (enforced_at tree abi records) (origins_at tree abi records index process).layers (all_make tree abi records index process)
+    ∙ ap (λ (layers : List Layer). length layers) (sym (layers_made tree abi records index process))
 
-pub each_layer_made : (tree : List Entry) (abi : Abi) (records : List Record) (place process i : ℕ) → slice_get (domain_at tree abi records place process) i
-    ≡ option_and_then (enforced_at tree abi records) (slice_get (origins_at tree abi records place process).layers i)
-each_layer_made tree abi records place process i =
-    ap (λ (layers : List Layer). slice_get layers i) (layers_made tree abi records place process)
-    ∙ each_place (enforced_at tree abi records) (origins_at tree abi records place process).layers (all_make tree abi records place process) i
+pub each_layer_made : (tree : List Entry) (abi : Abi) (records : List Record) (index process i : ℕ) → slice_get (domain_at tree abi records index process) i
+    ≡ option_and_then (enforced_at tree abi records) (slice_get (origins_at tree abi records index process).layers i)
+each_layer_made tree abi records index process i =
+    ap (λ (layers : List Layer). slice_get layers i) (layers_made tree abi records index process)
+    ∙ each_place (enforced_at tree abi records) (origins_at tree abi records index process).layers (all_make tree abi records index process) i

@@ -1,4 +1,4 @@
--- The origins of processes go with the world: what is said of each process's state and origins holds at every place, if each record keeps it.
+-- The origins of processes go with the world: what is said of each process's state and origins holds at every index, if each record keeps it.
 use Rattle.std.proofs.Common.{◌≡◌, ℕ, zero, suc, ◌+◌, ◌==◌, Bool, true, false, cond, List, [], ◌∷◌, take, Option, Some, None, refl, sym, ap, ◌∙◌, subst, arith}
 use Rattle.std.specs.Prelude.{slice_get}
 use Rattle.std.proofs.lemmas.Option.{none-some, same_Some}
@@ -82,7 +82,7 @@ count-sources_by k op p a s = counts_kept a s (with_origins s.processes p (trace
 
 -- ---- what is said of each process
 
--- what is said of a place, a state and its origins
+-- what is said of an index, a state and its origins
 pub record Keeps (tree : List Entry) (abi : Abi) (records : List Record) (Fits : ℕ → State → Origins → Type 0) : Type 0 where
   -- it holds of a process that a trace begins with
   pub begins : (k : ℕ) (nnp admin : Bool) → Fits k (fresh nnp admin) no_origins
@@ -161,6 +161,6 @@ module _ (tree : List Entry) (abi : Abi) (records : List Record) (Fits : ℕ →
       first (r ∷ rs) = (refl, λ q. keeps.begins 0 false false)
   all_fit (suc k) = next k (slice_get records k) refl (all_fit k)
 
-  pub holds_at : (place process : ℕ) → Fits place ((world_at tree abi records place).processes process) (origins_at tree abi records place process)
+  pub holds_at : (index process : ℕ) → Fits index ((world_at tree abi records index).processes process) (origins_at tree abi records index process)
   unfolding origins_at AllFit
-  holds_at place process = (all_fit place).1 process
+  holds_at index process = (all_fit index).1 process

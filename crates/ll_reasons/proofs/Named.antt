@@ -6,7 +6,7 @@ use Rattle.ll_rights.specs.Rights as files
 use Rattle.ll_rights.specs.NetRights as network
 use Rattle.ll_rules.proofs.Booleans.{and_none}
 
--- ---- a right has its place in the table
+-- ---- a right has its index in the table
 
 right_at : (right : files.FsRight) → get_or files.all_rights (files.bit_of right) files.other ≡ right
 unfolding files.all_rights files.named_rights

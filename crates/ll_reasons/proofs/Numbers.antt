@@ -261,14 +261,14 @@ mount_numbers domain error number numbers is =
 
 -- ---- descriptors
 
-each_kept : (right : FsRight) (place : ℕ) (numbers : List ℕ) → map (λ said. said.0) (kept_by right numbers (Some place)) ≡ numbers
-each_kept right place [] = refl
-each_kept right place (number ∷ numbers) = ap (λ (rest : List ℕ). number ∷ rest) (each_kept right place numbers)
+each_kept : (right : FsRight) (index : ℕ) (numbers : List ℕ) → map (λ said. said.0) (kept_by right numbers (Some index)) ≡ numbers
+each_kept right index [] = refl
+each_kept right index (number ∷ numbers) = ap (λ (rest : List ℕ). number ∷ rest) (each_kept right index numbers)
 
 kept_numbers : (right : FsRight) (numbers : List ℕ) (opening : Option ℕ) → is_some opening ≡ true
     → map (λ said. said.0) (kept_by right numbers opening) ≡ numbers
 kept_numbers right numbers None some = cc
-kept_numbers right numbers (Some place) some = each_kept right place numbers
+kept_numbers right numbers (Some index) some = each_kept right index numbers
 
 ftruncate_open : (held : Option Descriptor) (error : Errno) (number : ℕ) (numbers : List ℕ)
     → answers.ftruncate_answer held ≡ Refused error (number ∷ numbers) → is_some held ≡ true
@@ -329,27 +329,27 @@ call_numbers tree abi rulesets calls.Nnp s o error number numbers same is = cc
 call_numbers tree abi rulesets (calls.LeaveOut rule) s o error number numbers same is = cc
 call_numbers tree abi rulesets op s o error number numbers same is = request_numbers tree s.domain (request tree (wanted op)) error number numbers is
 
--- ---- a process at a place, and the record there
+-- ---- a process at an index, and the record there
 
-pub numbers_at : (tree : List Entry) (abi : Abi) (records : List Record) (place process : ℕ) (op : Op) (error : Errno) (number : ℕ) (numbers : List ℕ)
-    → answer_in tree abi (world_at tree abi records place) process op ≡ Refused error (number ∷ numbers)
+pub numbers_at : (tree : List Entry) (abi : Abi) (records : List Record) (index process : ℕ) (op : Op) (error : Errno) (number : ℕ) (numbers : List ℕ)
+    → answer_in tree abi (world_at tree abi records index) process op ≡ Refused error (number ∷ numbers)
     → map (λ said. said.0)
-    (objections_to tree (domain_at tree abi records place process) (origins_at tree abi records place process) op error (number ∷ numbers)) ≡ number ∷ numbers
+    (objections_to tree (domain_at tree abi records index process) (origins_at tree abi records index process) op error (number ∷ numbers)) ≡ number ∷ numbers
 unfolding answer_in domain_at
-numbers_at tree abi records place process op error number numbers is =
-    let w : World = world_at tree abi records place in
-    call_numbers tree abi w.rulesets op (w.processes process) (origins_at tree abi records place process) error number numbers
-    (λ fd. descriptor_open tree abi records place process fd) is
+numbers_at tree abi records index process op error number numbers is =
+    let w : World = world_at tree abi records index in
+    call_numbers tree abi w.rulesets op (w.processes process) (origins_at tree abi records index process) error number numbers
+    (λ fd. descriptor_open tree abi records index process fd) is
 
-pub record_numbers : (tree : List Entry) (abi : Abi) (records : List Record) (place : ℕ) (r : Record) (error : Errno) (number : ℕ) (numbers : List ℕ)
-    → slice_get records place ≡ Some r → slice_get (judged tree abi records) place ≡ Some (Refused error (number ∷ numbers))
-    → (said : List (ℕ × List Objection)) × (explained_at tree abi records place r (Refused error (number ∷ numbers)) ≡ objections said)
+pub record_numbers : (tree : List Entry) (abi : Abi) (records : List Record) (index : ℕ) (r : Record) (error : Errno) (number : ℕ) (numbers : List ℕ)
+    → slice_get records index ≡ Some r → slice_get (judged tree abi records) index ≡ Some (Refused error (number ∷ numbers))
+    → (said : List (ℕ × List Objection)) × (explained_at tree abi records index r (Refused error (number ∷ numbers)) ≡ objections said)
     × (map (λ one. one.0) said ≡ number ∷ numbers)
 unfolding explained_at explained
-record_numbers tree abi records place r error number numbers eq is =
-    let answered : answer_in tree abi (world_at tree abi records place) r.process.0 r.op ≡ Refused error (number ∷ numbers) =
-    same_Some _ _ (sym (judged-at tree abi records place r eq) ∙ is) in (
-      objections_to tree (domain_at tree abi records place r.process.0) (origins_at tree abi records place r.process.0) r.op error (number ∷ numbers),
+record_numbers tree abi records index r error number numbers eq is =
+    let answered : answer_in tree abi (world_at tree abi records index) r.process.0 r.op ≡ Refused error (number ∷ numbers) =
+    same_Some _ _ (sym (judged-at tree abi records index r eq) ∙ is) in (
+      objections_to tree (domain_at tree abi records index r.process.0) (origins_at tree abi records index r.process.0) r.op error (number ∷ numbers),
       refl,
-      numbers_at tree abi records place r.process.0 r.op error number numbers answered,
+      numbers_at tree abi records index r.process.0 r.op error number numbers answered,
     )

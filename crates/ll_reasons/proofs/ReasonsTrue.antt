@@ -52,10 +52,10 @@ node_path : (tree : List Entry) (path : Path) (node : NodeId) → node_at tree p
 unfolding node_at path_at
 node_path tree path node is = by_position (position_of path tree) refl is
   where
-    by_position : (o : Option ℕ) → position_of path tree ≡ o → ◌≡◌ {A = Option NodeId} (option_map (λ place. record { 0 = place }) o) (Some node)
+    by_position : (o : Option ℕ) → position_of path tree ≡ o → ◌≡◌ {A = Option NodeId} (option_map (λ index. record { 0 = index }) o) (Some node)
         → path_at tree node ≡ path
     by_position None eq is = absurd (none-some node is)
-    by_position (Some place) eq is = subst (λ (n : NodeId). path_at tree n ≡ path) (same_Some (record { 0 = place }) node is) (at_position path tree place eq).1
+    by_position (Some index) eq is = subst (λ (n : NodeId). path_at tree n ≡ path) (same_Some (record { 0 = index }) node is) (at_position path tree index eq).1
 
 shorter : (path : Path) (n : ℕ) → length path ≤ suc n → length (front path) ≤ n
 unfolding front
@@ -224,7 +224,7 @@ if_free-some (Some it) moot = refl
 create_taken : (abi : Abi) (fs : Fs) (net : Net) (o : Option ℕ) → answers.create_answer abi fs net o ≡ Moot → is_some o ≡ true
 unfolding answers.create_answer
 create_taken abi fs net None moot = never_moot _ _ _ _ (can_unless false _) moot
-create_taken abi fs net (Some place) moot = refl
+create_taken abi fs net (Some index) moot = refl
 
 ioctl_closed : (o : Option Descriptor) (driver : Bool) → answers.ioctl_answer o driver ≡ Moot → o ≡ None
 unfolding answers.ioctl_answer
@@ -320,18 +320,18 @@ call_reason tree abi rulesets calls.Exit s o there are same moot = absurd (cc)
 call_reason tree abi rulesets calls.Nnp s o there are same moot = absurd (cc)
 call_reason tree abi rulesets op s o there are same moot = wanted_holds tree s op there are (wanted op) refl refl
 
--- ---- a process at a place
+-- ---- a process at an index
 
 both : {A : Type 0} (P Q : A → Type 0) (o : Option A) → IfSome o P → IsSomeAnd o Q → IsSomeAnd o (λ a. P a × Q a)
 both P Q None first second = second
 both P Q (Some a) first second = (first, second)
 
-pub reason_at : (tree : List Entry) (abi : Abi) (records : List Record) (place process : ℕ) (op : Op) → is_some (node_at tree []) ≡ true → are_spelt op ≡ true
-    → answer_in tree abi (world_at tree abi records place) process op ≡ Moot
-    → IsSomeAnd (reason tree (origins_at tree abi records place process) op) (Holds tree ((world_at tree abi records place).processes process) op)
+pub reason_at : (tree : List Entry) (abi : Abi) (records : List Record) (index process : ℕ) (op : Op) → is_some (node_at tree []) ≡ true → are_spelt op ≡ true
+    → answer_in tree abi (world_at tree abi records index) process op ≡ Moot
+    → IsSomeAnd (reason tree (origins_at tree abi records index process) op) (Holds tree ((world_at tree abi records index).processes process) op)
 unfolding answer_in
-reason_at tree abi records place process op there are moot =
-    let w : World = world_at tree abi records place in
-    let o : Origins = origins_at tree abi records place process in
+reason_at tree abi records index process op there are moot =
+    let w : World = world_at tree abi records index in
+    let o : Origins = origins_at tree abi records index process in
     both (IsAbout op) (IsSo tree (w.processes process) op) (reason tree o op) (reason_about tree o op)
-    (call_reason tree abi w.rulesets op (w.processes process) o there are (λ fd. descriptor_open tree abi records place process fd) moot)
+    (call_reason tree abi w.rulesets op (w.processes process) o there are (λ fd. descriptor_open tree abi records index process fd) moot)

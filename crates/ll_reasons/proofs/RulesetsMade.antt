@@ -142,7 +142,7 @@ created_last tree abi rulesets s op allowed creates =
 
 -- ---- what a number names
 
--- a ruleset of the world handles what the record at an earlier place named when it created one
+-- a ruleset of the world handles what the record at an earlier index named when it created one
 record Holds (tree : List Entry) (abi : Abi) (records : List Record) (ix j k : ℕ) : Type 0 where
   before : k < ix
   created : IsAllowed is_create tree abi records k
@@ -162,7 +162,7 @@ later tree abi records k x y fits =
       just = by_record tree abi records k (handled_by is.created.of.op) (handled_on_ports_by is.created.of.op) j is.just;
     }) x y fits
 
--- the ruleset that a record at a place creates
+-- the ruleset that a record at an index creates
 created_here : (tree : List Entry) (abi : Abi) (records : List Record) (k j : ℕ) (r : Record) → slice_get records k ≡ Some r
     → slice_get (judged tree abi records) k ≡ Some Allowed → is_create r.op ≡ true
     → HandlesJust (handled_by r.op) (handled_on_ports_by r.op) (slice_get (world_at tree abi records (suc k)).rulesets j) → Holds tree abi records (suc k) j k
@@ -226,7 +226,7 @@ handles_named fs net (Some x) rules is just =
     let same : x ≡ rules = same_Some x rules is in
     (sym just.0 ∙ ap (λ (y : Layer). y.handled_files) same, sym just.1 ∙ ap (λ (y : Layer). y.handled_network) same)
 
--- what the record at a place says that it handles
+-- what the record at an index says that it handles
 handled_there : List Record → Option ℕ → Fs
 handled_there records k = handled_by (call_of (option_and_then (slice_get records) k))
 

@@ -141,7 +141,7 @@ can_unless m (Some e) = refl
 pub can_create : (abi : Abi) (fs : Fs) (net : Net) (held : Option ℕ) → among true true true false (answers.create_answer abi fs net held) ≡ true
 unfolding answers.create_answer among
 can_create abi fs net None = can_unless true _
-can_create abi fs net (Some place) = refl
+can_create abi fs net (Some index) = refl
 
 can_rule : (refusal : Option RuleRefusal) → among true true true false (answers.of_rule_refusal refusal) ≡ true
 unfolding among

@@ -50,7 +50,7 @@ handled_on_ports_by (calls.Create rs fs net) = net
 handled_on_ports_by (calls.CreateEmpty rs) = network.no_right
 handled_on_ports_by op = network.no_right
 
--- the call of the record at a place, if there is one
+-- the call of the record at an index, if there is one
 abbrev pub call_of : Option Record → Op
 call_of None = calls.Exit
 call_of (Some r) = r.op

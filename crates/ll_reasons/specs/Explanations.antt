@@ -31,7 +31,7 @@ pub data Explanation : Type 0 where
 -- what the layers that refuse by a descriptor object to: what was missing when it was opened
 abbrev pub kept_by : FsRight → List ℕ → Option ℕ → List (ℕ × List Objection)
 kept_by right numbers None = []
-kept_by right numbers (Some place) = map (λ number. (number, kept right place ∷ [])) numbers
+kept_by right numbers (Some index) = map (λ number. (number, kept right index ∷ [])) numbers
 
 -- what each layer that refuses a call objects to; to a call that asks nothing, nothing
 unfoldable pub objections_to : List Entry → List Layer → Origins → Op → Errno → List ℕ → List (ℕ × List Objection)
@@ -51,26 +51,26 @@ explained tree abi records domain o op Moot = mootness (reason tree o op)
 explained tree abi records domain o op (Refused error []) = failure (condition abi records o op error)
 explained tree abi records domain o op (Refused error (number ∷ numbers)) = objections (objections_to tree domain o op error (number ∷ numbers))
 
--- the domain and the origins of a process before the record at a place of a trace
+-- the domain and the origins of a process before the record at an index of a trace
 unfoldable pub domain_at : List Entry → Abi → List Record → ℕ → ℕ → List Layer
-domain_at tree abi records place process = ((world_at tree abi records place).processes process).domain
+domain_at tree abi records index process = ((world_at tree abi records index).processes process).domain
 
 unfoldable pub origins_at : List Entry → Abi → List Record → ℕ → ℕ → Origins
-origins_at tree abi records place process = (sources_at tree abi records place).processes process
+origins_at tree abi records index process = (sources_at tree abi records index).processes process
 
 -- what the process has there, what a call of it is answered, all rulesets, and the one that a number of it names
 abbrev pub state_at : List Entry → Abi → List Record → ℕ → ℕ → State
-state_at tree abi records place process = (world_at tree abi records place).processes process
+state_at tree abi records index process = (world_at tree abi records index).processes process
 
 abbrev pub answer_at : List Entry → Abi → List Record → ℕ → ℕ → Op → Answer
-answer_at tree abi records place process op = answer_in tree abi (world_at tree abi records place) process op
+answer_at tree abi records index process op = answer_in tree abi (world_at tree abi records index) process op
 
 abbrev pub rulesets_at : List Entry → Abi → List Record → ℕ → List Layer
-rulesets_at tree abi records place = (world_at tree abi records place).rulesets
+rulesets_at tree abi records index = (world_at tree abi records index).rulesets
 
 abbrev pub ruleset_at : List Entry → Abi → List Record → ℕ → ℕ → ℕ → Option Layer
-ruleset_at tree abi records place process rs = named (rulesets_at tree abi records place) ((state_at tree abi records place process).held rs)
+ruleset_at tree abi records index process rs = named (rulesets_at tree abi records index) ((state_at tree abi records index process).held rs)
 
--- the explanation of the record at a place of a trace
+-- the explanation of the record at an index of a trace
 unfoldable pub explained_at : List Entry → Abi → List Record → ℕ → Record → Answer → Explanation
-explained_at tree abi records place r answer = explained tree abi records (domain_at tree abi records place r.process.0) (origins_at tree abi records place r.process.0) r.op answer
+explained_at tree abi records index r answer = explained tree abi records (domain_at tree abi records index r.process.0) (origins_at tree abi records index r.process.0) r.op answer

@@ -1,4 +1,4 @@
--- What the record at a place of a trace made, where it is one that makes a layer, a descriptor or a ruleset.
+-- What the record at an index of a trace made, where it is one that makes a layer, a descriptor or a ruleset.
 -- Source: landlock_restrict_self(2), landlock_create_ruleset(2); open(2); landlock(7), "Inheritance".
 use Rattle.std.specs.Prelude.{◌≡◌, ◌<◌, ℕ, ◌++◌, List, [], Option, Some, None, Bool, true, false, slice_get}
 use Rattle.ll_rights.specs.declared.abi.Abi.{Abi}
@@ -21,7 +21,7 @@ unfoldable pub enforced_by : World → Option Record → Option Layer
 enforced_by world None = None
 enforced_by world (Some r) = enforced world.rulesets r.op (world.processes r.process.0)
 
--- the ruleset that the record at a place restricts its process by, as it is in the world before the record
+-- the ruleset that the record at an index restricts its process by, as it is in the world before the record
 unfoldable pub enforced_at : List Entry → Abi → List Record → ℕ → Option Layer
 enforced_at tree abi records k = enforced_by (world_at tree abi records k) (slice_get records k)
 
@@ -48,7 +48,7 @@ unfoldable pub opened_by : List Entry → World → Option Record → Option Des
 opened_by tree world None = None
 opened_by tree world (Some r) = opened_in tree (world.processes r.process.0) r.op
 
--- the descriptor that the record at a place opens
+-- the descriptor that the record at an index opens
 unfoldable pub opened_at : List Entry → Abi → List Record → ℕ → Option Descriptor
 opened_at tree abi records k = opened_by tree (world_at tree abi records k) (slice_get records k)
 
@@ -62,16 +62,16 @@ is_create op = false
 
 -- ---- calls of these kinds
 
--- the record at a place of the trace is a call of a kind, and is allowed
+-- the record at an index of the trace is a call of a kind, and is allowed
 pub record IsAllowed (is_such : Op → Bool) (tree : List Entry) (abi : Abi) (records : List Record) (k : ℕ) : Type 0 where
   pub of : Record
   pub at : slice_get records k ≡ Some of
   pub such : is_such of.op ≡ true
   pub allowed : slice_get (judged tree abi records) k ≡ Some Allowed
 
--- and it is before another place
+-- and it is before another index
 abbrev pub IsEarlier : (Op → Bool) → List Entry → Abi → List Record → ℕ → ℕ → Type 0
-IsEarlier is_such tree abi records place k = (k < place) × IsAllowed is_such tree abi records k
+IsEarlier is_such tree abi records index k = (k < index) × IsAllowed is_such tree abi records k
 
 -- ---- domains
 
@@ -79,7 +79,7 @@ unfoldable pub domain_by : World → Option Record → List Layer
 domain_by world None = []
 domain_by world (Some r) = (world.processes r.process.0).domain
 
--- the domain that the process of the record at a place had before it
+-- the domain that the process of the record at an index had before it
 unfoldable pub domain_there : List Entry → Abi → List Record → ℕ → List Layer
 domain_there tree abi records k = domain_by (world_at tree abi records k) (slice_get records k)
 

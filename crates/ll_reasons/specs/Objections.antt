@@ -31,7 +31,7 @@ pub data Objection : Type 0 where
   gained : Path → List FsRight → Path → Objection
   -- rights for files are handled, so what is mounted stays as it is
   mounting : Objection
-  -- a right was missing on the file when the record at a place of the trace opened it
+  -- a right was missing on the file when the record at an index of the trace opened it
   kept : FsRight → ℕ → Objection
 
 -- ---- rights, each list in the order of the table of rights

@@ -1,4 +1,4 @@
--- Where the layers, open descriptors and rulesets of each process come from: the records that made them, by their places in the trace.
+-- Where the layers, open descriptors and rulesets of each process come from: the records that made them, by their indices in the trace.
 -- Source: landlock_restrict_self(2); landlock(7), "Inheritance"; dup(2).
 use Rattle.std.specs.Prelude.{ℕ, ◌+◌, List, [], ◌∷◌, ◌++◌, ◌==◌, Option, Some, None, nat_eq, take, if◌then◌else◌}
 use Rattle.std.specs.Map.{update}
@@ -26,17 +26,17 @@ with_opening o fd opening = record o { openings = update nat_eq o.openings fd op
 abbrev pub with_ruleset : Origins → ℕ → Option ℕ → Origins
 with_ruleset o rs created = record o { rulesets = update nat_eq o.rulesets rs created }
 
--- what an allowed call, the record at a place of the trace, makes of the origins of its own process
+-- what an allowed call, the record at an index of the trace, makes of the origins of its own process
 unfoldable pub traced : ℕ → Op → Origins → Origins
-traced place (calls.Create rs fs net) o = with_ruleset o rs (Some place)
-traced place (calls.CloseRs rs) o = with_ruleset o rs None
-traced place (calls.Restrict rs) o = record o { layers = o.layers ++ place ∷ [] }
-traced place (calls.OpenFile path fd mode create trunc) o = with_opening o fd (Some place)
-traced place (calls.Adopt fd kind) o = with_opening o fd (Some place)
-traced place (calls.Dup fd to) o = with_opening o to (o.openings fd)
-traced place (calls.Close fd) o = with_opening o fd None
-traced place (calls.CreateEmpty rs) o = with_ruleset o rs (Some place)
-traced place op o = o
+traced index (calls.Create rs fs net) o = with_ruleset o rs (Some index)
+traced index (calls.CloseRs rs) o = with_ruleset o rs None
+traced index (calls.Restrict rs) o = record o { layers = o.layers ++ index ∷ [] }
+traced index (calls.OpenFile path fd mode create trunc) o = with_opening o fd (Some index)
+traced index (calls.Adopt fd kind) o = with_opening o fd (Some index)
+traced index (calls.Dup fd to) o = with_opening o to (o.openings fd)
+traced index (calls.Close fd) o = with_opening o fd None
+traced index (calls.CreateEmpty rs) o = with_ruleset o rs (Some index)
+traced index op o = o
 
 -- the origins of all processes by their numbers, and how many processes were started
 pub record Sources : Type 0 where
@@ -52,20 +52,20 @@ with_origins processes process o other = if other == process then o else process
 abbrev pub with_next : Sources → Origins → Sources
 with_next sources o = record { count = sources.count + 1; processes = with_origins sources.processes sources.count o }
 
--- what becomes of them by a record, whose place in the trace this is: a process begins with nothing or with what its
+-- what becomes of them by a record, whose index in the trace this is: a process begins with nothing or with what its
 -- parent has, and an allowed call changes the origins of its own process
 unfoldable pub sources_by : ℕ → Op → ℕ → Answer → Sources → Sources
-sources_by place (calls.Start nnp admin) process answer sources = with_next sources no_origins
-sources_by place (calls.Fork child) process answer sources = with_next sources (sources.processes process)
-sources_by place op process answer sources =
-    if_allowed answer (record sources { processes = with_origins sources.processes process (traced place op (sources.processes process)) }) sources
+sources_by index (calls.Start nnp admin) process answer sources = with_next sources no_origins
+sources_by index (calls.Fork child) process answer sources = with_next sources (sources.processes process)
+sources_by index op process answer sources =
+    if_allowed answer (record sources { processes = with_origins sources.processes process (traced index op (sources.processes process)) }) sources
 
--- what becomes of them by records and the answers to these, the first at a place; nothing is judged again
+-- what becomes of them by records and the answers to these, the first at an index; nothing is judged again
 unfoldable pub sources_after : ℕ → Sources → List Record → List Answer → Sources
-sources_after place sources [] answers = sources
-sources_after place sources (r ∷ rs) [] = sources
-sources_after place sources (r ∷ rs) (answer ∷ answers) = sources_after (place + 1) (sources_by place r.op r.process.0 answer sources) rs answers
+sources_after index sources [] answers = sources
+sources_after index sources (r ∷ rs) [] = sources
+sources_after index sources (r ∷ rs) (answer ∷ answers) = sources_after (index + 1) (sources_by index r.op r.process.0 answer sources) rs answers
 
--- what they are before the record at a place of a trace
+-- what they are before the record at an index of a trace
 unfoldable pub sources_at : List Entry → Abi → List Record → ℕ → Sources
-sources_at tree abi records place = sources_after 0 no_sources (take place records) (judged tree abi records)
+sources_at tree abi records index = sources_after 0 no_sources (take index records) (judged tree abi records)

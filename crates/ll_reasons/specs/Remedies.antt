@@ -25,7 +25,7 @@ satisfied layer (missing rights path) = with_file_rule layer path (set_of rights
 satisfied layer (closed rights port) = with_port_rule layer port (port_set_of rights)
 satisfied layer (gained object rights directory) = with_file_rule layer object (set_of rights)
 satisfied layer mounting = layer
-satisfied layer (kept right place) = layer
+satisfied layer (kept right index) = layer
 
 -- with a rule for each of some objections
 unfoldable pub all_satisfied : Layer → List Objection → Layer

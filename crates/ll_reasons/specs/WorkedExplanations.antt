@@ -18,14 +18,14 @@ use Rattle.ll_reasons.specs.Conditions as conditions
 use Rattle.ll_reasons.specs.Reasons as reasons
 use Rattle.ll_reasons.specs.Explanations.{Explanation, nothing, objections, failure, mootness, explained_at}
 
--- the explanation of a record and its answer at a place, if there is one there
+-- the explanation of a record and its answer at an index, if there is one there
 unfoldable pub explained_there : Abi → List Record → ℕ → Option (Record × Answer) → Explanation
-explained_there abi records place None = nothing
-explained_there abi records place (Some pair) = explained_at worked_tree abi records place pair.0 pair.1
+explained_there abi records index None = nothing
+explained_there abi records index (Some pair) = explained_at worked_tree abi records index pair.0 pair.1
 
--- the record at a place of a trace is explained so
+-- the record at an index of a trace is explained so
 abbrev pub IsExplained : Abi → List (Record × Answer) → ℕ → Explanation → Type 0
-IsExplained abi trace place why = explained_there abi (map (λ pair. pair.0) trace) place (slice_get trace place) ≡ why
+IsExplained abi trace index why = explained_there abi (map (λ pair. pair.0) trace) index (slice_get trace index) ≡ why
 
 -- a path that is not in the tree
 abbrev pub none : Path
@@ -44,7 +44,7 @@ would_gain = objections ((1, gained a_f (execute ∷ []) b ∷ []) ∷ [])
 abbrev pub truncate_on_both_layers : Explanation
 truncate_on_both_layers = objections ((1, missing (truncate ∷ []) a_f ∷ []) ∷ (2, missing (truncate ∷ []) a_f ∷ []) ∷ [])
 
--- the right was missing when the record at place 6 opened the file
+-- the right was missing when the record at index 6 opened the file
 abbrev pub truncate_kept : Explanation
 truncate_kept = objections ((1, kept truncate 6 ∷ []) ∷ [])
 

@@ -11,23 +11,23 @@ ghost use Rattle.ll_reasons.specs.{Objections.Objection, Origins.Origins};
 ghost use Rattle.ll_reasons.specs.Explanations.{objections_to, domain_at, origins_at, objections, explained, explained_at, answer_at, nothing};
 
 /// The layers that are explained are exactly those that refuse, in order: for every call of a process before the
-/// record at a place, and so for each record of a trace.
+/// record at an index, and so for each record of a trace.
 #[tactic(auto, using(crate::proofs::Numbers::numbers_at, crate::proofs::Numbers::record_numbers))]
 pub fn refusing_layers_are_explained()
     ensures calls { (tree : List Entry) (abi : Abi) (records : List Record)
-        (place process : ℕ) (op : Op)
+        (index process : ℕ) (op : Op)
         (error : Errno) (number : ℕ) (numbers : List ℕ)
-        → answer_at tree abi records place process op ≡ Refused error (number ∷ numbers)
-        → map (λ said. said.0) (objections_to tree (domain_at tree abi records place process)
-        (origins_at tree abi records place process) op error (number ∷ numbers))
+        → answer_at tree abi records index process op ≡ Refused error (number ∷ numbers)
+        → map (λ said. said.0) (objections_to tree (domain_at tree abi records index process)
+        (origins_at tree abi records index process) op error (number ∷ numbers))
         ≡ number ∷ numbers }
     ensures records { (tree : List Entry) (abi : Abi) (records : List Record)
-        (place : ℕ) (r : Record)
+        (index : ℕ) (r : Record)
         (error : Errno) (number : ℕ) (numbers : List ℕ)
-        → slice_get records place ≡ Some r
-        → slice_get (judged tree abi records) place ≡ Some (Refused error (number ∷ numbers))
+        → slice_get records index ≡ Some r
+        → slice_get (judged tree abi records) index ≡ Some (Refused error (number ∷ numbers))
         → (said : List (ℕ × List Objection))
-        × (explained_at tree abi records place r (Refused error (number ∷ numbers))
+        × (explained_at tree abi records index r (Refused error (number ∷ numbers))
         ≡ objections said)
         × (map (λ one. one.0) said ≡ number ∷ numbers) }
 {}

@@ -14,20 +14,20 @@ ghost use Rattle.ll_reasons.specs.Explanations.{origins_at, state_at, answer_at,
 /// that has a root, and a call whose paths are spelt as such.
 #[tactic(auto, using(crate::proofs::ReasonsTrue::reason_at))]
 pub fn reasons_hold()
-    ensures { (tree : List Entry) (abi : Abi) (records : List Record) (place process : ℕ) (op : Op)
+    ensures { (tree : List Entry) (abi : Abi) (records : List Record) (index process : ℕ) (op : Op)
         (there : is_some (node_at tree []) ≡ true) (spelt : are_spelt op ≡ true)
-        → answer_at tree abi records place process op ≡ Moot
-        → IsSomeAnd (reason tree (origins_at tree abi records place process) op)
-        (Holds tree (state_at tree abi records place process) op) }
+        → answer_at tree abi records index process op ≡ Moot
+        → IsSomeAnd (reason tree (origins_at tree abi records index process) op)
+        (Holds tree (state_at tree abi records index process) op) }
 {}
 
 /// Where a call fails with an error that no layer gives, what the condition says of it holds.
 #[tactic(auto, using(crate::proofs::ConditionsTrue::condition_at))]
 pub fn conditions_hold()
-    ensures { (tree : List Entry) (abi : Abi) (records : List Record) (place process : ℕ)
+    ensures { (tree : List Entry) (abi : Abi) (records : List Record) (index process : ℕ)
         (op : Op) (error : Errno)
-        → answer_at tree abi records place process op ≡ Refused error []
-        → IsCondition abi (rulesets_at tree abi records place)
-        (state_at tree abi records place process) op
-        (condition abi records (origins_at tree abi records place process) op error) }
+        → answer_at tree abi records index process op ≡ Refused error []
+        → IsCondition abi (rulesets_at tree abi records index)
+        (state_at tree abi records index process) op
+        (condition abi records (origins_at tree abi records index process) op error) }
 {}

@@ -51,8 +51,8 @@ pub fn granting_what_is_named_is_enough()
 /// refuse: whatever the test, so for paths, ports and moves.
 #[tactic(auto, using(crate::proofs::InDomain::not_refusing))]
 pub fn satisfied_layers_do_not_refuse()
-    ensures { (test : Layer → Bool) (domain : List Layer) (place : ℕ) (layer : Layer)
+    ensures { (test : Layer → Bool) (domain : List Layer) (index : ℕ) (layer : Layer)
         → test layer ≡ false
-        → list_any (nat_eq (place + 1)) (numbers_where test (slice_set domain place layer))
+        → list_any (nat_eq (index + 1)) (numbers_where test (slice_set domain index layer))
         ≡ false }
 {}

@@ -24,30 +24,30 @@ use Rattle.ll_report.proofs.LinesLeft.{whole_text}
 use Rattle.ll_report.proofs.Making.{next_rows}
 
 -- the rows are the blocks, whichever way the answers are given
-blocks_are : (shown : Shown) (explained : ℕ → List ℕ) (given : ℕ → Answer) (place : ℕ) (records : List Record) (answers : List Answer)
-    → length answers ≡ length records → ((k : ℕ) → unwrap_or (slice_get answers k) Moot ≡ given (place + k))
-    → flat_map (λ row. row) (rows_of (λ k r. block_text shown (line_of r (given k)) (explained k)) place records)
-    ≡ blocks_from shown explained place (lines_of records answers)
+blocks_are : (shown : Shown) (explained : ℕ → List ℕ) (given : ℕ → Answer) (index : ℕ) (records : List Record) (answers : List Answer)
+    → length answers ≡ length records → ((k : ℕ) → unwrap_or (slice_get answers k) Moot ≡ given (index + k))
+    → flat_map (λ row. row) (rows_of (λ k r. block_text shown (line_of r (given k)) (explained k)) index records)
+    ≡ blocks_from shown explained index (lines_of records answers)
 unfolding rows_of blocks_from lines_of
-blocks_are shown explained given place [] [] many are = refl
-blocks_are shown explained given place [] (answer ∷ answers) many are = absurd (omega (arith, many))
-blocks_are shown explained given place (r ∷ others) [] many are = absurd (omega (arith, many))
-blocks_are shown explained given place (r ∷ others) (answer ∷ answers) many are =
-    let here : place + 0 ≡ place = omega arith in
-    let first : answer ≡ given place = are 0 ∙ ap given here in
-    next_rows (λ k x. block_text shown (line_of x (given k)) (explained k)) place r others
-    ∙ ap₂ (λ a rest. block_text shown (line_of r a) (explained place) ++ rest) (sym first)
-    (blocks_are shown explained given (place + 1) others answers (omega (arith, many))
-    (λ k. let next : place + suc k ≡ place + 1 + k = omega arith in are (suc k) ∙ ap given next))
+blocks_are shown explained given index [] [] many are = refl
+blocks_are shown explained given index [] (answer ∷ answers) many are = absurd (omega (arith, many))
+blocks_are shown explained given index (r ∷ others) [] many are = absurd (omega (arith, many))
+blocks_are shown explained given index (r ∷ others) (answer ∷ answers) many are =
+    let here : index + 0 ≡ index = omega arith in
+    let first : answer ≡ given index = are 0 ∙ ap given here in
+    next_rows (λ k x. block_text shown (line_of x (given k)) (explained k)) index r others
+    ∙ ap₂ (λ a rest. block_text shown (line_of r a) (explained index) ++ rest) (sym first)
+    (blocks_are shown explained given (index + 1) others answers (omega (arith, many))
+    (λ k. let next : index + suc k ≡ index + 1 + k = omega arith in are (suc k) ∙ ap given next))
 
 -- texts that are alike where they are shown give the same blocks
 same_blocks : (shown : Shown) (f g : ℕ → List ℕ) → ((k : ℕ) → behind_line shown.explanations (f k) ≡ behind_line shown.explanations (g k))
-    → (place : ℕ) (lines : List ReportLine) → blocks_from shown f place lines ≡ blocks_from shown g place lines
+    → (index : ℕ) (lines : List ReportLine) → blocks_from shown f index lines ≡ blocks_from shown g index lines
 unfolding blocks_from
-same_blocks shown f g same place [] = refl
-same_blocks shown f g same place (said ∷ others) =
-    ap₂ (λ behind rest. (if is_left_out shown said.verdict then [] else line_text said ++ behind) ++ rest) (same place)
-    (same_blocks shown f g same (place + 1) others)
+same_blocks shown f g same index [] = refl
+same_blocks shown f g same index (said ∷ others) =
+    ap₂ (λ behind rest. (if is_left_out shown said.verdict then [] else line_text said ++ behind) ++ rest) (same index)
+    (same_blocks shown f g same (index + 1) others)
 
 shown_alike : (explains : Bool) (a b : List ℕ) → a ≡ (if explains then b else []) → behind_line explains a ≡ behind_line explains b
 shown_alike true a b is = is
@@ -56,7 +56,7 @@ shown_alike false a b is = refl
 -- what is written of a case is its report
 pub is_told : (shown : Shown) (tree : List Entry) (abi : Abi) (records : List Record) (finding : FindingValue)
     → finding.answers ≡ judged tree abi records
-    → ((place : ℕ) → text_told tree records finding place ≡ (if shown.explanations then text_at tree abi records place else []))
+    → ((index : ℕ) → text_told tree records finding index ≡ (if shown.explanations then text_at tree abi records index else []))
     → text_of (blocks_made shown tree records finding) ≡ (told_of shown tree abi records).text
 unfolding total_of
 is_told shown tree abi records finding are said =
@@ -72,10 +72,10 @@ is_told shown tree abi records finding are said =
     ∙ ap (λ given. shown_text shown (text_at tree abi records) (lines_of records given)) are
 
 -- all lines without explanations are the report
-pub all_lines : (explained : ℕ → List ℕ) (place : ℕ) (lines : List ReportLine) → blocks_from ALL_LINES explained place lines ≡ flat_map line_text lines
+pub all_lines : (explained : ℕ → List ℕ) (index : ℕ) (lines : List ReportLine) → blocks_from ALL_LINES explained index lines ≡ flat_map line_text lines
 unfolding blocks_from
-all_lines explained place [] = refl
-all_lines explained place (said ∷ others) = ap₂ (λ (line rest : List ℕ). line ++ rest) (append-nil (line_text said)) (all_lines explained (place + 1) others)
+all_lines explained index [] = refl
+all_lines explained index (said ∷ others) = ap₂ (λ (line rest : List ℕ). line ++ rest) (append-nil (line_text said)) (all_lines explained (index + 1) others)
 
 pub is_report_text : (explained : ℕ → List ℕ) (lines : List ReportLine) → shown_text ALL_LINES explained lines ≡ report_text lines
 unfolding report_text shown_text

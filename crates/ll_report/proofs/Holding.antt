@@ -11,7 +11,7 @@ use Rattle.ll_report.specs.Scratches.{said_by}
 
 -- as many texts as findings
 pub each_told : (told : List Entry → List Record → FindingValue → ℕ → List ℕ) (s : Sayings) → length (said_by told s) ≡ length s.findings.now
-each_told told s = length-map s.findings.now (λ f. told s.tree.now s.records.now f s.place)
+each_told told s = length-map s.findings.now (λ f. told s.tree.now s.records.now f s.index)
 
 -- the room stays
 pub room_kept : (room : ℕ) (text : List ℕ) (empty after : Buffered) → empty ≡ blank room → after ≡ adding empty text → after.room ≡ room

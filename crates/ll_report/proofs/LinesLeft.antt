@@ -1,4 +1,4 @@
--- The lines of records and answers, from a place on and counted.
+-- The lines of records and answers, from an index on and counted.
 use Rattle.std.proofs.Common.{◌≡◌, ◌∙◌, ◌+◌, ◌<◌, ℕ, suc, List, [], ◌∷◌, ◌++◌, get_or, length, take, Bool, cond, refl, sym, ap, ap₂, arith}
 use Rattle.std.specs.List.{count_by}
 use Rattle.std.specs.Prelude.{slice_get, unwrap_or}
@@ -38,14 +38,14 @@ count_of-answers test (r ∷ others) (answer ∷ answers) same =
     )
 
 -- one answer more is counted
-pub one_more_counted : {X : Type 0} (test : X → Bool) (all : List X) (place : ℕ) (other x : X) (count : ℕ) (is : Bool) (more : ℕ) → place < length all
-    → count ≡ count_by test (take place all) → x ≡ unwrap_or (slice_get all place) other → is ≡ test x → more ≡ cond is 1 0
-    → count + more ≡ count_by test (take (place + 1) all)
-one_more_counted test all place other x count is more within counted read tested adds =
-    let here : is ≡ test (get_or all place other) = tested ∙ ap test (read ∙ unwrap_or-slice_get all place other) in
+pub one_more_counted : {X : Type 0} (test : X → Bool) (all : List X) (index : ℕ) (other x : X) (count : ℕ) (is : Bool) (more : ℕ) → index < length all
+    → count ≡ count_by test (take index all) → x ≡ unwrap_or (slice_get all index) other → is ≡ test x → more ≡ cond is 1 0
+    → count + more ≡ count_by test (take (index + 1) all)
+one_more_counted test all index other x count is more within counted read tested adds =
+    let here : is ≡ test (get_or all index other) = tested ∙ ap test (read ∙ unwrap_or-slice_get all index other) in
     ap₂ (λ (m n : ℕ). m + n) counted (adds ∙ ap (λ b. cond b 1 0) here)
-    ∙ sym (fold_push (λ n y. n + cond (test y) 1 0) 0 (take place all) (get_or all place other))
-    ∙ sym (ap (count_by test) (take_more all place other within))
+    ∙ sym (fold_push (λ n y. n + cond (test y) 1 0) 0 (take index all) (get_or all index other))
+    ∙ sym (ap (count_by test) (take_more all index other within))
 
 -- the text of a report, from what is shown of the records and its totals
 pub whole_text : (shown : Shown) (explained : ℕ → List ℕ) (records : List Record) (answers : List Answer) (blocks text : List ℕ) (all passed denied idle : ℕ)

@@ -42,25 +42,25 @@ pub map_same : {A B : Type 0} (f g : A → B) (xs : List A) → ((x : A) → f x
 map_same f g [] same = refl
 map_same f g (x ∷ xs) same = ap₂ (λ y ys. y ∷ ys) (same x) (map_same f g xs same)
 
-module _ (findings : List FindingValue) (place : ℕ) where
-  pub refused_alone : is_refused_under_some (answers_in findings) place ≡ some_refuses findings place
-  refused_alone = any_map (λ found. is_refused (verdict_of (answer_at found place))) answered findings
+module _ (findings : List FindingValue) (index : ℕ) where
+  pub refused_alone : is_refused_under_some (answers_in findings) index ≡ some_refuses findings index
+  refused_alone = any_map (λ found. is_refused (verdict_of (answer_at found index))) answered findings
 
   abbrev pub all_answer : List (List ℕ)
-  all_answer = map (λ finding. verdict_text (verdict_of (answer_in finding place))) findings
+  all_answer = map (λ finding. verdict_text (verdict_of (answer_in finding index))) findings
 
-  pub answered_alone : answers_said (answers_in findings) place ≡ all_answer
-  answered_alone = map_map (λ found. verdict_text (verdict_of (answer_at found place))) answered findings
+  pub answered_alone : answers_said (answers_in findings) index ≡ all_answer
+  answered_alone = map_map (λ found. verdict_text (verdict_of (answer_at found index))) answered findings
 
   module _ (explains : Bool) (tree : List Entry) (records : List Record) where
-    pub refused_in : is_refused_under_some (founds_in explains tree records findings) place ≡ some_refuses findings place
-    refused_in = any_map (λ found. is_refused (verdict_of (answer_at found place))) (found_in explains tree records) findings
+    pub refused_in : is_refused_under_some (founds_in explains tree records findings) index ≡ some_refuses findings index
+    refused_in = any_map (λ found. is_refused (verdict_of (answer_at found index))) (found_in explains tree records) findings
 
-    pub answered_in : answers_said (founds_in explains tree records findings) place ≡ all_answer
-    answered_in = map_map (λ found. verdict_text (verdict_of (answer_at found place))) (found_in explains tree records) findings
+    pub answered_in : answers_said (founds_in explains tree records findings) index ≡ all_answer
+    answered_in = map_map (λ found. verdict_text (verdict_of (answer_at found index))) (found_in explains tree records) findings
 
-    pub same_left_out : (shown : Shown) → is_row_left_out shown (answers_in findings) place ≡ is_row_left_out shown
-        (founds_in explains tree records findings) place
+    pub same_left_out : (shown : Shown) → is_row_left_out shown (answers_in findings) index ≡ is_row_left_out shown
+        (founds_in explains tree records findings) index
     same_left_out shown =
         ap₂ (λ (refused : Bool) (texts : List (List ℕ)). (shown.refused_alone && not refused) || (shown.differing_alone && agree texts))
         (refused_alone ∙ sym refused_in) (answered_alone ∙ sym answered_in)
@@ -68,34 +68,34 @@ module _ (findings : List FindingValue) (place : ℕ) where
 -- ---- explanations
 
 -- what is said of no record is nothing
-past_none : (tree : List Entry) (records : List Record) (finding : FindingValue) (place : ℕ) → length records ≤ place → text_told tree records finding
-    place ≡ []
-past_none tree records finding place past =
-    ap (λ r. said_text tree records (said_by r (kept_at finding place))) (slice_get_past records place past)
+past_none : (tree : List Entry) (records : List Record) (finding : FindingValue) (index : ℕ) → length records ≤ index → text_told tree records finding
+    index ≡ []
+past_none tree records finding index past =
+    ap (λ r. said_text tree records (said_by r (kept_at finding index))) (slice_get_past records index past)
 
-pub explained_in : (tree : List Entry) (records : List Record) (finding : FindingValue) (place : ℕ)
-    → explanation_at (found_in true tree records finding) place ≡ text_told tree records finding place
-explained_in tree records finding place = elim (cases_lt place (length records)) [
+pub explained_in : (tree : List Entry) (records : List Record) (finding : FindingValue) (index : ℕ)
+    → explanation_at (found_in true tree records finding) index ≡ text_told tree records finding index
+explained_in tree records finding index = elim (cases_lt index (length records)) [
   | inl below ↦
-      unwrap_or-slice_get (map (text_told tree records finding) (range_with_len 0 (length records))) place []
-      ∙ get_or-map-range_with_len (text_told tree records finding) 0 (length records) place place [] below (omega arith)
+      unwrap_or-slice_get (map (text_told tree records finding) (range_with_len 0 (length records))) index []
+      ∙ get_or-map-range_with_len (text_told tree records finding) 0 (length records) index index [] below (omega arith)
   | inr past ↦
-      ap (λ o. unwrap_or o []) (slice_get_past (map (text_told tree records finding) (range_with_len 0 (length records))) place
+      ap (λ o. unwrap_or o []) (slice_get_past (map (text_told tree records finding) (range_with_len 0 (length records))) index
       (omega (arith, past, length-map-range_with_len (text_told tree records finding) 0 (length records))))
-      ∙ sym (past_none tree records finding place past)
+      ∙ sym (past_none tree records finding index past)
 ]
 
-pub explanations_in : (tree : List Entry) (records : List Record) (findings : List FindingValue) (place : ℕ)
-    → explanations_said (founds_in true tree records findings) place ≡ told_under text_told tree records findings place
-explanations_in tree records findings place =
-    map_map (λ found. explanation_at found place) (found_in true tree records) findings
-    ∙ map_same (λ finding. explanation_at (found_in true tree records finding) place) (λ finding. text_told tree records finding place) findings
-    (λ finding. explained_in tree records finding place)
+pub explanations_in : (tree : List Entry) (records : List Record) (findings : List FindingValue) (index : ℕ)
+    → explanations_said (founds_in true tree records findings) index ≡ told_under text_told tree records findings index
+explanations_in tree records findings index =
+    map_map (λ found. explanation_at found index) (found_in true tree records) findings
+    ∙ map_same (λ finding. explanation_at (found_in true tree records finding) index) (λ finding. text_told tree records finding index) findings
+    (λ finding. explained_in tree records finding index)
 
 -- the same value says the same
-pub same_text : (tree : List Entry) (records : List Record) (one other : FindingValue) (place : ℕ) → kept_at one place ≡ kept_at other place
-    → text_told tree records one place ≡ text_told tree records other place
-same_text tree records one other place same = ap (λ kept. said_text tree records (said_by (slice_get records place) kept)) same
+pub same_text : (tree : List Entry) (records : List Record) (one other : FindingValue) (index : ℕ) → kept_at one index ≡ kept_at other index
+    → text_told tree records one index ≡ text_told tree records other index
+same_text tree records one other index same = ap (λ kept. said_text tree records (said_by (slice_get records index) kept)) same
 
 -- ---- records of which all versions find the same
 
@@ -107,117 +107,117 @@ alike_said said seen same (finding ∷ others) all = (
   alike_said said seen same others (All-tail (λ f. said (seen f) ≡ same) finding others all),
 )
 
-answer_so : (seen : FindingValue → Found) (place : ℕ) → ((f : FindingValue) → answer_at (seen f) place ≡ answer_in f place)
-    → (one : FindingValue) (others : List FindingValue) → All (FindsAs one place) others
-    → IsSaid (λ (found : Found). answer_at found place) (answer_in one place) (map seen (one ∷ others))
-answer_so seen place same one others are = (
+answer_so : (seen : FindingValue → Found) (index : ℕ) → ((f : FindingValue) → answer_at (seen f) index ≡ answer_in f index)
+    → (one : FindingValue) (others : List FindingValue) → All (FindsAs one index) others
+    → IsSaid (λ (found : Found). answer_at found index) (answer_in one index) (map seen (one ∷ others))
+answer_so seen index same one others are = (
   omega arith,
-  alike_said (λ (found : Found). answer_at found place) seen (answer_in one place) (one ∷ others)
-      (All-cons (λ f. answer_at (seen f) place ≡ answer_in one place) one others (same one)
-      (All-weaker (FindsAs one place) (λ f. answer_at (seen f) place ≡ answer_in one place) (λ f is. same f ∙ is.0) others are)),
+  alike_said (λ (found : Found). answer_at found index) seen (answer_in one index) (one ∷ others)
+      (All-cons (λ f. answer_at (seen f) index ≡ answer_in one index) one others (same one)
+      (All-weaker (FindsAs one index) (λ f. answer_at (seen f) index ≡ answer_in one index) (λ f is. same f ∙ is.0) others are)),
 )
 
 -- whether it is left out
-pub alike_out : (shown : Shown) (findings : List FindingValue) (place : ℕ) (one : FindingValue) (others : List FindingValue)
-    → findings ≡ one ∷ others → AreAlike findings place
-    → is_left_out shown (verdict_of (answer_in one place)) ≡ is_row_left_out shown (answers_in findings) place
-alike_out shown findings place one others is are =
-    sym (left_out_alike shown (answers_in (one ∷ others)) place (answer_in one place)
-    (answer_so answered place (λ f. refl) one others (subst (λ fs. AreAlike fs place) is are)))
-    ∙ ap (λ fs. is_row_left_out shown (answers_in fs) place) (sym is)
+pub alike_out : (shown : Shown) (findings : List FindingValue) (index : ℕ) (one : FindingValue) (others : List FindingValue)
+    → findings ≡ one ∷ others → AreAlike findings index
+    → is_left_out shown (verdict_of (answer_in one index)) ≡ is_row_left_out shown (answers_in findings) index
+alike_out shown findings index one others is are =
+    sym (left_out_alike shown (answers_in (one ∷ others)) index (answer_in one index)
+    (answer_so answered index (λ f. refl) one others (subst (λ fs. AreAlike fs index) is are)))
+    ∙ ap (λ fs. is_row_left_out shown (answers_in fs) index) (sym is)
 
-module _ (tree : List Entry) (records : List Record) (place oldest : ℕ) (one : FindingValue) (others : List FindingValue) where
-  behind_same : (explains : Bool) → AreAlike (one ∷ others) place
-      → behind_line explains (text_told tree records one place)
-      ≡ behind_line explains (versions_text Explanations oldest (explanations_said (founds_in explains tree records (one ∷ others)) place))
+module _ (tree : List Entry) (records : List Record) (index oldest : ℕ) (one : FindingValue) (others : List FindingValue) where
+  behind_same : (explains : Bool) → AreAlike (one ∷ others) index
+      → behind_line explains (text_told tree records one index)
+      ≡ behind_line explains (versions_text Explanations oldest (explanations_said (founds_in explains tree records (one ∷ others)) index))
   behind_same false are = refl
   behind_same true are =
-      let said : FindingValue → Type 0 = λ f. explanation_at (found_in true tree records f) place ≡ text_told tree records one place in
+      let said : FindingValue → Type 0 = λ f. explanation_at (found_in true tree records f) index ≡ text_told tree records one index in
       let all : All said (one ∷ others) =
-      All-cons said one others (explained_in tree records one place)
-      (All-weaker (FindsAs one place) said (λ f same. explained_in tree records f place ∙ same_text tree records f one place same.1) others are) in
-      sym (versions_alike (λ (found : Found). explanation_at found place) (λ (text : List ℕ). text) (text_told tree records one place) Explanations oldest
+      All-cons said one others (explained_in tree records one index)
+      (All-weaker (FindsAs one index) said (λ f same. explained_in tree records f index ∙ same_text tree records f one index same.1) others are) in
+      sym (versions_alike (λ (found : Found). explanation_at found index) (λ (text : List ℕ). text) (text_told tree records one index) Explanations oldest
       (founds_in true tree records (one ∷ others)) (
         omega arith,
-        alike_said (λ (found : Found). explanation_at found place) (found_in true tree records) (text_told tree records one place)
+        alike_said (λ (found : Found). explanation_at found index) (found_in true tree records) (text_told tree records one index)
             (one ∷ others) all,
       ))
 
-  first_shown : (shown : Shown) (r : Record) → AreAlike (one ∷ others) place
-      → block_of shown tree records one place r ≡ row_text shown oldest (founds_in shown.explanations tree records (one ∷ others)) place (told_of r)
+  first_shown : (shown : Shown) (r : Record) → AreAlike (one ∷ others) index
+      → block_of shown tree records one index r ≡ row_text shown oldest (founds_in shown.explanations tree records (one ∷ others)) index (told_of r)
   first_shown shown r are =
       go (cases_Bool (is_left_out shown (verdict_of answer))) where
         answer : Answer
-        answer = answer_in one place
+        answer = answer_in one index
 
         founds : List Found
         founds = founds_in shown.explanations tree records (one ∷ others)
 
-        said : IsSaid (λ (found : Found). answer_at found place) answer founds
-        said = answer_so (found_in shown.explanations tree records) place (λ f. refl) one others are
+        said : IsSaid (λ (found : Found). answer_at found index) answer founds
+        said = answer_so (found_in shown.explanations tree records) index (λ f. refl) one others are
 
         go : (is_left_out shown (verdict_of answer) ≡ true) ⊎ (is_left_out shown (verdict_of answer) ≡ false)
-            → block_of shown tree records one place r ≡ row_text shown oldest founds place (told_of r)
-        go (inl out) = rw out (sym (row_left_out shown oldest founds place r answer said out))
+            → block_of shown tree records one index r ≡ row_text shown oldest founds index (told_of r)
+        go (inl out) = rw out (sym (row_left_out shown oldest founds index r answer said out))
         go (inr shows) =
             rw shows (ap (λ behind. line_text (line_of r answer) ++ behind) (behind_same shown.explanations are)
-            ∙ row_written shown oldest founds place r answer said [] shows)
+            ∙ row_written shown oldest founds index r answer said [] shows)
 
 -- what is shown of a record of which all versions find the same, is what one of them shows
-pub shown_alike : (shown : Shown) (oldest : ℕ) (tree : List Entry) (records : List Record) (findings : List FindingValue) (place : ℕ) (r : Record)
-    (one : FindingValue) (others : List FindingValue) → findings ≡ one ∷ others → AreAlike findings place
-    → block_of shown tree records one place r ≡ row_text shown oldest (founds_in shown.explanations tree records findings) place (told_of r)
-shown_alike shown oldest tree records findings place r one others is are =
-    first_shown tree records place oldest one others shown r (subst (λ fs. AreAlike fs place) is are)
-    ∙ ap (λ fs. row_text shown oldest (founds_in shown.explanations tree records fs) place (told_of r)) (sym is)
+pub shown_alike : (shown : Shown) (oldest : ℕ) (tree : List Entry) (records : List Record) (findings : List FindingValue) (index : ℕ) (r : Record)
+    (one : FindingValue) (others : List FindingValue) → findings ≡ one ∷ others → AreAlike findings index
+    → block_of shown tree records one index r ≡ row_text shown oldest (founds_in shown.explanations tree records findings) index (told_of r)
+shown_alike shown oldest tree records findings index r one others is are =
+    first_shown tree records index oldest one others shown r (subst (λ fs. AreAlike fs index) is are)
+    ∙ ap (λ fs. row_text shown oldest (founds_in shown.explanations tree records fs) index (told_of r)) (sym is)
 
 -- ---- records about which versions may differ
 
 -- why one is left out, or is not
-module _ (shown : Shown) (findings : List FindingValue) (place : ℕ) (tree : List Entry) (records : List Record) where
-  left_out : is_row_left_out shown (answers_in findings) place
-      ≡ ((shown.refused_alone && not (some_refuses findings place)) || (shown.differing_alone && agree (told_under verdict_told tree records findings place)))
+module _ (shown : Shown) (findings : List FindingValue) (index : ℕ) (tree : List Entry) (records : List Record) where
+  left_out : is_row_left_out shown (answers_in findings) index
+      ≡ ((shown.refused_alone && not (some_refuses findings index)) || (shown.differing_alone && agree (told_under verdict_told tree records findings index)))
   left_out =
       ap₂ (λ (refused : Bool) (texts : List (List ℕ)). (shown.refused_alone && not refused) || (shown.differing_alone && agree texts))
-      (refused_alone findings place) (answered_alone findings place)
+      (refused_alone findings index) (answered_alone findings index)
 
-  pub passed_over : (shown.refused_alone && not (some_refuses findings place)) ≡ true → true ≡ is_row_left_out shown (answers_in findings) place
-  passed_over is = sym (left_out ∙ ap (λ b. b || (shown.differing_alone && agree (told_under verdict_told tree records findings place))) is)
+  pub passed_over : (shown.refused_alone && not (some_refuses findings index)) ≡ true → true ≡ is_row_left_out shown (answers_in findings) index
+  passed_over is = sym (left_out ∙ ap (λ b. b || (shown.differing_alone && agree (told_under verdict_told tree records findings index))) is)
 
-  pub kept_in : (shown.refused_alone && not (some_refuses findings place)) ≡ false → shown.differing_alone ≡ false
-      → false ≡ is_row_left_out shown (answers_in findings) place
+  pub kept_in : (shown.refused_alone && not (some_refuses findings index)) ≡ false → shown.differing_alone ≡ false
+      → false ≡ is_row_left_out shown (answers_in findings) index
   kept_in is all =
-      sym (left_out ∙ ap₂ (λ a b. a || (b && agree (told_under verdict_told tree records findings place))) is all)
+      sym (left_out ∙ ap₂ (λ a b. a || (b && agree (told_under verdict_told tree records findings index))) is all)
 
-  pub as_agreed : (shown.refused_alone && not (some_refuses findings place)) ≡ false → shown.differing_alone ≡ true
-      → agree (told_under verdict_told tree records findings place) ≡ is_row_left_out shown (answers_in findings) place
+  pub as_agreed : (shown.refused_alone && not (some_refuses findings index)) ≡ false → shown.differing_alone ≡ true
+      → agree (told_under verdict_told tree records findings index) ≡ is_row_left_out shown (answers_in findings) index
   as_agreed is differing =
-      sym (left_out ∙ ap₂ (λ a b. a || (b && agree (told_under verdict_told tree records findings place))) is differing)
+      sym (left_out ∙ ap₂ (λ a b. a || (b && agree (told_under verdict_told tree records findings index))) is differing)
 
-module _ (shown : Shown) (oldest : ℕ) (tree : List Entry) (records : List Record) (findings : List FindingValue) (place : ℕ) (r : Record) where
+module _ (shown : Shown) (oldest : ℕ) (tree : List Entry) (records : List Record) (findings : List FindingValue) (index : ℕ) (r : Record) where
   abbrev founds : List Found
   founds = founds_in shown.explanations tree records findings
 
-  pub apart_out : is_row_left_out shown (answers_in findings) place ≡ true → [] ≡ row_text shown oldest founds place (told_of r)
+  pub apart_out : is_row_left_out shown (answers_in findings) index ≡ true → [] ≡ row_text shown oldest founds index (told_of r)
   apart_out out =
-      let hidden : is_row_left_out shown founds place ≡ true = sym (same_left_out findings place shown.explanations tree records shown) ∙ out in
+      let hidden : is_row_left_out shown founds index ≡ true = sym (same_left_out findings index shown.explanations tree records shown) ∙ out in
       sym (rw hidden refl)
 
-  pub apart_shown : (behind : List ℕ) → is_row_left_out shown (answers_in findings) place ≡ false
-      → behind ≡ behind_line shown.explanations (versions_text Explanations oldest (explanations_said founds place))
-      → told_of r ++ versions_text Answers oldest (told_under verdict_told tree records findings place) ++ codes "\n" ++ behind
-      ≡ row_text shown oldest founds place (told_of r)
+  pub apart_shown : (behind : List ℕ) → is_row_left_out shown (answers_in findings) index ≡ false
+      → behind ≡ behind_line shown.explanations (versions_text Explanations oldest (explanations_said founds index))
+      → told_of r ++ versions_text Answers oldest (told_under verdict_told tree records findings index) ++ codes "\n" ++ behind
+      ≡ row_text shown oldest founds index (told_of r)
   apart_shown behind shows is =
-      let seen : is_row_left_out shown founds place ≡ false = sym (same_left_out findings place shown.explanations tree records shown) ∙ shows in
+      let seen : is_row_left_out shown founds index ≡ false = sym (same_left_out findings index shown.explanations tree records shown) ∙ shows in
       ap₂ (λ (texts : List (List ℕ)) (l : List ℕ). told_of r ++ versions_text Answers oldest texts ++ codes "\n" ++ l)
-      (sym (answered_in findings place shown.explanations tree records)) is
+      (sym (answered_in findings index shown.explanations tree records)) is
       ∙ sym (rw seen refl)
 
-pub behind_told : (explains : Bool) (oldest : ℕ) (tree : List Entry) (records : List Record) (findings : List FindingValue) (place : ℕ) → explains ≡ true
-    → versions_text Explanations oldest (told_under text_told tree records findings place)
-    ≡ behind_line explains (versions_text Explanations oldest (explanations_said (founds_in explains tree records findings) place))
-behind_told true oldest tree records findings place is = ap (versions_text Explanations oldest) (sym (explanations_in tree records findings place))
-behind_told false oldest tree records findings place is = absurd (false≢true is)
+pub behind_told : (explains : Bool) (oldest : ℕ) (tree : List Entry) (records : List Record) (findings : List FindingValue) (index : ℕ) → explains ≡ true
+    → versions_text Explanations oldest (told_under text_told tree records findings index)
+    ≡ behind_line explains (versions_text Explanations oldest (explanations_said (founds_in explains tree records findings) index))
+behind_told true oldest tree records findings index is = ap (versions_text Explanations oldest) (sym (explanations_in tree records findings index))
+behind_told false oldest tree records findings index is = absurd (false≢true is)
 
 pub behind_none : (explains : Bool) (text : List ℕ) → explains ≡ false → [] ≡ behind_line explains text
 behind_none true text is = absurd (false≢true (sym is))
@@ -259,42 +259,42 @@ count_same p q same (x ∷ xs) =
 
 -- where versions find the same, some version refuses exactly when the first one does
 abbrev refused_by : ℕ → FindingValue → Bool
-refused_by place finding = is_refused (verdict_of (answer_in finding place))
+refused_by index finding = is_refused (verdict_of (answer_in finding index))
 
-none_refuses : (place : ℕ) (one : FindingValue) (others : List FindingValue) → All (FindsAs one place) others → refused_by place one ≡ false
-    → some_refuses others place ≡ false
-none_refuses place one [] are none = refl
-none_refuses place one (other ∷ more) are none =
-    let same : refused_by place other ≡ false =
-    ap (λ (answer : Answer). is_refused (verdict_of answer)) (All-head (FindsAs one place) other more are).0 ∙ none in
-    rw same (none_refuses place one more (All-tail (FindsAs one place) other more are) none)
+none_refuses : (index : ℕ) (one : FindingValue) (others : List FindingValue) → All (FindsAs one index) others → refused_by index one ≡ false
+    → some_refuses others index ≡ false
+none_refuses index one [] are none = refl
+none_refuses index one (other ∷ more) are none =
+    let same : refused_by index other ≡ false =
+    ap (λ (answer : Answer). is_refused (verdict_of answer)) (All-head (FindsAs one index) other more are).0 ∙ none in
+    rw same (none_refuses index one more (All-tail (FindsAs one index) other more are) none)
 
-first_refuses : (place : ℕ) (one : FindingValue) (others findings : List FindingValue) → findings ≡ one ∷ others → AreAlike findings place
-    → is_refused (verdict_of (answer_in one place)) ≡ some_refuses findings place
-first_refuses place one others findings is are =
-    by_cases (cases_Bool (refused_by place one)) ∙ ap (λ (fs : List FindingValue). some_refuses fs place) (sym is)
+first_refuses : (index : ℕ) (one : FindingValue) (others findings : List FindingValue) → findings ≡ one ∷ others → AreAlike findings index
+    → is_refused (verdict_of (answer_in one index)) ≡ some_refuses findings index
+first_refuses index one others findings is are =
+    by_cases (cases_Bool (refused_by index one)) ∙ ap (λ (fs : List FindingValue). some_refuses fs index) (sym is)
   where
-    by_cases : (refused_by place one ≡ true) ⊎ (refused_by place one ≡ false) → refused_by place one ≡ some_refuses (one ∷ others) place
+    by_cases : (refused_by index one ≡ true) ⊎ (refused_by index one ≡ false) → refused_by index one ≡ some_refuses (one ∷ others) index
     by_cases (inl refused) = rw refused refl
-    by_cases (inr none) = none ∙ sym (rw none (none_refuses place one others (subst (λ (fs : List FindingValue). AreAlike fs place) is are) none))
+    by_cases (inr none) = none ∙ sym (rw none (none_refuses index one others (subst (λ (fs : List FindingValue). AreAlike fs index) is are) none))
 
 -- the newest version tells too
-newest_found : (place : ℕ) (one newest : FindingValue) (others : List FindingValue) → All (FindsAs one place) (others ++ newest ∷ [])
-    → FindsAs one place newest
-newest_found place one newest [] are = All-head (FindsAs one place) newest [] are
-newest_found place one newest (other ∷ more) are =
-    newest_found place one newest more (All-tail (FindsAs one place) other (more ++ newest ∷ []) are)
+newest_found : (index : ℕ) (one newest : FindingValue) (others : List FindingValue) → All (FindsAs one index) (others ++ newest ∷ [])
+    → FindsAs one index newest
+newest_found index one newest [] are = All-head (FindsAs one index) newest [] are
+newest_found index one newest (other ∷ more) are =
+    newest_found index one newest more (All-tail (FindsAs one index) other (more ++ newest ∷ []) are)
 
-pub newest_refuses : (place : ℕ) (newest : FindingValue) (older findings : List FindingValue) → findings ≡ older ++ newest ∷ []
-    → AreAlike findings place → is_refused (verdict_of (answer_in newest place)) ≡ some_refuses findings place
-newest_refuses place newest [] findings is are = first_refuses place newest [] findings is are
-newest_refuses place newest (one ∷ more) findings is are =
-    let same : FindsAs one place newest = newest_found place one newest more (subst (λ (fs : List FindingValue). AreAlike fs place) is are) in
-    ap (λ (answer : Answer). is_refused (verdict_of answer)) same.0 ∙ first_refuses place one (more ++ newest ∷ []) findings is are
+pub newest_refuses : (index : ℕ) (newest : FindingValue) (older findings : List FindingValue) → findings ≡ older ++ newest ∷ []
+    → AreAlike findings index → is_refused (verdict_of (answer_in newest index)) ≡ some_refuses findings index
+newest_refuses index newest [] findings is are = first_refuses index newest [] findings is are
+newest_refuses index newest (one ∷ more) findings is are =
+    let same : FindsAs one index newest = newest_found index one newest more (subst (λ (fs : List FindingValue). AreAlike fs index) is are) in
+    ap (λ (answer : Answer). is_refused (verdict_of answer)) same.0 ∙ first_refuses index one (more ++ newest ∷ []) findings is are
 
 pub same_refused : (explains : Bool) (tree : List Entry) (records : List Record) (findings : List FindingValue) (count : ℕ)
     → count_by (some_refuses findings) (range_with_len 0 count)
     ≡ count_by (is_refused_under_some (founds_in explains tree records findings)) (range_with_len 0 count)
 same_refused explains tree records findings count =
     count_same (some_refuses findings) (is_refused_under_some (founds_in explains tree records findings))
-    (λ place. sym (refused_in findings place explains tree records)) (range_with_len 0 count)
+    (λ index. sym (refused_in findings index explains tree records)) (range_with_len 0 count)

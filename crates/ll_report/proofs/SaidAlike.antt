@@ -45,14 +45,14 @@ module _ {X : Type 0} (said : Found → X) (text : X → List ℕ) (same : X) wh
       rw (agree_alike (found ∷ others) are.1) (ap (λ (x : X). alone_text form (text x)) are.1.0)
 
 -- where all answer alike, some version refuses just where all do
-module _ (place : ℕ) (answer : Answer) where
-  none_refused : (founds : List Found) → AreSaid (λ (found : Found). answer_at found place) answer founds → is_refused (verdict_of answer) ≡ false
-      → is_refused_under_some founds place ≡ false
+module _ (index : ℕ) (answer : Answer) where
+  none_refused : (founds : List Found) → AreSaid (λ (found : Found). answer_at found index) answer founds → is_refused (verdict_of answer) ≡ false
+      → is_refused_under_some founds index ≡ false
   none_refused [] are none = refl
   none_refused (found ∷ others) are none = rw (are.0, none) (none_refused others are.1 none)
 
-  pub refused_alike : (founds : List Found) → IsSaid (λ (found : Found). answer_at found place) answer founds
-      → is_refused_under_some founds place ≡ is_refused (verdict_of answer)
+  pub refused_alike : (founds : List Found) → IsSaid (λ (found : Found). answer_at found index) answer founds
+      → is_refused_under_some founds index ≡ is_refused (verdict_of answer)
   refused_alike [] are = absurd (omega (arith, are.0))
   refused_alike (found ∷ others) are =
       ⊎_elim
@@ -64,11 +64,11 @@ and-true : (b : Bool) → (b && true) ≡ b
 and-true true = refl
 and-true false = refl
 
-pub left_out_alike : (shown : Shown) (founds : List Found) (place : ℕ) (answer : Answer) → IsSaid (λ (found : Found). answer_at found place) answer founds
-    → is_row_left_out shown founds place ≡ is_left_out shown (verdict_of answer)
-left_out_alike shown founds place answer are = rw (
-  refused_alike place answer founds are,
-  agree_alike (λ (found : Found). answer_at found place)
+pub left_out_alike : (shown : Shown) (founds : List Found) (index : ℕ) (answer : Answer) → IsSaid (λ (found : Found). answer_at found index) answer founds
+    → is_row_left_out shown founds index ≡ is_left_out shown (verdict_of answer)
+left_out_alike shown founds index answer are = rw (
+  refused_alike index answer founds are,
+  agree_alike (λ (found : Found). answer_at found index)
       (λ (a : Answer). verdict_text (verdict_of a)) answer founds are.1,
   and-true shown.differing_alone,
 ) refl
@@ -81,18 +81,18 @@ joined before told blank verdict end behind =
     ∙ ap (λ (text : List ℕ). before ++ (text ++ end ++ behind)) (append_assoc told blank verdict)
 
 -- the row of a record that all versions answer alike
-module _ (shown : Shown) (oldest : ℕ) (founds : List Found) (place : ℕ) (r : Record) (answer : Answer)
-    (are : IsSaid (λ (found : Found). answer_at found place) answer founds) where
-  pub row_left_out : is_left_out shown (verdict_of answer) ≡ true → row_text shown oldest founds place (told_of r) ≡ []
-  row_left_out out = rw (left_out_alike shown founds place answer are ∙ out) refl
+module _ (shown : Shown) (oldest : ℕ) (founds : List Found) (index : ℕ) (r : Record) (answer : Answer)
+    (are : IsSaid (λ (found : Found). answer_at found index) answer founds) where
+  pub row_left_out : is_left_out shown (verdict_of answer) ≡ true → row_text shown oldest founds index (told_of r) ≡ []
+  row_left_out out = rw (left_out_alike shown founds index answer are ∙ out) refl
 
   pub row_written : (before : List ℕ) → is_left_out shown (verdict_of answer) ≡ false
-      → (before ++ line_text (line_of r answer)) ++ behind_line shown.explanations (versions_text Explanations oldest (explanations_said founds place))
-      ≡ before ++ row_text shown oldest founds place (told_of r)
+      → (before ++ line_text (line_of r answer)) ++ behind_line shown.explanations (versions_text Explanations oldest (explanations_said founds index))
+      ≡ before ++ row_text shown oldest founds index (told_of r)
   row_written before shows =
       joined before (told_of r) (codes " ") (verdict_text (verdict_of answer)) (codes "\n")
-      (behind_line shown.explanations (versions_text Explanations oldest (explanations_said founds place)))
+      (behind_line shown.explanations (versions_text Explanations oldest (explanations_said founds index)))
       ∙ rw (
-        left_out_alike shown founds place answer are ∙ shows,
-        versions_alike (λ (found : Found). answer_at found place) (λ (a : Answer). verdict_text (verdict_of a)) answer Answers oldest founds are,
+        left_out_alike shown founds index answer are ∙ shows,
+        versions_alike (λ (found : Found). answer_at found index) (λ (a : Answer). verdict_text (verdict_of a)) answer Answers oldest founds are,
       ) refl

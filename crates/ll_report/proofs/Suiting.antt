@@ -40,19 +40,19 @@ moved {at} {room} {more} {j} {k} {before} {after} {texts} marked wider are = rec
 
 module _ (at : ℕ) (told : Telling) (s : Stretch) where
   pub none_measured : IsMeasured at told s s.from [] 0
-  none_measured = record { as_many = λ rises. omega arith; each = λ small place from below. absurd (omega (arith, from, below)) }
+  none_measured = record { as_many = λ rises. omega arith; each = λ small index from below. absurd (omega (arith, from, below)) }
 
   -- one record more has its mark
-  pub one_more : {place longest next : ℕ} {compared after : List Bool} {one : Bool} → s.from ≤ place → IsMeasured at told s place compared longest
+  pub one_more : {index longest next : ℕ} {compared after : List Bool} {one : Bool} → s.from ≤ index → IsMeasured at told s index compared longest
       → after ≡ compared ++ one ∷ [] → longest ≤ next
       → (next < 2 ^ 63 → AreComparable 0 (record { compared = one ∷ []; room = next }) 0
-      (told_under verdict_told s.tree.now s.records.now s.findings.now place))
-      → (next < 2 ^ 63 → AreComparable at (record { compared = one ∷ []; room = next }) 0 (told_under told s.tree.now s.records.now s.findings.now place))
-      → IsMeasured at told s (place + 1) after next
-  one_more {place} {longest} {next} {compared} {after} {one} from so_far pushed wider verdicts texts =
-      subst (λ (marks : List Bool). IsMeasured at told s (place + 1) marks next) (sym pushed) (record {
+      (told_under verdict_told s.tree.now s.records.now s.findings.now index))
+      → (next < 2 ^ 63 → AreComparable at (record { compared = one ∷ []; room = next }) 0 (told_under told s.tree.now s.records.now s.findings.now index))
+      → IsMeasured at told s (index + 1) after next
+  one_more {index} {longest} {next} {compared} {after} {one} from so_far pushed wider verdicts texts =
+      subst (λ (marks : List Bool). IsMeasured at told s (index + 1) marks next) (sym pushed) (record {
         as_many = λ rises. omega (arith, length-append compared (one ∷ []), many, from);
-        each = λ small k above below. elim (cases_lt k place) [
+        each = λ small k above below. elim (cases_lt k index) [
           | inl before ↦
               let same = mark_before compared (one ∷ []) (k - s.from) (omega (arith, many, above, before)) in
               let was = so_far.each (omega (arith, small, wider)) k above before in
@@ -62,15 +62,15 @@ module _ (at : ℕ) (told : Telling) (s : Stretch) where
         ];
       })
     where
-      many : length compared ≡ place - s.from
+      many : length compared ≡ index - s.from
       many = so_far.as_many from
 
-      at_end : is_marked (compared ++ one ∷ []) (place - s.from) ≡ is_marked (one ∷ []) 0
-      at_end = mark_behind compared (one ∷ []) 0 (place - s.from) (omega (arith, many))
+      at_end : is_marked (compared ++ one ∷ []) (index - s.from) ≡ is_marked (one ∷ []) 0
+      at_end = mark_behind compared (one ∷ []) 0 (index - s.from) (omega (arith, many))
 
-  pub all_measured : {place longest : ℕ} {compared : List Bool} → s.from ≤ place → s.end ≤ place → (s.from ≤ s.end → place ≤ s.end)
-      → IsMeasured at told s place compared longest → IsMeasured at told s s.end compared longest
-  all_measured {place} {longest} {compared} from past within so_far = record {
+  pub all_measured : {index longest : ℕ} {compared : List Bool} → s.from ≤ index → s.end ≤ index → (s.from ≤ s.end → index ≤ s.end)
+      → IsMeasured at told s index compared longest → IsMeasured at told s s.end compared longest
+  all_measured {index} {longest} {compared} from past within so_far = record {
     as_many = λ rises. omega (arith, so_far.as_many from, past, within rises);
     each = λ small k above below. so_far.each small k above (omega (arith, below, past));
   }
@@ -120,12 +120,12 @@ pub suited : {at longest room : ℕ} {told : Telling} {s : Stretch} {marks : Lis
     → room ≡ longest → IsMeasured at told s s.end marks longest
     → Suits at told s.tree.now s.records.now s.findings.now (record { compared = marks; room = room })
 suited {at} {longest} {room} {told} {s} {marks} first all small holds known = record {
-  verdicts = λ place below. moved (first_mark place) (omega (arith, holds)) (each place below).0;
-  texts = λ place below. moved (first_mark place) (omega (arith, holds)) (each place below).1;
+  verdicts = λ index below. moved (first_mark index) (omega (arith, holds)) (each index below).0;
+  texts = λ index below. moved (first_mark index) (omega (arith, holds)) (each index below).1;
 }
   where
-    first_mark : (place : ℕ) → is_marked marks place ≡ is_marked marks (place - s.from)
-    first_mark place = ap (is_marked marks) (omega (arith, first))
+    first_mark : (index : ℕ) → is_marked marks index ≡ is_marked marks (index - s.from)
+    first_mark index = ap (is_marked marks) (omega (arith, first))
 
-    each : (place : ℕ) → place < length s.records.now → IsComparableAt at told s (record { compared = marks; room = longest }) place
-    each place below = known.each small place (omega (arith, first)) (omega (arith, all, below))
+    each : (index : ℕ) → index < length s.records.now → IsComparableAt at told s (record { compared = marks; room = longest }) index
+    each index below = known.each small index (omega (arith, first)) (omega (arith, all, below))

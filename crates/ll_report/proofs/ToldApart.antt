@@ -18,43 +18,43 @@ use Rattle.ll_report.proofs.Suiting.{Telling}
 -- findings that answer and explain a record by the same values are told alike
 abbrev pub ByValue : Telling → Type 0
 ByValue told =
-    (tree : List Entry) (records : List Record) (one other : FindingValue) (place : ℕ) → answer_in one place ≡ answer_in other place
-    → kept_at one place ≡ kept_at other place → told tree records one place ≡ told tree records other place
+    (tree : List Entry) (records : List Record) (one other : FindingValue) (index : ℕ) → answer_in one index ≡ answer_in other index
+    → kept_at one index ≡ kept_at other index → told tree records one index ≡ told tree records other index
 
 -- ---- versions that find the same
 
-module _ (told : Telling) (by_value : ByValue told) (tree : List Entry) (records : List Record) (place : ℕ) where
-  told_first : (first : FindingValue) (others : List FindingValue) → All (FindsAs first place) others → (k : ℕ) → k < length others
-      → get_or (told_under told tree records others place) k [] ≡ told tree records first place
+module _ (told : Telling) (by_value : ByValue told) (tree : List Entry) (records : List Record) (index : ℕ) where
+  told_first : (first : FindingValue) (others : List FindingValue) → All (FindsAs first index) others → (k : ℕ) → k < length others
+      → get_or (told_under told tree records others index) k [] ≡ told tree records first index
   told_first first [] are k below = absurd (omega (arith, below))
   told_first first (other ∷ more) are zero below =
-      let same : FindsAs first place other = All-head (FindsAs first place) other more are in
-      by_value tree records other first place same.0 same.1
-  told_first first (other ∷ more) are (suc k) below = told_first first more (All-tail (FindsAs first place) other more are) k (omega (arith, below))
+      let same : FindsAs first index other = All-head (FindsAs first index) other more are in
+      by_value tree records other first index same.0 same.1
+  told_first first (other ∷ more) are (suc k) below = told_first first more (All-tail (FindsAs first index) other more are) k (omega (arith, below))
 
-  told_alike : (first : FindingValue) (others : List FindingValue) → All (FindsAs first place) others → (k : ℕ) → k < length (first ∷ others)
-      → get_or (told_under told tree records (first ∷ others) place) k [] ≡ told tree records first place
+  told_alike : (first : FindingValue) (others : List FindingValue) → All (FindsAs first index) others → (k : ℕ) → k < length (first ∷ others)
+      → get_or (told_under told tree records (first ∷ others) index) k [] ≡ told tree records first index
   told_alike first others are zero below = refl
   told_alike first others are (suc k) below = told_first first others are k (omega (arith, below))
 
   -- what they say is told apart
-  pub apart_alike : (at : ℕ) (findings : List FindingValue) → AreAlike findings place → AreToldApart at (told_under told tree records findings place)
+  pub apart_alike : (at : ℕ) (findings : List FindingValue) → AreAlike findings index → AreToldApart at (told_under told tree records findings index)
   apart_alike at [] are k below same = absurd (omega (arith, below))
   apart_alike at (first ∷ others) are k below same =
-      let many = length-map (first ∷ others) (λ (f : FindingValue). told tree records f place) in
+      let many = length-map (first ∷ others) (λ (f : FindingValue). told tree records f index) in
       told_alike first others are k (omega (arith, below, many)) ∙ sym (told_alike first others are (k + 1) (omega (arith, below, many)))
 
   -- and they agree
-  agree_first : (first : FindingValue) (others : List FindingValue) → All (FindsAs first place) others
-      → list_all (λ (other : List ℕ). bytes_eq (told tree records first place) other) (told_under told tree records others place) ≡ true
+  agree_first : (first : FindingValue) (others : List FindingValue) → All (FindsAs first index) others
+      → list_all (λ (other : List ℕ). bytes_eq (told tree records first index) other) (told_under told tree records others index) ≡ true
   agree_first first [] are = refl
   agree_first first (other ∷ more) are =
-      let found : FindsAs first place other = All-head (FindsAs first place) other more are in
-      let same : told tree records first place ≡ told tree records other place = by_value tree records first other place (sym found.0) (sym found.1) in
-      rw ((bytes_eq-Decides (told tree records first place) (told tree records other place)).1 same)
-      (agree_first first more (All-tail (FindsAs first place) other more are))
+      let found : FindsAs first index other = All-head (FindsAs first index) other more are in
+      let same : told tree records first index ≡ told tree records other index = by_value tree records first other index (sym found.0) (sym found.1) in
+      rw ((bytes_eq-Decides (told tree records first index) (told tree records other index)).1 same)
+      (agree_first first more (All-tail (FindsAs first index) other more are))
 
-  pub agree_alike : (findings : List FindingValue) → AreAlike findings place → agree (told_under told tree records findings place) ≡ true
+  pub agree_alike : (findings : List FindingValue) → AreAlike findings index → agree (told_under told tree records findings index) ≡ true
   agree_alike [] are = refl
   agree_alike (first ∷ others) are = agree_first first others are
 

@@ -12,9 +12,9 @@ use Rattle.ll_report.specs.Made.{Made, rows_of}
 use Rattle.ll_report.specs.Report.{is_allowed, is_moot, is_refused, total_text}
 use Rattle.ll_report.specs.Shown.{block_text}
 
--- what is shown of the record at a place
+-- what is shown of the record at an index
 abbrev pub block_of : Shown → List Entry → List Record → FindingValue → ℕ → Record → List ℕ
-block_of shown tree records finding place r = block_text shown (line_of r (answer_in finding place)) (text_told tree records finding place)
+block_of shown tree records finding index r = block_text shown (line_of r (answer_in finding index)) (text_told tree records finding index)
 
 -- the last line, by the answers
 unfoldable pub total_of : List Answer → List ℕ

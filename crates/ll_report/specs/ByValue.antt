@@ -12,13 +12,13 @@ use Rattle.ll_report.specs.Lines.{verdict_of}
 use Rattle.ll_report.specs.Report.{verdict_text}
 use Rattle.ll_report.specs.Scratches.{verdict_told}
 
-pub verdict_by_value : (tree : List Entry) (records : List Record) (one other : FindingValue) (place : ℕ)
-    → answer_in one place ≡ answer_in other place → kept_at one place ≡ kept_at other place
-    → verdict_told tree records one place ≡ verdict_told tree records other place
-verdict_by_value tree records one other place answered explained = ap (λ (answer : Answer). verdict_text (verdict_of answer)) answered
+pub verdict_by_value : (tree : List Entry) (records : List Record) (one other : FindingValue) (index : ℕ)
+    → answer_in one index ≡ answer_in other index → kept_at one index ≡ kept_at other index
+    → verdict_told tree records one index ≡ verdict_told tree records other index
+verdict_by_value tree records one other index answered explained = ap (λ (answer : Answer). verdict_text (verdict_of answer)) answered
 
-pub text_by_value : (tree : List Entry) (records : List Record) (one other : FindingValue) (place : ℕ)
-    → answer_in one place ≡ answer_in other place → kept_at one place ≡ kept_at other place
-    → text_told tree records one place ≡ text_told tree records other place
-text_by_value tree records one other place answered explained =
-    ap (λ (kept : Option Explained). said_text tree records (said_by (slice_get records place) kept)) explained
+pub text_by_value : (tree : List Entry) (records : List Record) (one other : FindingValue) (index : ℕ)
+    → answer_in one index ≡ answer_in other index → kept_at one index ≡ kept_at other index
+    → text_told tree records one index ≡ text_told tree records other index
+text_by_value tree records one other index answered explained =
+    ap (λ (kept : Option Explained). said_text tree records (said_by (slice_get records index) kept)) explained

@@ -16,7 +16,7 @@ pub record Found : Type 0 where
   pub explanations : List (List ℕ)
 
 -- What is found of records whose calls meet this tree: the answers are those of one fold over all records. Explanations
--- are told in some form, which gives the text for the record at a place.
+-- are told in some form, which gives the text for the record at an index.
 abbrev pub found_by : (List Entry → Abi → List Record → ℕ → List ℕ) → Shown → List Entry → List Record → Abi → Found
 found_by told shown tree records abi = record {
   answers = judged tree abi records;
@@ -27,10 +27,10 @@ found_by told shown tree records abi = record {
 abbrev pub found_under : Shown → List Entry → List Record → Abi → Found
 found_under = found_by text_at
 
--- the answer to the record at a place; there is one for each record
+-- the answer to the record at an index; there is one for each record
 abbrev pub answer_at : Found → ℕ → Answer
-answer_at found place = unwrap_or (slice_get found.answers place) Moot
+answer_at found index = unwrap_or (slice_get found.answers index) Moot
 
--- the explanation of the record at a place
+-- the explanation of the record at an index
 abbrev pub explanation_at : Found → ℕ → List ℕ
-explanation_at found place = unwrap_or (slice_get found.explanations place) []
+explanation_at found index = unwrap_or (slice_get found.explanations index) []

@@ -13,15 +13,15 @@ pub record Made : Type 0 where
 abbrev pub text_of : Made → List ℕ
 text_of made = flat_map (λ row. row) made.shown ++ made.last
 
--- the row at a place
+-- the row at an index
 abbrev pub row_at : Made → ℕ → List ℕ
-row_at made place = unwrap_or (slice_get made.shown place) []
+row_at made index = unwrap_or (slice_get made.shown index) []
 
--- The rows of records, the first of which is at a place of the trace. A row is given by the place of its record and the record.
+-- The rows of records, the first of which is at an index of the trace. A row is given by the index of its record and the record.
 unfoldable pub rows_of : (ℕ → Record → List ℕ) → ℕ → List Record → List (List ℕ)
-rows_of row place [] = []
-rows_of row place (r ∷ others) = row place r ∷ rows_of row (place + 1) others
+rows_of row index [] = []
+rows_of row index (r ∷ others) = row index r ∷ rows_of row (index + 1) others
 
--- the row at a place, or the last lines where there are fewer rows
+-- the row at an index, or the last lines where there are fewer rows
 abbrev pub part_at : Made → ℕ → List ℕ
-part_at made place = unwrap_or (slice_get made.shown place) made.last
+part_at made index = unwrap_or (slice_get made.shown index) made.last

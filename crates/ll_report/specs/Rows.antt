@@ -17,42 +17,42 @@ use Rattle.ll_report.specs.Spans.{agree, versions_text}
 abbrev pub told_of : Record → List ℕ
 told_of r = record_text r.line r.pid (op_name r.op)
 
--- what is answered to the record at a place, and how it is explained, under each version
+-- what is answered to the record at an index, and how it is explained, under each version
 abbrev pub answers_said : List Found → ℕ → List (List ℕ)
-answers_said founds place = map (λ found. verdict_text (verdict_of (answer_at found place))) founds
+answers_said founds index = map (λ found. verdict_text (verdict_of (answer_at found index))) founds
 
 abbrev pub explanations_said : List Found → ℕ → List (List ℕ)
-explanations_said founds place = map (λ found. explanation_at found place) founds
+explanations_said founds index = map (λ found. explanation_at found index) founds
 
 -- the one or the other, as the form says, under one version and under each
 abbrev pub said_by : Form → ℕ → Found → List ℕ
-said_by Answers place found = verdict_text (verdict_of (answer_at found place))
-said_by Explanations place found = explanation_at found place
+said_by Answers index found = verdict_text (verdict_of (answer_at found index))
+said_by Explanations index found = explanation_at found index
 
 abbrev pub said_under : Form → List Found → ℕ → List (List ℕ)
-said_under form founds place = map (said_by form place) founds
+said_under form founds index = map (said_by form index) founds
 
--- some version refuses the record at a place
+-- some version refuses the record at an index
 abbrev pub is_refused_under_some : List Found → ℕ → Bool
-is_refused_under_some founds place = list_any (λ found. is_refused (verdict_of (answer_at found place))) founds
+is_refused_under_some founds index = list_any (λ found. is_refused (verdict_of (answer_at found index))) founds
 
 -- a record that is left out: only refused ones are shown, or only those whose answer differs, and it is none
 abbrev pub is_row_left_out : Shown → List Found → ℕ → Bool
-is_row_left_out shown founds place =
-    (shown.refused_alone && not (is_refused_under_some founds place)) || (shown.differing_alone && agree (answers_said founds place))
+is_row_left_out shown founds index =
+    (shown.refused_alone && not (is_refused_under_some founds index)) || (shown.differing_alone && agree (answers_said founds index))
 
--- What is shown of the record at a place, of which the report tells so: nothing, or its line and what is behind it.
+-- What is shown of the record at an index, of which the report tells so: nothing, or its line and what is behind it.
 abbrev pub row_text : Shown → ℕ → List Found → ℕ → List ℕ → List ℕ
-row_text shown oldest founds place told =
-    if is_row_left_out shown founds place then []
-    else told ++ versions_text Answers oldest (answers_said founds place) ++ codes "\n"
-    ++ behind_line shown.explanations (versions_text Explanations oldest (explanations_said founds place))
+row_text shown oldest founds index told =
+    if is_row_left_out shown founds index then []
+    else told ++ versions_text Answers oldest (answers_said founds index) ++ codes "\n"
+    ++ behind_line shown.explanations (versions_text Explanations oldest (explanations_said founds index))
 
--- what is shown of records, the first of which is at a place of the trace
+-- what is shown of records, the first of which is at an index of the trace
 unfoldable pub rows_from : Shown → ℕ → List Found → ℕ → List Record → List ℕ
-rows_from shown oldest founds place [] = []
-rows_from shown oldest founds place (r ∷ others) =
-    row_text shown oldest founds place (told_of r) ++ rows_from shown oldest founds (place + 1) others
+rows_from shown oldest founds index [] = []
+rows_from shown oldest founds index (r ∷ others) =
+    row_text shown oldest founds index (told_of r) ++ rows_from shown oldest founds (index + 1) others
 
 -- how many answers a test of their verdicts holds for
 abbrev pub count_under : (Verdict → Bool) → Found → ℕ

@@ -10,7 +10,7 @@ use Rattle.ll_report.specs.declared.sayings.Sayings.{Sayings}
 
 -- ---- texts that are told apart without being made
 
--- the fingerprint of a text: 0 if it is empty, else one more than its byte at a place
+-- the fingerprint of a text: 0 if it is empty, else one more than its byte at an index
 abbrev pub fingerprint_of : ℕ → List ℕ → ℕ
 fingerprint_of at [] = 0
 fingerprint_of at (byte ∷ more) = get_or (byte ∷ more) at 0 + 1
@@ -23,9 +23,9 @@ AreToldApart at texts =
 
 -- ---- what is kept to compare what versions say
 
--- the record at a place is marked
+-- the record at an index is marked
 abbrev pub is_marked : List Bool → ℕ → Bool
-is_marked marks place = unwrap_or (slice_get marks place) false
+is_marked marks index = unwrap_or (slice_get marks index) false
 
 -- of each record whether texts about it are compared, and how long a text can be held
 pub record ScratchValue : Type 0 where
@@ -37,29 +37,29 @@ is_compared scratch = is_marked scratch.compared
 
 -- how an answer is told
 abbrev pub verdict_told : List Entry → List Record → FindingValue → ℕ → List ℕ
-verdict_told tree records finding place = verdict_text (verdict_of (answer_in finding place))
+verdict_told tree records finding index = verdict_text (verdict_of (answer_in finding index))
 
--- what is told of the record at a place under each version
+-- what is told of the record at an index under each version
 abbrev pub told_under : (List Entry → List Record → FindingValue → ℕ → List ℕ) → List Entry → List Record → List FindingValue → ℕ → List (List ℕ)
-told_under told tree records findings place = map (λ finding. told tree records finding place) findings
+told_under told tree records findings index = map (λ finding. told tree records finding index) findings
 
 -- each of these texts can be held
 abbrev pub FitIn : ℕ → List (List ℕ) → Type 0
 FitIn room texts = All (λ text. length text ≤ room) texts
 
--- these texts, which are about the record at a place, are told apart by their fingerprints, or can be held
-pub record AreComparable (at : ℕ) (scratch : ScratchValue) (place : ℕ) (texts : List (List ℕ)) : Type 0 where
-  pub apart : is_compared scratch place ≡ false → AreToldApart at texts
-  pub fit : is_compared scratch place ≡ true → FitIn scratch.room texts
+-- these texts, which are about the record at an index, are told apart by their fingerprints, or can be held
+pub record AreComparable (at : ℕ) (scratch : ScratchValue) (index : ℕ) (texts : List (List ℕ)) : Type 0 where
+  pub apart : is_compared scratch index ≡ false → AreToldApart at texts
+  pub fit : is_compared scratch index ≡ true → FitIn scratch.room texts
 
 -- what versions say of each record can be compared
 pub record Suits (at : ℕ) (told : List Entry → List Record → FindingValue → ℕ → List ℕ) (tree : List Entry) (records : List Record)
     (findings : List FindingValue) (scratch : ScratchValue) : Type 0 where
-  pub verdicts : (place : ℕ) → place < length records → AreComparable 0 scratch place (told_under verdict_told tree records findings place)
-  pub texts : (place : ℕ) → place < length records → AreComparable at scratch place (told_under told tree records findings place)
+  pub verdicts : (index : ℕ) → index < length records → AreComparable 0 scratch index (told_under verdict_told tree records findings index)
+  pub texts : (index : ℕ) → index < length records → AreComparable at scratch index (told_under told tree records findings index)
 
--- ---- what versions say of the record at a place, by the findings, the tree and the records at hand
+-- ---- what versions say of the record at an index, by the findings, the tree and the records at hand
 
 -- what is told under each version
 abbrev pub said_by : (List Entry → List Record → FindingValue → ℕ → List ℕ) → Sayings → List (List ℕ)
-said_by told sayings = told_under told sayings.tree.now sayings.records.now sayings.findings.now sayings.place
+said_by told sayings = told_under told sayings.tree.now sayings.records.now sayings.findings.now sayings.index

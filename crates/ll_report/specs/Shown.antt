@@ -35,12 +35,12 @@ abbrev pub block_text : Shown → ReportLine → List ℕ → List ℕ
 block_text shown said explanation =
     if is_left_out shown said.verdict then [] else line_text said ++ behind_line shown.explanations explanation
 
--- What is shown of records, the first of which is at a place of the trace. The explanations are given by the places
+-- What is shown of records, the first of which is at an index of the trace. The explanations are given by the indices
 -- of the records.
 unfoldable pub blocks_from : Shown → (ℕ → List ℕ) → ℕ → List ReportLine → List ℕ
-blocks_from shown explained place [] = []
-blocks_from shown explained place (said ∷ others) =
-    block_text shown said (explained place) ++ blocks_from shown explained (place + 1) others
+blocks_from shown explained index [] = []
+blocks_from shown explained index (said ∷ others) =
+    block_text shown said (explained index) ++ blocks_from shown explained (index + 1) others
 
 -- the report as it is shown
 unfoldable pub shown_text : Shown → (ℕ → List ℕ) → List ReportLine → List ℕ

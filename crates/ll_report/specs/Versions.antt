@@ -29,7 +29,7 @@ founds_in explains tree records findings = map (found_in explains tree records) 
 -- what is shown of each record, and the last lines
 abbrev pub rows_made : Shown → ℕ → List Found → List Record → Made
 rows_made shown oldest founds records = record {
-  shown = rows_of (λ place r. row_text shown oldest founds place (told_of r)) 0 records;
+  shown = rows_of (λ index r. row_text shown oldest founds index (told_of r)) 0 records;
   last = totals_from oldest founds;
 }
 
@@ -40,19 +40,19 @@ answered finding = record { answers = finding.answers; explanations = [] }
 abbrev pub answers_in : List FindingValue → List Found
 answers_in findings = map answered findings
 
--- some version refuses the record at a place
+-- some version refuses the record at an index
 abbrev pub some_refuses : List FindingValue → ℕ → Bool
-some_refuses findings place = list_any (λ finding. is_refused (verdict_of (answer_in finding place))) findings
+some_refuses findings index = list_any (λ finding. is_refused (verdict_of (answer_in finding index))) findings
 
 -- the numbers of versions fit, and what they say of a record, in words for their answers and as text, can be compared
 pub record IsTellable (scratch : ScratchValue) (row : Row) : Type 0 where
   pub few : row.oldest + length row.sayings.findings.now < 2 ^ 64
-  pub verdicts : AreComparable 0 scratch row.sayings.place (said_by verdict_told row.sayings)
-  pub texts : AreComparable 0 scratch row.sayings.place (said_by text_told row.sayings)
+  pub verdicts : AreComparable 0 scratch row.sayings.index (said_by verdict_told row.sayings)
+  pub texts : AreComparable 0 scratch row.sayings.index (said_by text_told row.sayings)
 
 -- what is shown of a record, by what there is to say of it
 abbrev pub row_of : Row → List ℕ
 row_of row =
     row_text row.shown row.oldest
     (founds_in row.shown.explanations row.sayings.tree.now row.sayings.records.now row.sayings.findings.now)
-    row.sayings.place (told_of row.record.now)
+    row.sayings.index (told_of row.record.now)

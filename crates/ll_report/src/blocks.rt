@@ -21,7 +21,7 @@ pub(crate) fn is_hidden(shown: Shown, answer: &Answer) -> bool
     shown.refused_alone && !is_refused(answer) || shown.differing_alone
 }
 
-/// Adds what is shown of the record at a place, by what was found of it.
+/// Adds what is shown of the record at an index, by what was found of it.
 #[tactic(auto, using(ll_explain::proofs::Buffering::adding_both, ll_explain::proofs::Buffering::adding_nothing))]
 pub(crate) fn push_block(
     text: &mut TextBuffer,
@@ -29,19 +29,19 @@ pub(crate) fn push_block(
     tree: &Tree,
     records: &[Record],
     finding: &Finding,
-    place: usize,
+    index: usize,
     record: &Record,
 )
     ensures { text.new ≡ adding text.old
-        (block_of shown tree.now records.now finding.now place «record».now) }
+        (block_of shown tree.now records.now finding.now index «record».now) }
 {
-    let answer = finding.answer(place);
+    let answer = finding.answer(index);
     if is_hidden(shown, &answer) {
         return;
     }
     push_line(text, record, &answer);
     if shown.explanations {
-        push_found(text, tree, records, finding, place);
+        push_found(text, tree, records, finding, index);
     }
 }
 
@@ -63,17 +63,17 @@ impl Rows for Blocks {
         self.case.trace().records().len()
     }
 
-    fn push_row(&mut self, text: &mut TextBuffer, place: usize) {
+    fn push_row(&mut self, text: &mut TextBuffer, index: usize) {
         let tree = self.case.tree();
         let records = self.case.trace().records();
-        if let Some(record) = records.get(place) {
+        if let Some(record) = records.get(index) {
             push_block(
                 text,
                 self.shown,
                 tree,
                 records,
                 &self.finding,
-                place,
+                index,
                 record,
             );
         }

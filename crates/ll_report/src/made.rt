@@ -17,10 +17,10 @@ pub trait Rows {
     fn count(&self) -> usize
         ensures { result ≡ length (made_of self.now).shown };
 
-    /// Adds the row at a place.
-    fn push_row(&mut self, text: &mut TextBuffer, place: usize)
-        requires { place < length (made_of self.old).shown }
-        ensures row { text.new ≡ adding text.old (row_at (made_of self.old) place) }
+    /// Adds the row at an index.
+    fn push_row(&mut self, text: &mut TextBuffer, index: usize)
+        requires { index < length (made_of self.old).shown }
+        ensures row { text.new ≡ adding text.old (row_at (made_of self.old) index) }
         ensures made { made_of self.new ≡ made_of self.old };
 
     /// Adds the last lines.

@@ -70,8 +70,8 @@ impl<R: Rows + Drop> Paged<R> {
     {
         let Paged { mut rows, mut page } = self;
         page.clear();
-        for place in 0..rows.count() {
-            put_part(&mut rows, place, &mut page, out)?;
+        for index in 0..rows.count() {
+            put_part(&mut rows, index, &mut page, out)?;
         }
         let last = rows.count();
         put_part(&mut rows, last, &mut page, out)?;
@@ -86,28 +86,28 @@ fn push_all<R: Rows>(rows: &mut R, text: &mut TextBuffer)
     ensures text { text.new ≡ adding text.old (text_of (R.made_of rows.old)) }
     ensures made { R.made_of rows.new ≡ R.made_of rows.old }
 {
-    for place in 0..rows.count() {
-        rows.push_row(text, place);
+    for index in 0..rows.count() {
+        rows.push_row(text, index);
     }
     rows.push_last(text);
 }
 
-/// Adds the row at a place, or the last lines where there are fewer rows.
-fn push_part<R: Rows>(rows: &mut R, text: &mut TextBuffer, place: usize)
-    ensures part { text.new ≡ adding text.old (part_at (R.made_of rows.old) place) }
+/// Adds the row at an index, or the last lines where there are fewer rows.
+fn push_part<R: Rows>(rows: &mut R, text: &mut TextBuffer, index: usize)
+    ensures part { text.new ≡ adding text.old (part_at (R.made_of rows.old) index) }
     ensures made { R.made_of rows.new ≡ R.made_of rows.old }
 {
-    if place < rows.count() {
-        rows.push_row(text, place);
+    if index < rows.count() {
+        rows.push_row(text, index);
     } else {
         rows.push_last(text);
     }
 }
 
-/// Puts the part at a place on a page, behind what is held there, and writes out the page where it is full.
+/// Puts the part at an index on a page, behind what is held there, and writes out the page where it is full.
 fn put_part<R: Rows, O: Write>(
     rows: &mut R,
-    place: usize,
+    index: usize,
     page: &mut TextBuffer,
     out: &mut O,
 ) -> io::Result<()>
@@ -115,39 +115,39 @@ fn put_part<R: Rows, O: Write>(
     ensures page { OnOk result (IsPage page.new) }
     ensures made { R.made_of rows.new ≡ R.made_of rows.old }
     ensures sent { OnOk result (Sends (O.contents out.old) (O.contents out.new)
-        (page.old.held ++ part_at (R.made_of rows.old) place) page.new.held) }
+        (page.old.held ++ part_at (R.made_of rows.old) index) page.new.held) }
     ensures beginning { AppendsBeginning (O.contents out.old) (O.contents out.new)
-        (page.old.held ++ part_at (R.made_of rows.old) place) }
+        (page.old.held ++ part_at (R.made_of rows.old) index) }
 {
     let written = page.room() - page.held().len();
-    push_part(rows, page, place);
+    push_part(rows, page, index);
     if page.count() <= page.room() {
         return Ok(());
     }
     write_bytes(out, page.held())?;
-    put_rest(rows, place, written, page, out)?;
+    put_rest(rows, index, written, page, out)?;
     Ok(())
 }
 
 /// Puts a part on a page without its first bytes, which are written already.
 fn put_rest<R: Rows, O: Write>(
     rows: &mut R,
-    place: usize,
+    index: usize,
     skip: usize,
     page: &mut TextBuffer,
     out: &mut O,
 ) -> io::Result<()>
     requires room { 0 < page.old.room }
-    requires skip { skip ≤ length (part_at (R.made_of rows.old) place) }
+    requires skip { skip ≤ length (part_at (R.made_of rows.old) index) }
     ensures page { OnOk result (IsPage page.new) }
     ensures made { R.made_of rows.new ≡ R.made_of rows.old }
     ensures sent { OnOk result (Sends (O.contents out.old) (O.contents out.new)
-        (drop skip (part_at (R.made_of rows.old) place)) page.new.held) }
+        (drop skip (part_at (R.made_of rows.old) index)) page.new.held) }
     ensures beginning { AppendsBeginning (O.contents out.old) (O.contents out.new)
-        (drop skip (part_at (R.made_of rows.old) place)) }
+        (drop skip (part_at (R.made_of rows.old) index)) }
 {
     let mut written = skip;
-    while !holds_rest(rows, place, written, page) {
+    while !holds_rest(rows, index, written, page) {
         write_bytes(out, page.held())?;
         let Some(next) = written.checked_add(page.room()) else {
             return Err(ErrorKind::FileTooLarge.into());
@@ -159,19 +159,19 @@ fn put_rest<R: Rows, O: Write>(
 }
 
 /// Puts a part on an empty page without its first bytes, as much as there is room for, and says whether that is all.
-fn holds_rest<R: Rows>(rows: &mut R, place: usize, skip: usize, page: &mut TextBuffer) -> bool
-    requires { skip ≤ length (part_at (R.made_of rows.old) place) }
+fn holds_rest<R: Rows>(rows: &mut R, index: usize, skip: usize, page: &mut TextBuffer) -> bool
+    requires { skip ≤ length (part_at (R.made_of rows.old) index) }
     ensures room { page.new.room ≡ page.old.room }
     ensures made { R.made_of rows.new ≡ R.made_of rows.old }
     ensures held { page.new.held
-        ≡ take page.old.room (drop skip (part_at (R.made_of rows.old) place)) }
+        ≡ take page.old.room (drop skip (part_at (R.made_of rows.old) index)) }
     ensures all { OnTrue result
-        (length (part_at (R.made_of rows.old) place) ≤ skip + page.old.room) }
+        (length (part_at (R.made_of rows.old) index) ≤ skip + page.old.room) }
     ensures more { OnFalse result (skip + page.old.room < 2 ^ 64
-        → skip + page.old.room ≤ length (part_at (R.made_of rows.old) place)) }
+        → skip + page.old.room ≤ length (part_at (R.made_of rows.old) index)) }
 {
     page.restart(skip);
-    push_part(rows, page, place);
+    push_part(rows, page, index);
     is_room_for(page.count(), skip, page.room())
 }
 

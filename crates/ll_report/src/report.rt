@@ -189,8 +189,8 @@ impl Totals {
             refused: 0,
             moot: 0,
         };
-        for place in 0..finding.count() {
-            let answer = finding.answer(place);
+        for index in 0..finding.count() {
+            let answer = finding.answer(index);
             totals.all += 1;
             totals.allowed += one_if(is_allowed(&answer));
             totals.refused += one_if(is_refused(&answer));

@@ -19,25 +19,25 @@ use ll_explain::{TextBuffer, push_words};
 use ll_explanations::{Finding, Findings};
 use ll_trace::Record;
 
-/// Whether some version refuses the record at a place.
-fn some_refuses(findings: &[Finding], place: usize) -> bool
-    ensures { result ≡ some_refuses findings.now place }
+/// Whether some version refuses the record at an index.
+fn some_refuses(findings: &[Finding], index: usize) -> bool
+    ensures { result ≡ some_refuses findings.now index }
 {
     findings
         .iter()
-        .any(|finding| is_refused(&finding.answer(place)))
+        .any(|finding| is_refused(&finding.answer(index)))
 }
 
-/// Whether some version refuses the record at a place. Where they find the same, the newest one tells, which keeps all
+/// Whether some version refuses the record at an index. Where they find the same, the newest one tells, which keeps all
 /// that it finds in one list.
-fn is_refused_under_some(findings: &Findings, place: usize) -> bool
-    ensures { result ≡ some_refuses findings.now place }
+fn is_refused_under_some(findings: &Findings, index: usize) -> bool
+    ensures { result ≡ some_refuses findings.now index }
 {
-    if findings.is_apart(place) {
-        return some_refuses(findings.as_slice(), place);
+    if findings.is_apart(index) {
+        return some_refuses(findings.as_slice(), index);
     }
     match findings.as_slice().split_last() {
-        Some((newest, _)) => is_refused(&newest.answer(place)),
+        Some((newest, _)) => is_refused(&newest.answer(index)),
         None => false,
     }
 }
@@ -47,25 +47,25 @@ pub fn refused_under_some(findings: &Findings, records: usize) -> u64
     ensures { result ≡ count_by (some_refuses findings.now) (range_with_len 0 records) }
 {
     (0..records)
-        .filter(|place| is_refused_under_some(findings, *place))
+        .filter(|index| is_refused_under_some(findings, *index))
         .count() as u64
 }
 
 /// Whether refused records alone are shown, and no version refuses this one.
-fn is_passed_over(shown: Shown, findings: &Findings, place: usize) -> bool
-    ensures { result ≡ (shown.refused_alone && not (some_refuses findings.now place)) }
+fn is_passed_over(shown: Shown, findings: &Findings, index: usize) -> bool
+    ensures { result ≡ (shown.refused_alone && not (some_refuses findings.now index)) }
 {
-    shown.refused_alone && !some_refuses(findings.as_slice(), place)
+    shown.refused_alone && !some_refuses(findings.as_slice(), index)
 }
 
 /// Whether a record about which versions may differ is left out of what is shown.
 fn is_apart_left_out(shown: Shown, sayings: &Sayings<'_>, scratch: &mut Scratch) -> bool
-    requires { AreComparable 0 scratch.old sayings.now.place (said_by verdict_told sayings.now) }
+    requires { AreComparable 0 scratch.old sayings.now.index (said_by verdict_told sayings.now) }
     ensures out { result
-        ≡ is_row_left_out shown (answers_in sayings.now.findings.now) sayings.now.place }
+        ≡ is_row_left_out shown (answers_in sayings.now.findings.now) sayings.now.index }
     ensures scratch { scratch.new ≡ scratch.old }
 {
-    if is_passed_over(shown, sayings.findings, sayings.place) {
+    if is_passed_over(shown, sayings.findings, sayings.index) {
         return true;
     }
     if !shown.differing_alone {
@@ -76,21 +76,21 @@ fn is_apart_left_out(shown: Shown, sayings: &Sayings<'_>, scratch: &mut Scratch)
 
 /// Whether a record about which versions agree is left out of what is shown.
 fn is_alike_left_out(shown: Shown, sayings: &Sayings<'_>) -> bool
-    requires { AreAlike sayings.now.findings.now sayings.now.place }
+    requires { AreAlike sayings.now.findings.now sayings.now.index }
     ensures { result
-        ≡ is_row_left_out shown (answers_in sayings.now.findings.now) sayings.now.place }
+        ≡ is_row_left_out shown (answers_in sayings.now.findings.now) sayings.now.index }
 {
     match sayings.findings.as_slice().split_first() {
-        Some((first, _)) => is_hidden(shown, &first.answer(sayings.place)),
+        Some((first, _)) => is_hidden(shown, &first.answer(sayings.index)),
         None => false,
     }
 }
 
 /// Whether a record is left out of what is shown, by what is answered to it under each version.
 pub fn is_left_out(shown: Shown, sayings: &Sayings<'_>, scratch: &mut Scratch) -> bool
-    requires { AreComparable 0 scratch.old sayings.now.place (said_by verdict_told sayings.now) }
+    requires { AreComparable 0 scratch.old sayings.now.index (said_by verdict_told sayings.now) }
     ensures out { result
-        ≡ is_row_left_out shown (answers_in sayings.now.findings.now) sayings.now.place }
+        ≡ is_row_left_out shown (answers_in sayings.now.findings.now) sayings.now.index }
     ensures scratch { scratch.new ≡ scratch.old }
 {
     if sayings.is_apart() {
@@ -112,7 +112,7 @@ pub(crate) struct Row<'f> {
 impl<'f> Row<'f> {
     /// Adds what is shown of the record, where all versions find the same.
     fn push_alike(&self, text: &mut TextBuffer)
-        requires { AreAlike self.now.sayings.findings.now self.now.sayings.place }
+        requires { AreAlike self.now.sayings.findings.now self.now.sayings.index }
         ensures { text.new ≡ adding text.old (row_of self.now) }
     {
         let Some((first, _)) = self.sayings.findings.as_slice().split_first() else {
@@ -121,10 +121,10 @@ impl<'f> Row<'f> {
         let Sayings {
             tree,
             records,
-            place,
+            index,
             ..
         } = self.sayings;
-        push_block(text, self.shown, tree, records, first, place, self.record);
+        push_block(text, self.shown, tree, records, first, index, self.record);
     }
 
     /// Adds what is shown of the record, where versions may differ.

@@ -11,11 +11,11 @@ use ll_explanations::{Finding, Findings};
 use ll_trace::Record;
 use ll_tree::Tree;
 
-/// What versions found of the record at a place, the oldest first, with what it takes to tell it.
+/// What versions found of the record at an index, the oldest first, with what it takes to tell it.
 #[derive(Clone, Copy)]
 pub struct Sayings<'f> {
     pub findings: &'f Findings,
-    pub place: usize,
+    pub index: usize,
     pub tree: &'f Tree,
     pub records: &'f [Record],
 }
@@ -30,16 +30,16 @@ impl<'f> Sayings<'f> {
 
     /// Whether versions may differ about the record.
     pub fn is_apart(&self) -> bool
-        ensures { result ≡ false → AreAlike self.now.findings.now self.now.place }
+        ensures { result ≡ false → AreAlike self.now.findings.now self.now.index }
     {
-        self.findings.is_apart(self.place)
+        self.findings.is_apart(self.index)
     }
 
     /// Adds what a version says.
     pub fn push<T: Telling>(&self, text: &mut TextBuffer, version: usize)
         requires { version < length self.now.findings.now }
         ensures { text.new ≡ adding text.old (get_or (told_under T.told self.now.tree.now
-            self.now.records.now self.now.findings.now self.now.place) version []) }
+            self.now.records.now self.now.findings.now self.now.index) version []) }
     {
         self.push_of::<T>(text, &self.findings.as_slice()[version]);
     }
@@ -47,13 +47,13 @@ impl<'f> Sayings<'f> {
     /// Adds what is said by a finding.
     fn push_of<T: Telling>(&self, text: &mut TextBuffer, finding: &'f Finding)
         ensures { text.new ≡ adding text.old (T.told self.now.tree.now self.now.records.now
-            finding.now self.now.place) }
+            finding.now self.now.index) }
     {
         let saying = Saying {
             tree: self.tree,
             records: self.records,
             finding,
-            place: self.place,
+            index: self.index,
         };
         T::push(text, &saying);
     }
@@ -70,13 +70,13 @@ impl<'f> Sayings<'f> {
     /// The fingerprint of what is said by a finding.
     fn fingerprint_by<T: Telling>(&self, finding: &'f Finding) -> u64
         ensures { result ≡ fingerprint_of T.byte_at (T.told self.now.tree.now
-            self.now.records.now finding.now self.now.place) }
+            self.now.records.now finding.now self.now.index) }
     {
         let saying = Saying {
             tree: self.tree,
             records: self.records,
             finding,
-            place: self.place,
+            index: self.index,
         };
         T::fingerprint(&saying)
     }
@@ -103,8 +103,8 @@ impl<'f> Sayings<'f> {
     {
         let first = &self.findings.as_slice()[one];
         let second = &self.findings.as_slice()[other];
-        first.answer(self.place) == second.answer(self.place)
-            && first.explains_as(second, self.place)
+        first.answer(self.index) == second.answer(self.index)
+            && first.explains_as(second, self.index)
     }
 
     /// The fingerprints of what a version says, in words for its answer and in a form.
@@ -205,8 +205,8 @@ impl<'f> Sayings<'f> {
         longest
     }
 
-    /// A length that no text of the record exceeds, if these are compared, or another length that is greater. A length from
-    /// 2 ^ 63 on says nothing.
+    /// A length that no text of the record exceeds, if these are compared, or another length that is greater. A length
+    /// from 2 ^ 63 on says nothing.
     pub(crate) fn measured<T: Telling>(
         &self,
         measure: &mut TextBuffer,
@@ -217,10 +217,10 @@ impl<'f> Sayings<'f> {
         ensures least { least ≤ result }
         ensures verdicts { is_compared ≡ true → result < 2 ^ 63 → FitIn result
             (told_under verdict_told self.now.tree.now self.now.records.now
-            self.now.findings.now self.now.place) }
+            self.now.findings.now self.now.index) }
         ensures texts { is_compared ≡ true → result < 2 ^ 63 → FitIn result
             (told_under T.told self.now.tree.now self.now.records.now
-            self.now.findings.now self.now.place) }
+            self.now.findings.now self.now.index) }
         ensures room { measure.new.room ≡ 0 }
     {
         if !is_compared {

@@ -15,8 +15,8 @@ use std::alloc::{AllocError, Global};
 use std::marker::Model;
 use std::thread::Threads;
 
-/// About which records the texts of versions are compared, and two buffers with room for these texts. What versions say of
-/// the other records is told apart by its fingerprints. So comparing what they say takes no memory.
+/// About which records the texts of versions are compared, and two buffers with room for these texts. What versions say
+/// of the other records is told apart by its fingerprints. So comparing what they say takes no memory.
 #[derive(Drop)]
 pub struct Scratch {
     compared: Vec<bool>,
@@ -67,24 +67,24 @@ impl Scratch {
         requires within { version < length sayings.now.findings.now }
         requires span { get_or (said_by T.told sayings.now) earlier []
             ≡ get_or (said_by T.told sayings.now) (version - 1) [] }
-        requires comparable { AreComparable T.byte_at self.old sayings.now.place
+        requires comparable { AreComparable T.byte_at self.old sayings.now.index
             (said_by T.told sayings.now) }
         ensures same { result ≡ bytes_eq (get_or (said_by T.told sayings.now) earlier [])
             (get_or (said_by T.told sayings.now) version []) }
         ensures scratch { self.new ≡ self.old }
     {
-        if !self.is_compared(sayings.place) {
+        if !self.is_compared(sayings.index) {
             return sayings.have_same_fingerprint::<T>(version - 1, version);
         }
         sayings.find_alike::<T>(earlier, version)
             || self.pair.is_same::<T>(sayings, earlier, version)
     }
 
-    /// Whether texts about the record at a place are compared.
-    fn is_compared(&self, place: usize) -> bool
-        ensures { result ≡ is_compared self.now place }
+    /// Whether texts about the record at an index are compared.
+    fn is_compared(&self, index: usize) -> bool
+        ensures { result ≡ is_compared self.now index }
     {
-        match self.compared.get(place) {
+        match self.compared.get(index) {
             Some(is_compared) => *is_compared,
             None => false,
         }

@@ -84,7 +84,7 @@ impl<'f> Sayings<'f> {
 
     /// Whether all versions say the same.
     pub(crate) fn agree<T: Telling>(&self, scratch: &mut Scratch) -> bool
-        requires { AreComparable T.byte_at scratch.old self.now.place (said_by T.told self.now) }
+        requires { AreComparable T.byte_at scratch.old self.now.index (said_by T.told self.now) }
         ensures agree { result ≡ agree (said_by T.told self.now) }
         ensures scratch { scratch.new ≡ scratch.old }
     {
@@ -108,7 +108,7 @@ impl<'f> Sayings<'f> {
         oldest: u64,
     )
         requires few { oldest + length self.now.findings.now < 2 ^ 64 }
-        requires comparable { AreComparable T.byte_at scratch.old self.now.place
+        requires comparable { AreComparable T.byte_at scratch.old self.now.index
             (said_by T.told self.now) }
         ensures text { text.new ≡ adding text.old
             (versions_text form oldest (said_by T.told self.now)) }

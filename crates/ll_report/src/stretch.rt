@@ -28,20 +28,20 @@ pub(crate) struct Stretch<'f> {
 }
 
 impl<'f> Stretch<'f> {
-    /// About which of its records texts are compared, and a length that none of these texts exceeds. A length from 2 ^ 63 on
-    /// says nothing.
+    /// About which of its records texts are compared, and a length that none of these texts exceeds. A length from
+    /// 2 ^ 63 on says nothing.
     fn measured<T: Telling>(self, alloc: Global) -> Measuring
         ensures { IfOk result (AreMeasured T.byte_at T.told self.entry) }
     {
         let mut measure = TextBuffer::measure(alloc);
         let mut compared = Vec::new(alloc);
         let mut longest = 0;
-        for place in self.from..self.end {
+        for index in self.from..self.end {
             let sayings = Sayings {
                 tree: self.tree,
                 records: self.records,
                 findings: self.findings,
-                place,
+                index,
             };
             let is_compared = sayings.is_compared::<T>();
             compared.push(is_compared)?;

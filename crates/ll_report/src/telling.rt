@@ -16,13 +16,13 @@ use ll_semantics::Answer;
 use ll_trace::Record;
 use ll_tree::Tree;
 
-/// What a version found of the record at a place, with what it takes to tell it.
+/// What a version found of the record at an index, with what it takes to tell it.
 #[derive(Clone, Copy)]
 pub struct Saying<'f> {
     pub tree: &'f Tree,
     pub records: &'f [Record],
     pub finding: &'f Finding,
-    pub place: usize,
+    pub index: usize,
 }
 
 /// How what is found of a record under a version is told, by the tree and the records at hand.
@@ -38,21 +38,21 @@ pub trait Telling {
     /// Adds what is told of the record.
     fn push(text: &mut TextBuffer, saying: &Saying<'_>)
         ensures { text.new ≡ adding text.old (told saying.now.tree.now saying.now.records.now
-            saying.now.finding.now saying.now.place) };
+            saying.now.finding.now saying.now.index) };
 
-    // The place of the byte that the fingerprints of texts have.
+    // The index of the byte that the fingerprints of texts have.
     ghost byte_at: { ℕ };
 
     /// The fingerprint of what is told of the record, without its text.
     fn fingerprint(saying: &Saying<'_>) -> u64
         ensures { result ≡ fingerprint_of byte_at (told saying.now.tree.now saying.now.records.now
-            saying.now.finding.now saying.now.place) };
+            saying.now.finding.now saying.now.index) };
 
     // Where two findings answer and explain a record by the same values, they are told alike.
     ghost by_value: { (tree : List Entry) → (records : List OneRecord)
-        → (one : FindingValue) → (other : FindingValue) → (place : ℕ)
-        → answer_in one place ≡ answer_in other place → kept_at one place ≡ kept_at other place
-        → told tree records one place ≡ told tree records other place };
+        → (one : FindingValue) → (other : FindingValue) → (index : ℕ)
+        → answer_in one index ≡ answer_in other index → kept_at one index ≡ kept_at other index
+        → told tree records one index ≡ told tree records other index };
 }
 
 /// One more than the first byte of the words for an answer.
@@ -67,8 +67,8 @@ pub fn verdict_fingerprint(answer: Answer) -> u64
     u64::from(first) + 1
 }
 
-/// One more than the first byte of the lines of objections, or 0 if there are none. The line of a layer begins with spaces;
-/// no layer has the number 0.
+/// One more than the first byte of the lines of objections, or 0 if there are none. The line of a layer begins with
+/// spaces; no layer has the number 0.
 fn objections_fingerprint(all: &[LayerObjection]) -> u64
     ensures { (tree : List Entry) (records : List OneRecord)
         → result ≡ fingerprint_of 0 (lines_from tree records 0 all.now) }
@@ -105,11 +105,11 @@ impl Telling for Verdicts {
     ghost by_value = { verdict_by_value };
 
     fn push(text: &mut TextBuffer, saying: &Saying<'_>) {
-        push_verdict(text, &saying.finding.answer(saying.place));
+        push_verdict(text, &saying.finding.answer(saying.index));
     }
 
     fn fingerprint(saying: &Saying<'_>) -> u64 {
-        verdict_fingerprint(saying.finding.answer(saying.place))
+        verdict_fingerprint(saying.finding.answer(saying.index))
     }
 }
 
@@ -129,12 +129,12 @@ impl Telling for InWords {
             saying.tree,
             saying.records,
             saying.finding,
-            saying.place,
+            saying.index,
         );
     }
 
     fn fingerprint(saying: &Saying<'_>) -> u64 {
-        match saying.finding.explained(saying.records, saying.place) {
+        match saying.finding.explained(saying.records, saying.index) {
             Some((_, explanation)) => explanation_fingerprint(explanation),
             None => 0,
         }

@@ -73,10 +73,10 @@ impl Rows for VersionRows {
         self.located.trace.records().len()
     }
 
-    fn push_row(&mut self, text: &mut TextBuffer, place: usize) {
+    fn push_row(&mut self, text: &mut TextBuffer, index: usize) {
         let located = &self.located;
         let records = located.trace.records();
-        if let Some(record) = records.get(place) {
+        if let Some(record) = records.get(index) {
             let row = Row {
                 shown: self.shown,
                 oldest: self.oldest,
@@ -85,7 +85,7 @@ impl Rows for VersionRows {
                     tree: &located.tree,
                     records,
                     findings: &self.findings,
-                    place,
+                    index,
                 },
             };
             row.push_to(text, &mut self.scratch);

@@ -1,4 +1,4 @@
-pub mod Places
+pub mod Bitwise
 pub mod Tables
 pub mod Sets
 pub mod Supported

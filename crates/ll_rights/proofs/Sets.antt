@@ -11,7 +11,7 @@ use Rattle.ll_rights.specs.declared.net.NetRight.TheVariants as net
 use Rattle.ll_rights.specs.CodeRights.{fs_right, net_right}
 use Rattle.ll_rights.specs.Rights as files
 use Rattle.ll_rights.specs.NetRights as network
-use Rattle.ll_rights.proofs.Places.{has_place-or}
+use Rattle.ll_rights.proofs.Bitwise.{has_bit-or}
 use Rattle.ll_rights.proofs.Tables.{IsTable, Stands, named_by, has-only, is_empty, is_within, is_lacking}
 
 -- ---- both are tables
@@ -60,11 +60,11 @@ net_has-only = has-only net_table
 
 pub fs_has-united : (a b : Fs) (right : files.FsRight) → files.has (files.united a b) right ≡ (files.has a right || files.has b right)
 unfolding files.has files.united
-fs_has-united a b right = has_place-or (files.bit_of files.other) a.0 b.0 (files.bit_of right)
+fs_has-united a b right = has_bit-or (files.bit_of files.other) a.0 b.0 (files.bit_of right)
 
 pub net_has-united : (a b : Net) (right : network.NetRight) → network.has (network.united a b) right ≡ (network.has a right || network.has b right)
 unfolding network.has network.united
-net_has-united a b right = has_place-or (network.bit_of network.other) a.0 b.0 (network.bit_of right)
+net_has-united a b right = has_bit-or (network.bit_of network.other) a.0 b.0 (network.bit_of right)
 
 -- ---- a set without a right is 0
 

@@ -1,4 +1,4 @@
--- Sets of rights by any table of rights, from the places of their bits.
+-- Sets of rights by any table of rights, by their bits.
 use Rattle.std.proofs.Common.{◌≡◌, ℕ, ◌+◌, ◌^◌, ◌<◌, ◌≤◌, Bool, true, false, not, ◌&&◌, ◌||◌}
 use Rattle.std.proofs.Common.{eqb, List, [], ◌∷◌, ◌++◌, Option, map, filter, get_or, find, refl, sym}
 use Rattle.std.proofs.Common.{ap, ◌∙◌, arith, bit_and, inl, inr}
@@ -8,10 +8,10 @@ use Rattle.std.specs.List.{list_any, list_all, range_with_len}
 use Rattle.std.proofs.lemmas.Bool.{cases_Bool, eqb-true, eq-eqb}
 use Rattle.std.proofs.lemmas.Map.Views.{any-filter_same}
 use Rattle.std.proofs.lemmas.Nat.{and_comm}
-use Rattle.ll_rights.specs.Sets.{Row, first_named, has_place}
+use Rattle.ll_rights.specs.Sets.{Row, first_named, has_bit}
 use Rattle.ll_rights.specs.Supported.{bits_of, bits_without}
-use Rattle.ll_rights.proofs.Places.{any_none, all_each, has_place-or, has_place-power, has_place-without, has_place-and, without-twice, zero_place, known_below}
-use Rattle.ll_rights.proofs.Places.{is_zero_by_places, is_lacking_by_places, is_within_by_places}
+use Rattle.ll_rights.proofs.Bitwise.{any_none, all_each, has_bit-or, has_bit-power, has_bit-without, has_bit-and, without-twice, zero_bit, known_below}
+use Rattle.ll_rights.proofs.Bitwise.{is_zero_by_bits, is_lacking_by_bits, is_within_by_bits}
 
 -- what holds of each right of a table: its bit finds it, some named right has its bit unless it is `other`, which has the last
 abbrev pub Stands : {R : Type 0} → (R → Row) → List R → R → R → Type 0
@@ -20,7 +20,7 @@ Stands row named other right =
     × (list_any (λ one. eqb (row right).bit (row one).bit) named ≡ not (eqb (row right).bit (row other).bit))
     × ((row right).bit ≤ (row other).bit)
 
--- the rights of a table have the places 0, 1, .. in its order, and `other` has the last
+-- the rights of a table have the bits 0, 1, .. in its order, and `other` has the last
 pub record IsTable {R : Type 0} (row : R → Row) (named : List R) (other : R) : Type 0 where
   pub numbered : map (λ right. (row right).bit) (named ++ other ∷ []) ≡ range_with_len 0 ((row other).bit + 1)
   pub each : (right : R) → Stands row named other right
@@ -58,7 +58,7 @@ module _ {R : Type 0} {row : R → Row} {named : List R} {other : R} (is : IsTab
   count = bit other
 
   abbrev has : ℕ → R → Bool
-  has bits right = has_place count bits (bit right)
+  has bits right = has_bit count bits (bit right)
 
   abbrev is_right : R → R → Bool
   is_right a b = eqb (bit a) (bit b)
@@ -74,21 +74,21 @@ module _ {R : Type 0} {row : R → Row} {named : List R} {other : R} (is : IsTab
 
   -- a set of one right has that right and no other
   pub has-only : (right one : R) → has (2 ^ bit one) right ≡ is_right right one
-  has-only right one = has_place-power count (bit one) (bit right) (is.each one).2 (is.each right).2
+  has-only right one = has_bit-power count (bit one) (bit right) (is.each one).2 (is.each right).2
 
   pub is_empty : (bits : ℕ) → eqb bits 0 ≡ not (list_any (has bits) all)
-  is_empty bits = is_zero_by_places count bits ∙ ap not (sym (any-map (has_place count bits) bit all ∙ ap (list_any (has_place count bits)) is.numbered))
+  is_empty bits = is_zero_by_bits count bits ∙ ap not (sym (any-map (has_bit count bits) bit all ∙ ap (list_any (has_bit count bits)) is.numbered))
 
   pub is_within : (set whole : ℕ) → has whole other ≡ false → eqb (bit_and set whole) set ≡ list_all (λ right. not (has set right) || has whole right) all
   is_within set whole known =
-      let test : ℕ → Bool = λ place. not (has_place count set place) || has_place count whole place in
-      is_within_by_places count set whole known ∙ sym (all-map test bit all ∙ ap (list_all test) is.numbered)
+      let test : ℕ → Bool = λ bit. not (has_bit count set bit) || has_bit count whole bit in
+      is_within_by_bits count set whole known ∙ sym (all-map test bit all ∙ ap (list_all test) is.numbered)
 
   -- ---- the bits of some of the named rights
 
   has-bits : (right : R) (rights : List R) → has (bits_of row rights) right ≡ list_any (is_right right) rights
-  has-bits right [] = zero_place count (bit right)
-  has-bits right (one ∷ rights) = has_place-or count (2 ^ bit one) (bits_of row rights) (bit right) ∙ rw (has-only right one, has-bits right rights) refl
+  has-bits right [] = zero_bit count (bit right)
+  has-bits right (one ∷ rights) = has_bit-or count (2 ^ bit one) (bits_of row rights) (bit right) ∙ rw (has-only right one, has-bits right rights) refl
 
   -- a test of the named rights finds those that pass it
   pub has-chosen : (test : R → Bool) (right : R) → has (bits_of row (filter test named)) right ≡ (test right && not (is_right right other))
@@ -130,8 +130,8 @@ module _ {R : Type 0} {row : R → Row} {named : List R} {other : R} (is : IsTab
       → not (eqb (bit_and (bit_and wanted handled) (bit_not w32 granted)) 0)
       ≡ list_any (λ right. has wanted right && has handled right && not (has granted right)) all
   is_lacking wanted handled granted narrow known =
-      let test : ℕ → Bool = λ place. has_place count wanted place && has_place count handled place && not (has_place count granted place) in
-      is_lacking_by_places count wanted handled granted is.fits narrow known ∙ sym (any-map test bit all ∙ ap (list_any test) is.numbered)
+      let test : ℕ → Bool = λ bit. has_bit count wanted bit && has_bit count handled bit && not (has_bit count granted bit) in
+      is_lacking_by_bits count wanted handled granted is.fits narrow known ∙ sym (any-map test bit all ∙ ap (list_any test) is.numbered)
 
   -- ---- rights taken out of a set
 
@@ -150,7 +150,7 @@ module _ {R : Type 0} {row : R → Row} {named : List R} {other : R} (is : IsTab
 
     pub has-supported : (bits : ℕ) (right : R) → has (supported bits) right ≡ (has bits right && (knows right || is_right right other))
     has-supported bits right =
-        has_place-without count bits unknown (bit right) (chosen-low (λ right. not (knows right)))
+        has_bit-without count bits unknown (bit right) (chosen-low (λ right. not (knows right)))
         ∙ ap (λ b. has bits right && not b) (has-chosen (λ right. not (knows right)) right) ∙ left (has bits right) (knows right) (is_right right other)
 
     nothing : (b k o : Bool) → (b && not (k || o)) ≡ false → (b && (not k && not o)) ≡ false
@@ -163,7 +163,7 @@ module _ {R : Type 0} {row : R → Row} {named : List R} {other : R} (is : IsTab
     pub supported-known : (bits : ℕ) → ((right : R) → (has bits right && not (knows right || is_right right other)) ≡ false) → supported bits ≡ bits
     supported-known bits known =
         let none : (right : R) → has (bit_and bits unknown) right ≡ false = λ right.
-        has_place-and count bits unknown (bit right) (chosen-low (λ right. not (knows right)))
+        has_bit-and count bits unknown (bit right) (chosen-low (λ right. not (knows right)))
         ∙ ap (λ b. has bits right && b) (has-chosen (λ right. not (knows right)) right)
         ∙ nothing (has bits right) (knows right) (is_right right other) (known right) in
         let zero_is : bit_and bits unknown ≡ 0 =
@@ -187,7 +187,7 @@ module _ {R : Type 0} {row : R → Row} {named : List R} {other : R} (is : IsTab
 
         has_lacking : (right : R) → has (bits_without (bits_of row named) known) right ≡ (not (knows right) && not (is_right right other))
         has_lacking right =
-            has_place-without count (bits_of row named) known (bit right) (known_below count known no_other)
+            has_bit-without count (bits_of row named) known (bit right) (known_below count known no_other)
             ∙ ap (λ b. b && not (has known right)) (has-bits right named ∙ (is.each right).1)
             ∙ ap (λ b. not (is_right right other) && not b) (same right) ∙ swapped (not (is_right right other)) (not (knows right))
 

@@ -4,10 +4,10 @@
 use Rattle.std.specs.Prelude.{ℕ, ◌^◌, Bool, true, false, not, ◌&&◌, ◌||◌, ◌==◌, List, [], nat_le, nat_lt, Option, Some, None, bytes_eq, find, if◌then◌else◌, unwrap_or}
 use Rattle.std.specs.Int.{bit_at}
 
--- Of bits whose first `named` places have a name: whether the one at `place` is there.
--- All places from `named` on stand for one member, which is there if any of them is.
-abbrev pub has_place : ℕ → ℕ → ℕ → Bool
-has_place named bits place = if nat_lt place named then bit_at bits place == 1 else nat_le (2 ^ named) bits
+-- Of bits the first `named` of which have a name: whether this one is there.
+-- All bits from `named` on stand for one member, which is there if any of them is.
+abbrev pub has_bit : ℕ → ℕ → ℕ → Bool
+has_bit named bits bit = if nat_lt bit named then bit_at bits bit == 1 else nat_le (2 ^ named) bits
 
 -- What a table says of a right: its name, the number of its bit, the ABI that it comes with, and whether it applies to what
 -- isn't a directory.
@@ -36,7 +36,7 @@ first_named row other rights text = unwrap_or (find (λ right. bytes_eq text (ro
 
 -- whether a word has a right: each right with a name has a bit of its own, and `other` has all that are left
 abbrev pub holds : {R : Type 0} → (R → Row) → R → ℕ → R → Bool
-holds row other word right = has_place (row other).bit word (row right).bit
+holds row other word right = has_bit (row other).bit word (row right).bit
 
 -- the word that has one right alone
 abbrev pub word_of : {R : Type 0} → (R → Row) → R → ℕ

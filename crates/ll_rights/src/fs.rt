@@ -6,7 +6,7 @@ ghost use Rattle.ll_rights.specs.Rights as rights;
 ghost use Rattle.ll_rights.specs.Supported.{supported_fs};
 
 use crate::abi::Abi;
-use crate::bits::{has_place, without};
+use crate::bits::{has_bit, without};
 use bitflags::{Flag, Flags, bitflag_items};
 
 /// An access right for files (landlock(7), "Filesystem actions").
@@ -203,7 +203,7 @@ impl Fs {
     pub fn has(self, right: FsRight) -> bool
         ensures { result ≡ rights.has self (fs_right right) }
     {
-        has_place(FsRight::Other.bit(), self.0, right.bit())
+        has_bit(FsRight::Other.bit(), self.0, right.bit())
     }
 
     /// The rights of either set.

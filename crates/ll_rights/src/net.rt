@@ -6,7 +6,7 @@ ghost use Rattle.ll_rights.specs.NetRights as rights;
 ghost use Rattle.ll_rights.specs.Supported.{supported_net};
 
 use crate::abi::Abi;
-use crate::bits::{has_place, without};
+use crate::bits::{has_bit, without};
 use bitflags::{Flag, Flags, bitflag_items};
 
 /// The largest TCP port: a port has 16 bits.
@@ -117,7 +117,7 @@ impl Net {
     pub fn has(self, right: NetRight) -> bool
         ensures { result ≡ rights.has self (net_right right) }
     {
-        has_place(NetRight::Other.bit(), self.0, right.bit())
+        has_bit(NetRight::Other.bit(), self.0, right.bit())
     }
 
     /// The rights of either set.

@@ -70,10 +70,10 @@ settled_next tree abi records k r old new outcomes outcome eq so_far settles =
         | inl last ↦
             let here : slice_get (outcomes ++ outcome ∷ []) j ≡ Some outcome = rw (slice_get-push outcomes j outcome, eq-eqb j (length outcomes) last) refl in
             let it : outcome ≡ other = cc in
-            let place : j ≡ k = last ∙ so_far.counted in
-            let own : slice_get records j ≡ Some r = rw place eq in
+            let index : j ≡ k = last ∙ so_far.counted in
+            let own : slice_get records j ≡ Some r = rw index eq in
             let same : r ≡ s = cc in
-            rw (← it, ← same, place) fits
+            rw (← it, ← same, index) fits
         | inr earlier ↦
             let before : slice_get (outcomes ++ outcome ∷ []) j ≡ slice_get outcomes j =
             rw (slice_get-push outcomes j outcome, ne_eqb j (length outcomes) earlier) refl in

@@ -1,4 +1,4 @@
--- What a list has at each place after one write; what the processes hold after one of them holds or closes a ruleset; and
+-- What a list has at each index after one write; what the processes hold after one of them holds or closes a ruleset; and
 -- a ruleset that names a layer stays that layer.
 use Rattle.std.proofs.Common.{◌≡◌, ℕ, suc, zero, ◌<◌, List, [], ◌∷◌, ◌++◌, length, Some}
 use Rattle.std.proofs.Common.{None, cond, refl, arith, eqb, subst, All, ◌+◌, Option, get_or, inl, inr}
@@ -31,7 +31,7 @@ slice_get-set (first ∷ xs) zero (suc j) x within = rw eqb-suc-zero refl
 slice_get-set (first ∷ xs) (suc i) zero x within = rw eqb-zero-suc refl
 slice_get-set (first ∷ xs) (suc i) (suc j) x within = rw eqb-suc-suc (slice_get-set xs i j x (omega arith))
 
--- what holds of all holds of what is at a place
+-- what holds of all holds of what is at an index
 pub all_there : {X : Type 0} (P : X → Type 0) (xs : List X) (i : ℕ) (x : X) → All P xs → slice_get xs i ≡ Some x → P x
 all_there P xs i x all eq = subst P (get_or_from_slice_get xs i x x eq) (all i x (slice_get_within xs i x eq))
 
@@ -49,7 +49,7 @@ module _ {A B : Type 0} (R : A → B → Type 0) where
   zip_set (a ∷ xs) (b ∷ ys) zero x y all one = (one, all.1)
   zip_set (a ∷ xs) (b ∷ ys) (suc i) x y all one = (all.0, zip_set xs ys i x y all.1 one)
 
-  -- what is at a place of the one has its other at this place
+  -- what is at an index of the one has its other at this index
   pub zip_at : (xs : List A) (ys : List B) (i : ℕ) (x : A) → AllZip R xs ys → slice_get xs i ≡ Some x → (y : B) × (slice_get ys i ≡ Some y) × R x y
   zip_at [] ys i x all eq = cc
   zip_at (a ∷ xs) [] i x all eq = absurd all
@@ -58,10 +58,10 @@ module _ {A B : Type 0} (R : A → B → Type 0) where
 
 -- ---- what the processes hold
 
-pub place_is : (tables : List (FinMap nat_cmp ℕ)) (process number : ℕ) (held : FinMap nat_cmp ℕ) → process < length tables → held ≡ get_or tables process held →
+pub index_is : (tables : List (FinMap nat_cmp ℕ)) (process number : ℕ) (held : FinMap nat_cmp ℕ) → process < length tables → held ≡ get_or tables process held →
     get held number ≡ held_by tables process number
 unfolding held_by
-place_is tables process number held within read = rw (slice_get_read tables (length tables) process held refl within read) refl
+index_is tables process number held within read = rw (slice_get_read tables (length tables) process held refl within read) refl
 
 -- one process's table is this now
 pub holds_after : (tables : List (FinMap nat_cmp ℕ)) (process : ℕ) (table : FinMap nat_cmp ℕ) (held : ℕ → Option ℕ) → process < length tables →
@@ -106,26 +106,26 @@ holds_same tables process = record {
 pub extends_same : (layers : List (RulesOn ℕ)) → Extends layers layers
 extends_same layers = record { more = []; is_more = search Rattle.std.proofs.Common.rules; one = omega arith }
 
--- a place of the store, as contracts see it
-module _ (stored : List Stored) (layers : List (RulesOn ℕ)) (stock : Stock) (view_is : stock_of stored layers ≡ stock) (place : ℕ)
-    (there : place < length stock.rulesets) (one : Stored) (read : one ≡ get_or stored place one) where
-  stands : slice_get stored place ≡ Some one
-  stands = slice_get_read stored (length stored) place one refl
+-- an index of the store, as contracts see it
+module _ (stored : List Stored) (layers : List (RulesOn ℕ)) (stock : Stock) (view_is : stock_of stored layers ≡ stock) (index : ℕ)
+    (there : index < length stock.rulesets) (one : Stored) (read : one ≡ get_or stored index one) where
+  stands : slice_get stored index ≡ Some one
+  stands = slice_get_read stored (length stored) index one refl
       (omega (arith, there, ap (λ (s : Stock). length s.rulesets) view_is, length-map stored (λ (one : Stored). one.«ruleset»))) read
 
-  ruleset_stands : slice_get (rulesets_of stored) place ≡ Some one.«ruleset»
-  ruleset_stands = rw (slice_get-map (λ (one : Stored). one.«ruleset») stored place, stands) refl
+  ruleset_stands : slice_get (rulesets_of stored) index ≡ Some one.«ruleset»
+  ruleset_stands = rw (slice_get-map (λ (one : Stored). one.«ruleset») stored index, stands) refl
 
-  pub ruleset_there : slice_get stock.rulesets place ≡ Some one.«ruleset»
+  pub ruleset_there : slice_get stock.rulesets index ≡ Some one.«ruleset»
   ruleset_there = rw (← view_is) ruleset_stands
 
-  same_there : set stored place one ≡ stored
-  same_there = ap (λ (s : Stored). set stored place s) read ∙ set-get_or stored place one
+  same_there : set stored index one ≡ stored
+  same_there = ap (λ (s : Stored). set stored index s) read ∙ set-get_or stored index one
 
   -- it stays the layer that it names
-  pub frozen_already : (id : LayerId) → one.frozen ≡ Some id → AreFrozen stored layers → Freezes stock (stock_of (set stored place one) layers) place id
+  pub frozen_already : (id : LayerId) → one.frozen ≡ Some id → AreFrozen stored layers → Freezes stock (stock_of (set stored index one) layers) index id
   frozen_already id named are = rw (← view_is) record {
-    layer = all_there (IsFrozenTo layers) stored place one are stands id named ∙ sym ruleset_stands;
+    layer = all_there (IsFrozenTo layers) stored index one are stands id named ∙ sym ruleset_stands;
     rulesets = ap rulesets_of same_there;
     layers = extends_same layers;
     inside = λ tree rulesets layers. layers;
@@ -133,20 +133,20 @@ module _ (stored : List Stored) (layers : List (RulesOn ℕ)) (stock : Stock) (v
 
   -- it is frozen to a new layer
   pub freezes : (next : Stored) (id : LayerId) → next.«ruleset» ≡ one.«ruleset» → id.0 ≡ length layers
-      → Freezes stock (stock_of (set stored place next) (layers ++ one.«ruleset» ∷ [])) place id
+      → Freezes stock (stock_of (set stored index next) (layers ++ one.«ruleset» ∷ [])) index id
   freezes next id same last = rw (← view_is) record {
     layer = rw (slice_get-push layers id.0 one.«ruleset», eq-eqb id.0 (length layers) last) (sym ruleset_stands);
-    rulesets = map-set (λ (one : Stored). one.«ruleset») stored place next ∙ rw same (sym (map-set (λ (one : Stored). one.«ruleset») stored place one))
+    rulesets = map-set (λ (one : Stored). one.«ruleset») stored index next ∙ rw same (sym (map-set (λ (one : Stored). one.«ruleset») stored index one))
         ∙ ap rulesets_of same_there;
     layers = record { more = one.«ruleset» ∷ []; is_more = refl; one = omega arith };
     inside = λ tree rulesets layers_in.
-        All-push (AreInTree tree) layers one.«ruleset» layers_in (all_there (AreInTree tree) (rulesets_of stored) place one.«ruleset» rulesets ruleset_stands);
+        All-push (AreInTree tree) layers one.«ruleset» layers_in (all_there (AreInTree tree) (rulesets_of stored) index one.«ruleset» rulesets ruleset_stands);
   }
 
   pub frozen_now : (next : Stored) → ((id : LayerId) → next.frozen ≡ Some id → id.0 ≡ length layers) → next.«ruleset» ≡ one.«ruleset» → AreFrozen stored layers
-      → AreFrozen (set stored place next) (layers ++ one.«ruleset» ∷ [])
+      → AreFrozen (set stored index next) (layers ++ one.«ruleset» ∷ [])
   frozen_now next last same are =
-      All-set (IsFrozenTo (layers ++ one.«ruleset» ∷ [])) stored place next
+      All-set (IsFrozenTo (layers ++ one.«ruleset» ∷ [])) stored index next
       (λ id named. rw (slice_get-push layers id.0 one.«ruleset», eq-eqb id.0 (length layers) (last id named), same) refl)
       (All-weaker (IsFrozenTo layers) (IsFrozenTo (layers ++ one.«ruleset» ∷ [])) (λ other frozen id named.
       let eq = frozen id named in
@@ -156,13 +156,13 @@ module _ (stored : List Stored) (layers : List (RulesOn ℕ)) (stock : Stock) (v
   pub adds_rule : (fault : RulesOn ℕ → Option RuleFault) (IsAdded : RulesOn ℕ → RulesOn ℕ → Type 0) (result : Result (Unit {0}) RuleFault) (next : Stored) →
       MatchOption (fault one.«ruleset») (IsOkUnless result faults.Memory) (λ f. result ≡ Result.Err f) → OnOk result (IsAdded one.«ruleset» next.«ruleset»)
       → OnErr result (next ≡ one) →
-      AddsRule fault IsAdded result place stock (stock_of (set stored place next) layers)
+      AddsRule fault IsAdded result index stock (stock_of (set stored index next) layers)
   adds_rule fault IsAdded result next told ok err = rw (← view_is) record {
     before = one.«ruleset»;
     was = ruleset_stands;
     told = told;
     added =
         on_ok_weaker result
-        (λ is. record { after = next.«ruleset»; changed = rw (map-set (λ (one : Stored). one.«ruleset») stored place next) refl; is_now = is }) ok;
-    refused = on_err_weaker result (λ same. ap (λ (s : Stored). stock_of (set stored place s) layers) same ∙ ap (λ all. stock_of all layers) same_there) err;
+        (λ is. record { after = next.«ruleset»; changed = rw (map-set (λ (one : Stored). one.«ruleset») stored index next) refl; is_now = is }) ok;
+    refused = on_err_weaker result (λ same. ap (λ (s : Stored). stock_of (set stored index s) layers) same ∙ ap (λ all. stock_of all layers) same_there) err;
   }

@@ -86,12 +86,12 @@ chosen false x y s t q now before = before
 
 -- a number that is held or closed, here and in the world
 pub renamed : (f g : ℕ → Option ℕ) (rs q : ℕ) (v w : Option ℕ) → f q ≡ g q → v ≡ w → update nat_eq f rs v q ≡ update nat_eq g rs w q
-renamed f g rs q v w same place = ap (λ (x : Option ℕ). cond (eqb rs q) x (f q)) place ∙ ap (λ (x : Option ℕ). cond (eqb rs q) w x) same
+renamed f g rs q v w same index = ap (λ (x : Option ℕ). cond (eqb rs q) x (f q)) index ∙ ap (λ (x : Option ℕ). cond (eqb rs q) w x) same
 
-pub held_there : (rs n q place : ℕ) (v : Option ℕ) (f : ℕ → Option ℕ) → update nat_eq f rs v q ≡ Some place → (v ≡ Some place → place < n)
-    → (f q ≡ Some place → place < n) → place < n
-held_there rs n q place v f is now before =
-    elim (cases_cond (eqb rs q) v (f q) (Some place) (sym is)) [ inl here ↦ now (sym here) | inr there ↦ before (sym there) ]
+pub held_there : (rs n q index : ℕ) (v : Option ℕ) (f : ℕ → Option ℕ) → update nat_eq f rs v q ≡ Some index → (v ≡ Some index → index < n)
+    → (f q ≡ Some index → index < n) → index < n
+held_there rs n q index v f is now before =
+    elim (cases_cond (eqb rs q) v (f q) (Some index) (sym is)) [ inl here ↦ now (sym here) | inr there ↦ before (sym there) ]
 
 module _ (process : ℕ) (op : Op) (old : Pass) (sound : IsSound old) where
   abbrev after : Stock → Tables → Pass
@@ -101,12 +101,12 @@ module _ (process : ℕ) (op : Op) (old : Pass) (sound : IsSound old) where
   fit new outcome = (w : World) → HasRulesetsOf old w → OutcomeFits (met_by old.tree.now old.abi new.store.layers w process) op outcome
 
   sound_after : (s : Stock) (t : Tables) (count ix : ℕ) (held : ℕ → Option ℕ) → NowHolds old.tables.held.items t.held.items count ix held →
-      ((q place : ℕ) → held q ≡ Some place → place < length s.rulesets) → length old.store.rulesets ≤ length s.rulesets →
+      ((q index : ℕ) → held q ≡ Some index → index < length s.rulesets) → length old.store.rulesets ≤ length s.rulesets →
       All (AreInTree old.tree.now) s.rulesets → All (AreInTree old.tree.now) s.layers → IsSound (after s t)
   sound_after s t count ix held holds there more rulesets layers = record {
-    places = λ p q place is. elim (cases_cond (eqb p ix) (held q) (held_by old.tables.held.items p q) (Some place) (sym is ∙ holds.holds p q)) [
-      | inl now ↦ there q place (sym now)
-      | inr before ↦ let earlier : place < length old.store.rulesets = sound.places p q place (sym before) in omega arith
+    indices = λ p q index is. elim (cases_cond (eqb p ix) (held q) (held_by old.tables.held.items p q) (Some index) (sym is ∙ holds.holds p q)) [
+      | inl now ↦ there q index (sym now)
+      | inr before ↦ let earlier : index < length old.store.rulesets = sound.indices p q index (sym before) in omega arith
     ];
     rulesets = rulesets;
     layers = layers;
@@ -168,7 +168,7 @@ module _ (process : ℕ) (op : Op) (old : Pass) (sound : IsSound old) where
   settles_quiet layers outcome quiet extends inside fits = record {
     same_tree = refl;
     same_abi = refl;
-    sound = record { places = sound.places; rulesets = sound.rulesets; layers = inside };
+    sound = record { indices = sound.indices; rulesets = sound.rulesets; layers = inside };
     layers = extends;
     agrees = λ w agrees. agrees_quiet layers w (answer old.tree.now old.abi w.rulesets op (w.processes process))
         (effect old.tree.now w.rulesets op (w.processes process)) agrees (quiet w.rulesets (w.processes process));
@@ -204,8 +204,8 @@ module _ (process : ℕ) (op : Op) (old : Pass) (sound : IsSound old) where
         same_tree = refl;
         same_abi = refl;
         sound = sound_after (with_created old.store one) t _ process _ holds
-            (λ q place is. held_there rs _ q place (Some ix) (held_by old.tables.held.items process) is (λ same. let it : ix ≡ place = cc in omega arith)
-            (λ held. let earlier : place < length old.store.rulesets = sound.places process q place held in omega arith))
+            (λ q index is. held_there rs _ q index (Some ix) (held_by old.tables.held.items process) is (λ same. let it : ix ≡ index = cc in omega arith)
+            (λ held. let earlier : index < length old.store.rulesets = sound.indices process q index held in omega arith))
             (omega arith) (All-push (AreInTree old.tree.now) old.store.rulesets one sound.rulesets (λ k default within. absurd (omega arith))) sound.layers;
         layers = extends_same old.store.layers;
         agrees = λ w agrees. rw (step_is w _ (allowed w agrees) (creates.creates w.rulesets (w.processes process)))
@@ -221,7 +221,7 @@ module _ (process : ℕ) (op : Op) (old : Pass) (sound : IsSound old) where
 
   pub settles_tables : (t : Tables) (count ix : ℕ) (held : ℕ → Option ℕ) (outcome : RulesetOutcome)
       → NowHolds old.tables.held.items t.held.items count ix held →
-      ((q place : ℕ) → held q ≡ Some place → place < length old.store.rulesets) → fit (after old.store t) outcome →
+      ((q index : ℕ) → held q ≡ Some index → index < length old.store.rulesets) → fit (after old.store t) outcome →
       ((w : World) → HasRulesetsOf old w → answer old.tree.now old.abi w.rulesets op (w.processes process) ≡ Allowed) →
       ((w : World) → HasRulesetsOf old w → (state : State) × (total number : ℕ) × (count ≡ total) × (ix ≡ number) × ((q : ℕ) → held q ≡ state.held q)
       × (affected w process (effect old.tree.now w.rulesets op (w.processes process))
@@ -268,7 +268,7 @@ module _ (process : ℕ) (op : Op) (old : Pass) (sound : IsSound old) where
         same_tree = refl;
         same_abi = refl;
         sound = record {
-          places = λ p q place is. rw length-set (sound.places p q place is);
+          indices = λ p q index is. rw length-set (sound.indices p q index is);
           rulesets = All-set (AreInTree old.tree.now) old.store.rulesets ix now.after (stays now.after now.is_now).0 sound.rulesets;
           layers = sound.layers;
         };

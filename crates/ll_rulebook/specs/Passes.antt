@@ -29,7 +29,7 @@ IsSame tree kept other = SameRules (in_tree tree kept) other
 
 -- all processes hold rulesets that are there, and all rules for files are on nodes of the tree
 pub record IsSound (pass : Pass) : Type 0 where
-  pub places : (process number place : ℕ) → held_by pass.tables.held.items process number ≡ Some place → place < length pass.store.rulesets
+  pub indices : (process number index : ℕ) → held_by pass.tables.held.items process number ≡ Some index → index < length pass.store.rulesets
   pub rulesets : All (AreInTree pass.tree.now) pass.store.rulesets
   pub layers : All (AreInTree pass.tree.now) pass.store.layers
 

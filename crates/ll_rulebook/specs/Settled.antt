@@ -15,7 +15,7 @@ use Rattle.ll_semantics.specs.Worlds.{World}
 abbrev pub met_by : List Entry → Abi → List (RulesOn ℕ) → World → ℕ → CallContext
 met_by tree abi layers world process = record { tree = tree; layers = layers; abi = abi; rulesets = world.rulesets; state = world.processes process }
 
--- each outcome up to a place fits what its record meets in the world before it
+-- each outcome up to an index fits what its record meets in the world before it
 abbrev pub FitUpTo : List Entry → Abi → List Record → List (RulesOn ℕ) → List RulesetOutcome → Type 0
 FitUpTo tree abi records layers outcomes =
     (k : ℕ) (r : Record) (outcome : RulesetOutcome) → slice_get records k ≡ Some r → slice_get outcomes k ≡ Some outcome

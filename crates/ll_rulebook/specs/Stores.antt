@@ -33,20 +33,20 @@ abbrev pub with_created : Stock → RulesOn ℕ → Stock
 with_created stock one = record stock { rulesets = stock.rulesets ++ one ∷ [] }
 
 abbrev pub with_changed : Stock → ℕ → RulesOn ℕ → Stock
-with_changed stock place one = record stock { rulesets = slice_set stock.rulesets place one }
+with_changed stock index one = record stock { rulesets = slice_set stock.rulesets index one }
 
--- the ruleset at a place became another
-pub record Becomes (old new : Stock) (place : ℕ) (IsNow : RulesOn ℕ → Type 0) : Type 0 where
+-- the ruleset at an index became another
+pub record Becomes (old new : Stock) (index : ℕ) (IsNow : RulesOn ℕ → Type 0) : Type 0 where
   pub after : RulesOn ℕ
-  pub changed : new ≡ with_changed old place after
+  pub changed : new ≡ with_changed old index after
   pub is_now : IsNow after
 
--- one rule more in the ruleset at a place, or a fault, with which all is as it was
-pub record AddsRule (fault : RulesOn ℕ → Option RuleFault) (IsAdded : RulesOn ℕ → RulesOn ℕ → Type 0) (result : Result (Unit {0}) RuleFault) (place : ℕ) (old new : Stock) : Type 0 where
+-- one rule more in the ruleset at an index, or a fault, with which all is as it was
+pub record AddsRule (fault : RulesOn ℕ → Option RuleFault) (IsAdded : RulesOn ℕ → RulesOn ℕ → Type 0) (result : Result (Unit {0}) RuleFault) (index : ℕ) (old new : Stock) : Type 0 where
   pub before : RulesOn ℕ
-  pub was : slice_get old.rulesets place ≡ Some before
+  pub was : slice_get old.rulesets index ≡ Some before
   pub told : MatchOption (fault before) (IsOkUnless result faults.Memory) (λ fault. result ≡ Err fault)
-  pub added : OnOk result (Becomes old new place (IsAdded before))
+  pub added : OnOk result (Becomes old new index (IsAdded before))
   pub refused : OnErr result (new ≡ old)
 
 -- a rule for files, on nodes of a tree
@@ -66,9 +66,9 @@ pub record Extends (old new : List (RulesOn ℕ)) : Type 0 where
   pub is_more : new ≡ old ++ more
   pub one : length more ≤ 1
 
--- The layer of a number is the ruleset at a place as it is; the rulesets are as they were.
-pub record Freezes (old new : Stock) (place : ℕ) (id : LayerId) : Type 0 where
-  pub layer : slice_get new.layers id.0 ≡ slice_get old.rulesets place
+-- The layer of a number is the ruleset at an index as it is; the rulesets are as they were.
+pub record Freezes (old new : Stock) (index : ℕ) (id : LayerId) : Type 0 where
+  pub layer : slice_get new.layers id.0 ≡ slice_get old.rulesets index
   pub rulesets : new.rulesets ≡ old.rulesets
   pub layers : Extends old.layers new.layers
   pub inside : (tree : List Entry) → All (AreInTree tree) old.rulesets → All (AreInTree tree) old.layers → All (AreInTree tree) new.layers
@@ -84,7 +84,7 @@ abbrev pub at_number : Option (FinMap nat_cmp ℕ) → ℕ → Option ℕ
 at_number None number = None
 at_number (Some held) number = get held number
 
--- the place of the ruleset that a process holds under a number
+-- the index of the ruleset that a process holds under a number
 unfoldable pub held_by : List (FinMap nat_cmp ℕ) → ℕ → ℕ → Option ℕ
 held_by tables process number = at_number (slice_get tables process) number
 
@@ -95,7 +95,7 @@ pub record NowHolds (old new : List (FinMap nat_cmp ℕ)) (count process : ℕ) 
 
 -- under one number a process now holds what is there, or nothing
 abbrev pub HoldsUnder : List (FinMap nat_cmp ℕ) → List (FinMap nat_cmp ℕ) → ℕ → ℕ → Option ℕ → Type 0
-HoldsUnder old new process number place = NowHolds old new (length old) process (update nat_eq (held_by old process) number place)
+HoldsUnder old new process number index = NowHolds old new (length old) process (update nat_eq (held_by old process) number index)
 
 -- one process more, which holds these
 abbrev pub BeginsHolding : List (FinMap nat_cmp ℕ) → List (FinMap nat_cmp ℕ) → (ℕ → Option ℕ) → Type 0

@@ -83,8 +83,8 @@ impl<'t> Pass<'t> {
             → Creates self.old.tree.now self.old.abi rs fs net op
             → Settles process op self.old self.new outcome) }
     {
-        let place = self.store.add(created)?;
-        self.tables.hold(process, rs, Some(place))?;
+        let index = self.store.add(created)?;
+        self.tables.hold(process, rs, Some(index))?;
         Ok(RulesetOutcome::Answered(Answer::Allowed))
     }
 
@@ -94,7 +94,7 @@ impl<'t> Pass<'t> {
         requires sound { IsSound self.old }
         ensures { IfOk result (Settles process (Op.Create rs fs net) self.old self.new) }
     {
-        if let Some(_) = self.tables.place(process, rs) {
+        if let Some(_) = self.tables.held_by(process, rs) {
             return Ok(RulesetOutcome::Answered(Answer::Moot));
         }
         match Ruleset::create(alloc, self.abi, fs, net) {
@@ -110,7 +110,7 @@ impl<'t> Pass<'t> {
         requires sound { IsSound self.old }
         ensures { IfOk result (Settles process (Op.CreateEmpty rs) self.old self.new) }
     {
-        match self.tables.place(process, rs) {
+        match self.tables.held_by(process, rs) {
             Some(_) => Ok(RulesetOutcome::Answered(Answer::Moot)),
             None => self.hold_created(process, rs, Ruleset::empty(alloc)),
         }
@@ -122,11 +122,11 @@ impl<'t> Pass<'t> {
         requires sound { IsSound self.old }
         ensures { IfOk result (Settles process (Op.AddPath rs path.now fs) self.old self.new) }
     {
-        let Some(place) = self.tables.place(process, rs) else {
+        let Some(index) = self.tables.held_by(process, rs) else {
             return Ok(failed(Errno::BadFd));
         };
         let spot = self.tree.place_of(path.as_str());
-        added(self.store.add_path(place, self.tree, spot, fs))
+        added(self.store.add_path(index, self.tree, spot, fs))
     }
 
     /// A rule for a port is added to a ruleset that the process holds.
@@ -135,10 +135,10 @@ impl<'t> Pass<'t> {
         requires sound { IsSound self.old }
         ensures { IfOk result (Settles process (Op.AddPort rs port net) self.old self.new) }
     {
-        let Some(place) = self.tables.place(process, rs) else {
+        let Some(index) = self.tables.held_by(process, rs) else {
             return Ok(failed(Errno::BadFd));
         };
-        added(self.store.add_port(place, self.abi, port, net))
+        added(self.store.add_port(index, self.abi, port, net))
     }
 
     /// A process closes a ruleset that it holds.
@@ -147,7 +147,7 @@ impl<'t> Pass<'t> {
         requires sound { IsSound self.old }
         ensures { IfOk result (Settles process (Op.CloseRs rs) self.old self.new) }
     {
-        let Some(_) = self.tables.place(process, rs) else {
+        let Some(_) = self.tables.held_by(process, rs) else {
             return Ok(RulesetOutcome::Answered(Answer::Moot));
         };
         self.tables.hold(process, rs, None)?;
@@ -161,9 +161,9 @@ impl<'t> Pass<'t> {
         requires room { length self.old.store.layers < 2 ^ 32 }
         ensures { IfOk result (Settles process (Op.Restrict rs) self.old self.new) }
     {
-        match self.tables.place(process, rs) {
+        match self.tables.held_by(process, rs) {
             None => Ok(RulesetOutcome::ByState),
-            Some(place) => Ok(RulesetOutcome::Frozen(self.store.freeze(alloc, place)?)),
+            Some(index) => Ok(RulesetOutcome::Frozen(self.store.freeze(alloc, index)?)),
         }
     }
 

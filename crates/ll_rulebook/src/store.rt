@@ -91,56 +91,56 @@ impl Store {
         self.layers
     }
 
-    /// Adds a ruleset at the end, and tells its place.
+    /// Adds a ruleset at the end, and tells its index.
     pub(crate) fn add(&mut self, created: Ruleset) -> Result<usize, AllocError>
-        ensures place { IfOk result (λ place. place ≡ length self.old.rulesets) }
+        ensures index { IfOk result (λ index. index ≡ length self.old.rulesets) }
         ensures adds { OnOk result (self.new ≡ with_created self.old created) }
     {
-        let place = self.rulesets.len();
+        let index = self.rulesets.len();
         self.rulesets.push(Stored {
             ruleset: created,
             frozen: None,
         })?;
-        Ok(place)
+        Ok(index)
     }
 
-    /// Adds a rule for files to the ruleset at a place.
+    /// Adds a rule for files to the ruleset at an index.
     pub(crate) fn add_path(
         &mut self,
-        place: usize,
+        index: usize,
         tree: &Tree,
         spot: Place,
         files: Fs,
     ) -> Result<(), RuleFault>
         requires place { IsOfTree tree.now spot }
-        requires there { place < length self.old.rulesets }
+        requires there { index < length self.old.rulesets }
         requires within { All (AreInTree tree.now) self.old.rulesets }
-        ensures { AddsPathRule tree.now spot files result place self.old self.new }
+        ensures { AddsPathRule tree.now spot files result index self.old self.new }
     {
-        self.rulesets[place].add_path(tree, spot, files)
+        self.rulesets[index].add_path(tree, spot, files)
     }
 
-    /// Adds a rule for a port to the ruleset at a place.
+    /// Adds a rule for a port to the ruleset at an index.
     pub(crate) fn add_port(
         &mut self,
-        place: usize,
+        index: usize,
         abi: Abi,
         port: u64,
         network: Net,
     ) -> Result<(), RuleFault>
-        requires { place < length self.old.rulesets }
-        ensures { AddsPortRule abi port network result place self.old self.new }
+        requires { index < length self.old.rulesets }
+        ensures { AddsPortRule abi port network result index self.old self.new }
     {
-        self.rulesets[place].add_port(abi, port, network)
+        self.rulesets[index].add_port(abi, port, network)
     }
 
-    /// The layer that the ruleset at a place is now.
-    pub(crate) fn freeze(&mut self, alloc: Global, place: usize) -> Result<LayerId, NoMemory>
-        requires there { place < length self.old.rulesets }
+    /// The layer that the ruleset at an index is now.
+    pub(crate) fn freeze(&mut self, alloc: Global, index: usize) -> Result<LayerId, NoMemory>
+        requires there { index < length self.old.rulesets }
         requires room { length self.old.layers < 2 ^ 32 }
-        ensures { IfOk result (Freezes self.old self.new place) }
+        ensures { IfOk result (Freezes self.old self.new index) }
     {
-        let stored = &mut self.rulesets[place];
+        let stored = &mut self.rulesets[index];
         if let Some(id) = stored.frozen {
             return Ok(id);
         }

@@ -6,7 +6,7 @@ ghost use Rattle.ll_rulebook.specs.Stores.{held_by, HoldsUnder, BeginsHolding};
 use ll_shared::SharedMap;
 use std::alloc::{AllocError, Global};
 
-/// For each process the places of the rulesets that it holds, by the numbers that it gives them.
+/// For each process the indices of the rulesets that it holds, by the numbers that it gives them.
 #[derive(Drop)]
 pub(crate) struct Tables {
     pub(crate) held: Vec<SharedMap<usize>>,
@@ -22,29 +22,29 @@ impl Tables {
         }
     }
 
-    /// The place of the ruleset that a process holds under a number.
-    #[tactic(auto, using(crate::proofs::Frozen::place_is))]
-    pub(crate) fn place(&self, process: usize, number: u64) -> Option<usize>
+    /// The index of the ruleset that a process holds under a number.
+    #[tactic(auto, using(crate::proofs::Frozen::index_is))]
+    pub(crate) fn held_by(&self, process: usize, number: u64) -> Option<usize>
         requires { process < length self.now.held.items }
         ensures { result ≡ held_by self.now.held.items process number }
     {
         self.held[process].get(number).copied()
     }
 
-    /// Lets a process hold the ruleset at a place under a number, or none.
+    /// Lets a process hold the ruleset at an index under a number, or none.
     pub(crate) fn hold(
         &mut self,
         process: usize,
         number: u64,
-        place: Option<usize>,
+        index: Option<usize>,
     ) -> Result<(), AllocError>
         requires { process < length self.old.held.items }
         ensures { OnOk result
-            (HoldsUnder self.old.held.items self.new.held.items process number place) }
+            (HoldsUnder self.old.held.items self.new.held.items process number index) }
     {
         let held = &mut self.held[process];
-        match place {
-            Some(place) => held.insert(number, place)?,
+        match index {
+            Some(index) => held.insert(number, index)?,
             None => held.remove(number)?,
         };
         Ok(())

@@ -1,4 +1,4 @@
--- The lanes of a domain: a row of them filled place by place, what is left of them on a climb, and the layers whose lanes are filled.
+-- The lanes of a domain: a row of them filled index by index, what is left of them on a climb, and the layers whose lanes are filled.
 use Rattle.std.proofs.Common.{◌≡◌, ℕ, zero, suc, ◌+◌, ◌*◌, ◌^◌, ◌<◌, ◌≤◌, Bool, true, false, not, ◌&&◌, ◌||◌, cond, eqb, List, [], ◌∷◌, ◌++◌, map, length}
 use Rattle.std.proofs.Common.{get_or, take, refl, sym, ap, subst, ◌∙◌, arith, inl, inr, append_assoc, append-nil, mul_comm, bit_and, bit_or, ◌/◌, ◌%◌}
 use Rattle.std.specs.Int.{bit_at}
@@ -37,40 +37,40 @@ use Rattle.ll_rules.proofs.Climbs.{climbed}
 use Rattle.ll_rules.proofs.Marks.{neither_bit}
 use Rattle.ll_rules.specs.declared.domain.Stack.{Stack}
 
--- ---- a row, place by place
+-- ---- a row, index by index
 
-module _ (P : ℕ → ℕ → Type 0) (row : List ℕ) (place value : ℕ) (inside : place < length row) where
-  pub row_next : ((p : ℕ) → p < place → P p (get_or row p 0)) → P place value → (p : ℕ) → p < place + 1 → P p (get_or (set row place value) p 0)
-  row_next before here p lt = elim (cases_eq p place) [
-    | inl same ↦ rw (same, get_or-set_same row place value 0 inside) here
-    | inr differs ↦ rw (get_or-set_other row place p value 0 differs) (before p (omega arith))
+module _ (P : ℕ → ℕ → Type 0) (row : List ℕ) (index value : ℕ) (inside : index < length row) where
+  pub row_next : ((p : ℕ) → p < index → P p (get_or row p 0)) → P index value → (p : ℕ) → p < index + 1 → P p (get_or (set row index value) p 0)
+  row_next before here p lt = elim (cases_eq p index) [
+    | inl same ↦ rw (same, get_or-set_same row index value 0 inside) here
+    | inr differs ↦ rw (get_or-set_other row index p value 0 differs) (before p (omega arith))
   ]
 
-pub row_rest : (row : List ℕ) (place value : ℕ) → ((p : ℕ) → place ≤ p → get_or row p 0 ≡ 0) → (p : ℕ) → place + 1 ≤ p → get_or (set row place value) p 0 ≡ 0
-row_rest row place value rest p le = get_or-set_other row place p value 0 (λ same. absurd (omega arith)) ∙ rest p (omega arith)
+pub row_rest : (row : List ℕ) (index value : ℕ) → ((p : ℕ) → index ≤ p → get_or row p 0 ≡ 0) → (p : ℕ) → index + 1 ≤ p → get_or (set row index value) p 0 ≡ 0
+row_rest row index value rest p le = get_or-set_other row index p value 0 (λ same. absurd (omega arith)) ∙ rest p (omega arith)
 
--- the places that are still to come are as they were before
-pub row_still : (row before : List ℕ) (place value : ℕ) → ((p : ℕ) → place ≤ p → get_or row p 0 ≡ get_or before p 0) → (p : ℕ) → place + 1 ≤ p
-    → get_or (set row place value) p 0 ≡ get_or before p 0
-row_still row before place value rest p le = get_or-set_other row place p value 0 (λ same. absurd (omega arith)) ∙ rest p (omega arith)
+-- the indices that are still to come are as they were before
+pub row_still : (row before : List ℕ) (index value : ℕ) → ((p : ℕ) → index ≤ p → get_or row p 0 ≡ get_or before p 0) → (p : ℕ) → index + 1 ≤ p
+    → get_or (set row index value) p 0 ≡ get_or before p 0
+row_still row before index value rest p le = get_or-set_other row index p value 0 (λ same. absurd (omega arith)) ∙ rest p (omega arith)
 
--- nothing in any place where nothing is in all together
-pub row_nothing : (row : List ℕ) (place value all : ℕ) → place < length row → ((p : ℕ) → p < place → all ≡ 0 → get_or row p 0 ≡ 0) → (p : ℕ) → p < place + 1
-    → bit_or all value ≡ 0 → get_or (set row place value) p 0 ≡ 0
-row_nothing row place value all inside before p lt none = elim (cases_eq p place) [
-  | inl same ↦ rw (same, get_or-set_same row place value 0 inside) (omega (arith, le_or_r all value))
-  | inr differs ↦ rw (get_or-set_other row place p value 0 differs) (before p (omega arith) (omega (arith, le_or_l all value)))
+-- nothing at any index where nothing is in all together
+pub row_nothing : (row : List ℕ) (index value all : ℕ) → index < length row → ((p : ℕ) → p < index → all ≡ 0 → get_or row p 0 ≡ 0) → (p : ℕ) → p < index + 1
+    → bit_or all value ≡ 0 → get_or (set row index value) p 0 ≡ 0
+row_nothing row index value all inside before p lt none = elim (cases_eq p index) [
+  | inl same ↦ rw (same, get_or-set_same row index value 0 inside) (omega (arith, le_or_r all value))
+  | inr differs ↦ rw (get_or-set_other row index p value 0 differs) (before p (omega arith) (omega (arith, le_or_l all value)))
 ]
 
 -- ---- the layers of a domain
 
 module _ (layers : List (RulesOn ℕ)) (ids : List LayerId) where
-  pub layer_in-named : (place : ℕ) (d : LayerId) → place < length ids → layer_in (domain_of layers ids) place ≡ layer_at layers (get_or ids place d)
-  layer_in-named place d inside = get_or-map (layer_at layers) ids place d (without_rules files.no_right network.no_right) inside
+  pub layer_in-named : (index : ℕ) (d : LayerId) → index < length ids → layer_in (domain_of layers ids) index ≡ layer_at layers (get_or ids index d)
+  layer_in-named index d inside = get_or-map (layer_at layers) ids index d (without_rules files.no_right network.no_right) inside
 
-  pub layer_in-past : (place : ℕ) → length ids ≤ place → layer_in (domain_of layers ids) place ≡ without_rules files.no_right network.no_right
-  layer_in-past place past =
-      get_or_past (map (layer_at layers) ids) place (without_rules files.no_right network.no_right) (omega (arith, length-map ids (layer_at layers)))
+  pub layer_in-past : (index : ℕ) → length ids ≤ index → layer_in (domain_of layers ids) index ≡ without_rules files.no_right network.no_right
+  layer_in-past index past =
+      get_or_past (map (layer_at layers) ids) index (without_rules files.no_right network.no_right) (omega (arith, length-map ids (layer_at layers)))
 
 nothing_is_empty : files.is_empty files.no_right ≡ true
 nothing_is_empty = sym (fs_is_empty files.no_right)
@@ -83,51 +83,51 @@ pub nothing_granted : (here : NodeId) (right : FsRight) → granted_on_node (wit
 unfolding granted_on_node
 nothing_granted here right = refl
 
-module _ (layers : List (RulesOn ℕ)) (ids : List LayerId) (row : List ℕ) (count : ℕ) (all : length ids ≤ count) (rest : (place : ℕ) → count ≤ place
-    → get_or row place 0 ≡ 0) where
-  -- a row of what the layers handle of some rights, all places together
-  pub all_asked : (wanted : Fs) → ((place : ℕ) → place < count → (right : FsRight)
-      → has (lane row place) right ≡ (handles (layer_in (domain_of layers ids) place) right && has wanted right))
-      → (place : ℕ) (right : FsRight) → has (lane row place) right ≡ (handles (layer_in (domain_of layers ids) place) right && has wanted right)
-  all_asked wanted so_far place right = elim (cases_lt place count) [
-    | inl inside ↦ so_far place inside right
+module _ (layers : List (RulesOn ℕ)) (ids : List LayerId) (row : List ℕ) (count : ℕ) (all : length ids ≤ count) (rest : (index : ℕ) → count ≤ index
+    → get_or row index 0 ≡ 0) where
+  -- a row of what the layers handle of some rights, all indices together
+  pub all_asked : (wanted : Fs) → ((index : ℕ) → index < count → (right : FsRight)
+      → has (lane row index) right ≡ (handles (layer_in (domain_of layers ids) index) right && has wanted right))
+      → (index : ℕ) (right : FsRight) → has (lane row index) right ≡ (handles (layer_in (domain_of layers ids) index) right && has wanted right)
+  all_asked wanted so_far index right = elim (cases_lt index count) [
+    | inl inside ↦ so_far index inside right
     | inr past ↦
-        nothing_in (get_or row place 0) right (rest place past)
-        ∙ sym (ap (λ (b : Bool). b && has wanted right) (ap (λ (rules : RulesOn ℕ). handles rules right) (layer_in-past layers ids place (omega arith))
+        nothing_in (get_or row index 0) right (rest index past)
+        ∙ sym (ap (λ (b : Bool). b && has wanted right) (ap (λ (rules : RulesOn ℕ). handles rules right) (layer_in-past layers ids index (omega arith))
         ∙ nothing_handled ℕ right))
   ]
 
--- what is left of lanes once their layers were asked on a node, all places together
+-- what is left of lanes once their layers were asked on a node, all indices together
 pub all_left : (layers : List (RulesOn ℕ)) (ids : List LayerId) (before after : List ℕ) (count : ℕ) → length ids ≤ count → (here : NodeId)
-    → ((place : ℕ) → place < count → (right : FsRight)
-    → has (lane after place) right ≡ (has (lane before place) right && not (granted_on_node (layer_in (domain_of layers ids) place) here right)))
-    → ((place : ℕ) → count ≤ place → get_or after place 0 ≡ get_or before place 0)
-    → (place : ℕ) (right : FsRight) → has (lane after place) right
-    ≡ (has (lane before place) right && not (granted_on_node (layer_in (domain_of layers ids) place) here right))
-all_left layers ids before after count all here so_far rest place right = elim (cases_lt place count) [
-  | inl inside ↦ so_far place inside right
+    → ((index : ℕ) → index < count → (right : FsRight)
+    → has (lane after index) right ≡ (has (lane before index) right && not (granted_on_node (layer_in (domain_of layers ids) index) here right)))
+    → ((index : ℕ) → count ≤ index → get_or after index 0 ≡ get_or before index 0)
+    → (index : ℕ) (right : FsRight) → has (lane after index) right
+    ≡ (has (lane before index) right && not (granted_on_node (layer_in (domain_of layers ids) index) here right))
+all_left layers ids before after count all here so_far rest index right = elim (cases_lt index count) [
+  | inl inside ↦ so_far index inside right
   | inr past ↦
-      ap (λ (bits : ℕ). has (set_of bits) right) (rest place past)
-      ∙ sym (and_true (has (lane before place) right))
-      ∙ ap (λ (b : Bool). has (lane before place) right && not b)
-      (sym (ap (λ (rules : RulesOn ℕ). granted_on_node rules here right) (layer_in-past layers ids place (omega arith)) ∙ nothing_granted here right))
+      ap (λ (bits : ℕ). has (set_of bits) right) (rest index past)
+      ∙ sym (and_true (has (lane before index) right))
+      ∙ ap (λ (b : Bool). has (lane before index) right && not b)
+      (sym (ap (λ (rules : RulesOn ℕ). granted_on_node rules here right) (layer_in-past layers ids index (omega arith)) ∙ nothing_granted here right))
 ]
 
 -- ---- marks of all layers together
 
 module _ (layers : List (RulesOn ℕ)) (ids : List LayerId) (here : NodeId) where
   -- one layer more: where neither its marks nor those before it have the node's, no layer so far has a rule on the node
-  pub unmarked_next : (place marks more : ℕ) (d : LayerId) (rules : RulesOn ℕ) → place < length ids → rules ≡ layer_at layers (get_or ids place d)
+  pub unmarked_next : (index marks more : ℕ) (d : LayerId) (rules : RulesOn ℕ) → index < length ids → rules ≡ layer_at layers (get_or ids index d)
       → (eqb (bit_at more (here.0 % 64)) 1 ≡ false → (right : FsRight) → granted_on_node rules here right ≡ false)
-      → ((p : ℕ) → p < place → eqb (bit_at marks (here.0 % 64)) 1 ≡ false → (right : FsRight)
+      → ((p : ℕ) → p < index → eqb (bit_at marks (here.0 % 64)) 1 ≡ false → (right : FsRight)
       → granted_on_node (layer_in (domain_of layers ids) p) here right ≡ false)
-      → (p : ℕ) → p < place + 1 → eqb (bit_at (bit_or marks more) (here.0 % 64)) 1 ≡ false → (right : FsRight)
+      → (p : ℕ) → p < index + 1 → eqb (bit_at (bit_or marks more) (here.0 % 64)) 1 ≡ false → (right : FsRight)
       → granted_on_node (layer_in (domain_of layers ids) p) here right ≡ false
-  unmarked_next place marks more d rules inside is own before p lt unmarked right =
+  unmarked_next index marks more d rules inside is own before p lt unmarked right =
       let parts = neither_bit marks more (here.0 % 64) unmarked in
-      elim (cases_eq p place) [
+      elim (cases_eq p index) [
         | inl same ↦
-            rw same (ap (λ (others : RulesOn ℕ). granted_on_node others here right) (layer_in-named layers ids place d inside ∙ sym is) ∙ own parts.1 right)
+            rw same (ap (λ (others : RulesOn ℕ). granted_on_node others here right) (layer_in-named layers ids index d inside ∙ sym is) ∙ own parts.1 right)
         | inr differs ↦ before p (omega arith) parts.0 right
       ]
 
@@ -263,12 +263,12 @@ all_in tree layers id all =
       | inr past ↦ subst (AreInTree tree) (sym (get_or_past layers id.0 nowhere past)) (All-nil (λ (number : ℕ). number < length tree))
     ]
 
-pub layer_in-within : (tree : List Entry) (layers : List (RulesOn ℕ)) (ids : List LayerId) (place : ℕ) → All (AreInTree tree) layers
-    → AreInTree tree (layer_in (domain_of layers ids) place)
-layer_in-within tree layers ids place all = elim (cases_lt place (length ids)) [
-  | inl inside ↦ subst (AreInTree tree) (sym (layer_in-named layers ids place (record { 0 = 0 }) inside))
-      (all_in tree layers (get_or ids place (record { 0 = 0 })) all)
-  | inr past ↦ subst (AreInTree tree) (sym (layer_in-past layers ids place past)) (All-nil (λ (number : ℕ). number < length tree))
+pub layer_in-within : (tree : List Entry) (layers : List (RulesOn ℕ)) (ids : List LayerId) (index : ℕ) → All (AreInTree tree) layers
+    → AreInTree tree (layer_in (domain_of layers ids) index)
+layer_in-within tree layers ids index all = elim (cases_lt index (length ids)) [
+  | inl inside ↦ subst (AreInTree tree) (sym (layer_in-named layers ids index (record { 0 = 0 }) inside))
+      (all_in tree layers (get_or ids index (record { 0 = 0 })) all)
+  | inr past ↦ subst (AreInTree tree) (sym (layer_in-past layers ids index past)) (All-nil (λ (number : ℕ). number < length tree))
 ]
 
 -- ---- the layers whose lanes are filled
@@ -283,8 +283,8 @@ numbers_from-snoc test number (y ∷ ys) x =
     let same : number + 1 + length ys ≡ number + suc (length ys) = omega arith in
     rw (numbers_from-snoc test (number + 1) ys x, append_assoc, same) refl
 
-module _ {L : Type 0} (test : L → Bool) (passes : ℕ → Bool) (domain : List L) (d : L) (nowhere : test d ≡ false) (agree : (place : ℕ) → place < MOST_LAYERS
-    → passes (suc place) ≡ test (get_or domain place d)) where
+module _ {L : Type 0} (test : L → Bool) (passes : ℕ → Bool) (domain : List L) (d : L) (nowhere : test d ≡ false) (agree : (index : ℕ) → index < MOST_LAYERS
+    → passes (suc index) ≡ test (get_or domain index d)) where
   passing_first : (count : ℕ) → count ≤ MOST_LAYERS → passing_upto passes count ≡ numbers_from test 1 (take count domain)
   unfolding passing_upto numbers_from
   passing_first zero few = refl
@@ -311,17 +311,17 @@ not_not false = refl
 -- the layers of a domain whose lanes hold what a test finds
 pub filled_numbers : (lanes : List ℕ) (layers : List (RulesOn ℕ)) (ids : List LayerId) (test : RulesOn ℕ → Bool) → length ids ≤ MOST_LAYERS
     → test (without_rules files.no_right network.no_right) ≡ false
-    → ((place : ℕ) → some_right (has (lane lanes place)) ≡ test (layer_in (domain_of layers ids) place))
+    → ((index : ℕ) → some_right (has (lane lanes index)) ≡ test (layer_in (domain_of layers ids) index))
     → numbers_passing (is_filled lanes) ≡ numbers_from test 1 (domain_of layers ids)
 unfolding is_filled
 filled_numbers lanes layers ids test few nowhere same =
     passing_all test (is_filled lanes) (domain_of layers ids) (without_rules files.no_right network.no_right) nowhere
-    (λ place inside. not_not (some_right (has (lane lanes place))) ∙ same place) (omega (arith, length-map ids (layer_at layers)))
+    (λ index inside. not_not (some_right (has (lane lanes index))) ∙ same index) (omega (arith, length-map ids (layer_at layers)))
 
 -- a domain's layers that pass a test, with their rules on paths
 pub filled_in_tree : (tree : List Entry) (lanes : List ℕ) (layers : List (RulesOn ℕ)) (ids : List LayerId) (test : RulesOn Path → Bool)
     → length ids ≤ MOST_LAYERS → test (in_tree tree (without_rules files.no_right network.no_right)) ≡ false
-    → ((place : ℕ) → some_right (has (lane lanes place)) ≡ test (in_tree tree (layer_in (domain_of layers ids) place)))
+    → ((index : ℕ) → some_right (has (lane lanes index)) ≡ test (in_tree tree (layer_in (domain_of layers ids) index)))
     → numbers_passing (is_filled lanes) ≡ numbers_from test 1 (all_in_tree tree (domain_of layers ids))
 filled_in_tree tree lanes layers ids test few nowhere same =
     filled_numbers lanes layers ids (λ rules. test (in_tree tree rules)) few nowhere same ∙ sym (numbers_from-map test (in_tree tree) 1 (domain_of layers ids))
@@ -336,16 +336,16 @@ none_lacking wanted granted =
     ∙ ap (λ (b : Bool). b && not (granted right)) (and_none (wanted right)))
 
 pub refusing_lanes : (tree : List Entry) (layers : List (RulesOn ℕ)) (ids : List LayerId) (path : Path) (wanted : Fs) (lanes : List ℕ)
-    → length ids ≤ MOST_LAYERS → ((place : ℕ) (right : FsRight) → has (lane lanes place) right
-    ≡ ((handles (layer_in (domain_of layers ids) place) right && has wanted right)
-    && not (granted (in_tree tree (layer_in (domain_of layers ids) place)) path right)))
+    → length ids ≤ MOST_LAYERS → ((index : ℕ) (right : FsRight) → has (lane lanes index) right
+    ≡ ((handles (layer_in (domain_of layers ids) index) right && has wanted right)
+    && not (granted (in_tree tree (layer_in (domain_of layers ids) index)) path right)))
     → numbers_passing (is_filled lanes) ≡ refusing (all_in_tree tree (domain_of layers ids)) path wanted
 refusing_lanes tree layers ids path wanted lanes few same =
     filled_in_tree tree lanes layers ids (λ layer. lacks layer path wanted) few (none_lacking (has wanted) _)
-    (λ place. some_agree (has (lane lanes place)) (λ right. has wanted right && handles (layer_in (domain_of layers ids) place) right
-    && not (granted (in_tree tree (layer_in (domain_of layers ids) place)) path right))
-    (λ right. same place right ∙ ap (λ (b : Bool). b && not (granted (in_tree tree (layer_in (domain_of layers ids) place)) path right))
-    (and_comm (handles (layer_in (domain_of layers ids) place) right) (has wanted right))))
+    (λ index. some_agree (has (lane lanes index)) (λ right. has wanted right && handles (layer_in (domain_of layers ids) index) right
+    && not (granted (in_tree tree (layer_in (domain_of layers ids) index)) path right))
+    (λ right. same index right ∙ ap (λ (b : Bool). b && not (granted (in_tree tree (layer_in (domain_of layers ids) index)) path right))
+    (and_comm (handles (layer_in (domain_of layers ids) index) right) (has wanted right))))
 
 -- a domain of one layer refuses where its lane holds anything
 pub refusing_alone : (tree : List Entry) (layer : RulesOn ℕ) (path : Path) (wanted : Fs) (left : ℕ)
@@ -362,5 +362,5 @@ refusing_alone tree layer path wanted left same =
 -- ---- the layers of a stack
 
 -- the rules of each layer are on nodes of the tree
-pub stacked-within : (stack : Stack) (place : ℕ) → AreInTree stack.tree.now (stacked stack place)
-stacked-within stack place = layer_in-within stack.tree.now stack.layers.now stack.ids.now place stack.rules
+pub stacked-within : (stack : Stack) (index : ℕ) → AreInTree stack.tree.now (stacked stack index)
+stacked-within stack index = layer_in-within stack.tree.now stack.layers.now stack.ids.now index stack.rules

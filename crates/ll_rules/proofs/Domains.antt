@@ -20,47 +20,47 @@ numbers_from-map test h number [] = refl
 numbers_from-map test h number (x ∷ xs) = ap (λ (rest : List ℕ). cond (test (h x)) (number ∷ []) [] ++ rest) (numbers_from-map test h (number + 1) xs)
 
 -- one layer more
-noted_next : {A : Type 0} (test : A → Bool) (all : List A) (place : ℕ) (d : A) (so_far next total : List ℕ) (refuses : Bool) → place < length all
-    → refuses ≡ test (get_or all place d) → next ≡ so_far ++ cond refuses ((place + 1) ∷ []) []
-    → so_far ++ numbers_from test (place + 1) (drop place all) ≡ total
-    → next ++ numbers_from test (place + 1 + 1) (drop (place + 1) all) ≡ total
+noted_next : {A : Type 0} (test : A → Bool) (all : List A) (index : ℕ) (d : A) (so_far next total : List ℕ) (refuses : Bool) → index < length all
+    → refuses ≡ test (get_or all index d) → next ≡ so_far ++ cond refuses ((index + 1) ∷ []) []
+    → so_far ++ numbers_from test (index + 1) (drop index all) ≡ total
+    → next ++ numbers_from test (index + 1 + 1) (drop (index + 1) all) ≡ total
 unfolding numbers_from
-noted_next test all place d so_far next total refuses inside tells noted before =
-    let here : drop place all ≡ get_or all place d ∷ drop (place + 1) all = rw add-one (drop-cons all place d inside) in
-    let split : so_far ++ (cond (test (get_or all place d)) ((place + 1) ∷ []) [] ++ numbers_from test (place + 1 + 1) (drop (place + 1) all)) ≡ total =
+noted_next test all index d so_far next total refuses inside tells noted before =
+    let here : drop index all ≡ get_or all index d ∷ drop (index + 1) all = rw add-one (drop-cons all index d inside) in
+    let split : so_far ++ (cond (test (get_or all index d)) ((index + 1) ∷ []) [] ++ numbers_from test (index + 1 + 1) (drop (index + 1) all)) ≡ total =
     rw here at before in
     rw (noted, tells, append_assoc) split
 
 -- no layer is left
-pub noted_all : {A : Type 0} (test : A → Bool) (all : List A) (place : ℕ) (so_far total : List ℕ) → length all ≤ place
-    → so_far ++ numbers_from test (place + 1) (drop place all) ≡ total → so_far ≡ total
+pub noted_all : {A : Type 0} (test : A → Bool) (all : List A) (index : ℕ) (so_far total : List ℕ) → length all ≤ index
+    → so_far ++ numbers_from test (index + 1) (drop index all) ≡ total → so_far ≡ total
 unfolding numbers_from
-noted_all test all place so_far total done before =
-    let nothing : drop place all ≡ [] = drop_all place all done in
+noted_all test all index so_far total done before =
+    let nothing : drop index all ≡ [] = drop_all index all done in
     sym (append-nil so_far) ∙ (rw nothing at before)
 
 -- what is noted stays below the next number
-noted_below : (so_far next : List ℕ) (place : ℕ) (refuses : Bool) → next ≡ so_far ++ cond refuses ((place + 1) ∷ []) []
-    → All (λ number. number < place + 1) so_far → All (λ number. number < place + 1 + 1) next
-noted_below so_far next place refuses noted below =
-    rw noted (All-append (λ (number : ℕ). number < place + 1 + 1) so_far (cond refuses ((place + 1) ∷ []) [])
-    (All-weaker (λ (number : ℕ). number < place + 1) (λ (number : ℕ). number < place + 1 + 1) (λ number less. omega arith) so_far below) (last refuses))
+noted_below : (so_far next : List ℕ) (index : ℕ) (refuses : Bool) → next ≡ so_far ++ cond refuses ((index + 1) ∷ []) []
+    → All (λ number. number < index + 1) so_far → All (λ number. number < index + 1 + 1) next
+noted_below so_far next index refuses noted below =
+    rw noted (All-append (λ (number : ℕ). number < index + 1 + 1) so_far (cond refuses ((index + 1) ∷ []) [])
+    (All-weaker (λ (number : ℕ). number < index + 1) (λ (number : ℕ). number < index + 1 + 1) (λ number less. omega arith) so_far below) (last refuses))
   where
-    last : (refuses : Bool) → All (λ number. number < place + 1 + 1) (cond refuses ((place + 1) ∷ []) [])
-    last true = All-cons (λ (number : ℕ). number < place + 1 + 1) (place + 1) [] (omega arith) (All-nil (λ (number : ℕ). number < place + 1 + 1))
-    last false = All-nil (λ (number : ℕ). number < place + 1 + 1)
+    last : (refuses : Bool) → All (λ number. number < index + 1 + 1) (cond refuses ((index + 1) ∷ []) [])
+    last true = All-cons (λ (number : ℕ). number < index + 1 + 1) (index + 1) [] (omega arith) (All-nil (λ (number : ℕ). number < index + 1 + 1))
+    last false = All-nil (λ (number : ℕ). number < index + 1 + 1)
 
 -- both, where a layer was noted if it refuses
-pub noted_more : {A : Type 0} (test : A → Bool) (all : List A) (place : ℕ) (d : A) (so_far next total : List ℕ) (refuses : Bool) → place < length all
-    → refuses ≡ test (get_or all place d) → next ≡ so_far ++ cond refuses ((place + 1) ∷ []) []
-    → so_far ++ numbers_from test (place + 1) (drop place all) ≡ total → All (λ number. number < place + 1) so_far
+pub noted_more : {A : Type 0} (test : A → Bool) (all : List A) (index : ℕ) (d : A) (so_far next total : List ℕ) (refuses : Bool) → index < length all
+    → refuses ≡ test (get_or all index d) → next ≡ so_far ++ cond refuses ((index + 1) ∷ []) []
+    → so_far ++ numbers_from test (index + 1) (drop index all) ≡ total → All (λ number. number < index + 1) so_far
     → record {
-      so_far : next ++ numbers_from test (place + 1 + 1) (drop (place + 1) all) ≡ total;
-      below : All (λ number. number < place + 1 + 1) next;
+      so_far : next ++ numbers_from test (index + 1 + 1) (drop (index + 1) all) ≡ total;
+      below : All (λ number. number < index + 1 + 1) next;
     }
-noted_more test all place d so_far next total refuses inside tells noted before low = record {
-  so_far = noted_next test all place d so_far next total refuses inside tells noted before;
-  below = noted_below so_far next place refuses noted low;
+noted_more test all index d so_far next total refuses inside tells noted before low = record {
+  so_far = noted_next test all index d so_far next total refuses inside tells noted before;
+  below = noted_below so_far next index refuses noted low;
 }
 
 -- ---- by the names of layers

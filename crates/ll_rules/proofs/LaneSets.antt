@@ -10,43 +10,43 @@ use Rattle.std.proofs.lemmas.List.{get_or-map, get_or_past, length-map}
 use Rattle.std.proofs.lemmas.Simd.{length-zip2, get_or-zip2, map-map, zip2_splat, bitmask_splat, bit_mask_l, mask_l-lt}
 use lib.Lanes.{zip2, Each1, mask_l, top}
 use Rattle.ll_rights.specs.declared.fs.Fs.{Fs}
-use Rattle.ll_rights.specs.Sets.{has_place}
+use Rattle.ll_rights.specs.Sets.{has_bit}
 use Rattle.ll_rights.specs.Rights.{FsRight, has, other, is_empty, bit_of}
-use Rattle.ll_rights.proofs.Places.{has_place-named, has_place-other, has_place-or, has_place-and, has_place-lacking}
+use Rattle.ll_rights.proofs.Bitwise.{has_bit-named, has_bit-other, has_bit-or, has_bit-and, has_bit-lacking}
 use Rattle.ll_rights.proofs.Sets.{fs_table, fs_is_empty}
 use Rattle.ll_rules.specs.declared.domain.TheConstants.{MOST_LAYERS}
 use Rattle.ll_rules.proofs.RightSets.{has_nothing}
 use Rattle.ll_rules.proofs.LayerNumbers.{passing_upto-agree}
-use Rattle.ll_rules.specs.LayerNumbers.{is_at_place, numbers_passing}
+use Rattle.ll_rules.specs.LayerNumbers.{is_at_bit, numbers_passing}
 use Rattle.ll_rules.specs.Lanes.{named_bits, set_of, lane, is_filled}
 
 -- sixteen lanes of 32 bits
 abbrev pub AreLanes : List ℕ → Type 0
 AreLanes lanes = (length lanes ≡ MOST_LAYERS) × Each1 (Fits w32) lanes
 
-each_fits : (xs : List ℕ) (place : ℕ) → Each1 (Fits w32) xs → get_or xs place 0 < 2 ^ 32
-each_fits [] place h = lit< tt
+each_fits : (xs : List ℕ) (index : ℕ) → Each1 (Fits w32) xs → get_or xs index 0 < 2 ^ 32
+each_fits [] index h = lit< tt
 each_fits (x ∷ xs) zero h = h.0.fits
-each_fits (x ∷ xs) (suc place) h = each_fits xs place h.1
+each_fits (x ∷ xs) (suc index) h = each_fits xs index h.1
 
-pub lane_fits : (xs : List ℕ) (place : ℕ) → AreLanes xs → get_or xs place 0 < 2 ^ 32
-lane_fits xs place are = each_fits xs place are.1
+pub lane_fits : (xs : List ℕ) (index : ℕ) → AreLanes xs → get_or xs index 0 < 2 ^ 32
+lane_fits xs index are = each_fits xs index are.1
 
 -- ---- one lane
 
 pub named_bit : (x : ℕ) (right : FsRight) → bit_of right < bit_of other → has (set_of x) right ≡ eqb (bit_at x (bit_of right)) 1
 unfolding has
 named_bit x right named =
-    let place = bit_of right in
-    rw (has_place-named (bit_of other) (bit_and x named_bits) place named, bit_at_and x named_bits place, bit_at_ones (bit_of other) place named)
-    (ap (λ (bit : ℕ). eqb bit 1) (omega (arith, bit_at-lt x place)))
+    let index = bit_of right in
+    rw (has_bit-named (bit_of other) (bit_and x named_bits) index named, bit_at_and x named_bits index, bit_at_ones (bit_of other) index named)
+    (ap (λ (bit : ℕ). eqb bit 1) (omega (arith, bit_at-lt x index)))
 
 -- a lane has no right without a name
 pub unnamed_none : (x : ℕ) (right : FsRight) → bit_of other ≤ bit_of right → has (set_of x) right ≡ false
 unfolding has
 unnamed_none x right unnamed =
     let low : bit_and x named_bits < 2 ^ bit_of other = omega (arith, and_le_r x named_bits) in
-    has_place-other (bit_of other) (bit_and x named_bits) (bit_of right) unnamed ∙ lt-leb (2 ^ bit_of other) (bit_and x named_bits) low
+    has_bit-other (bit_of other) (bit_and x named_bits) (bit_of right) unnamed ∙ lt-leb (2 ^ bit_of other) (bit_and x named_bits) low
 
 -- what a lane has, by the bits of the rights that have a name
 by_named : (x : ℕ) (right : FsRight) (is : Bool) → (bit_of right < bit_of other → eqb (bit_at x (bit_of right)) 1 ≡ is)
@@ -70,53 +70,53 @@ and_same false c = refl
 pub without_bits : (x g : ℕ) (right : FsRight) → x < 2 ^ 32 → g < 2 ^ 32
     → has (set_of (bit_and x (bit_not w32 g))) right ≡ (has (set_of x) right && not (has (set_of g) right))
 without_bits x g right fits taken_fits =
-    let place = bit_of right in
+    let index = bit_of right in
     by_named (bit_and x (bit_not w32 g)) right (has (set_of x) right && not (has (set_of g) right))
     (λ named.
-    let inside : place < 32 = omega arith in
-    let taken : has_place 32 (bit_and x (bit_not w32 g)) place ≡ (has_place 32 x place && not (has_place 32 g place)) =
-    ap (λ (bits : ℕ). has_place 32 (bit_and bits (bit_not w32 g)) place) (sym (and_self x))
-    ∙ has_place-lacking 32 x x g place (lit≤ tt) taken_fits fits
-    ∙ and_same (has_place 32 x place) (not (has_place 32 g place)) in
+    let inside : index < 32 = omega arith in
+    let taken : has_bit 32 (bit_and x (bit_not w32 g)) index ≡ (has_bit 32 x index && not (has_bit 32 g index)) =
+    ap (λ (bits : ℕ). has_bit 32 (bit_and bits (bit_not w32 g)) index) (sym (and_self x))
+    ∙ has_bit-lacking 32 x x g index (lit≤ tt) taken_fits fits
+    ∙ and_same (has_bit 32 x index) (not (has_bit 32 g index)) in
     rw (
       named_bit x right named,
       named_bit g right named,
-      ← has_place-named 32 (bit_and x (bit_not w32 g)) place inside,
-      ← has_place-named 32 x place inside,
-      ← has_place-named 32 g place inside,
+      ← has_bit-named 32 (bit_and x (bit_not w32 g)) index inside,
+      ← has_bit-named 32 x index inside,
+      ← has_bit-named 32 g index inside,
     ) taken)
     (λ unnamed. rw (unnamed_none x right unnamed) refl)
 
 pub both_bits : (x w : ℕ) (right : FsRight) → w < 2 ^ 32 → has (set_of (bit_and x w)) right ≡ (has (set_of x) right && has (set_of w) right)
 both_bits x w right fits =
-    let place = bit_of right in
+    let index = bit_of right in
     by_named (bit_and x w) right (has (set_of x) right && has (set_of w) right)
     (λ named.
-    let inside : place < 32 = omega arith in
+    let inside : index < 32 = omega arith in
     rw (
       named_bit x right named,
       named_bit w right named,
-      ← has_place-named 32 (bit_and x w) place inside,
-      ← has_place-named 32 x place inside,
-      ← has_place-named 32 w place inside,
+      ← has_bit-named 32 (bit_and x w) index inside,
+      ← has_bit-named 32 x index inside,
+      ← has_bit-named 32 w index inside,
     )
-    (has_place-and 32 x w place fits))
+    (has_bit-and 32 x w index fits))
     (λ unnamed. rw (unnamed_none x right unnamed) refl)
 
 pub either_bits : (x y : ℕ) (right : FsRight) → has (set_of (bit_or x y)) right ≡ (has (set_of x) right || has (set_of y) right)
 either_bits x y right =
     let named_count = bit_of other in
-    let place = bit_of right in
+    let index = bit_of right in
     by_named (bit_or x y) right (has (set_of x) right || has (set_of y) right)
     (λ named.
     rw (
       named_bit x right named,
       named_bit y right named,
-      ← has_place-named named_count (bit_or x y) place named,
-      ← has_place-named named_count x place named,
-      ← has_place-named named_count y place named,
+      ← has_bit-named named_count (bit_or x y) index named,
+      ← has_bit-named named_count x index named,
+      ← has_bit-named named_count y index named,
     )
-    (has_place-or named_count x y place))
+    (has_bit-or named_count x y index))
     (λ unnamed. rw (unnamed_none x right unnamed, unnamed_none y right unnamed) refl)
 
 -- a lane that has nothing in common with the named bits holds no right
@@ -126,7 +126,7 @@ any_named lane named is = ap (λ (bits : ℕ). not (eqb (bit_and lane bits) 0)) 
 -- the named rights of a set as a lane
 pub named_of : (set : Fs) (right : FsRight) → bit_of right < bit_of other → has (set_of set.0) right ≡ has set right
 unfolding has
-named_of set right named = named_bit set.0 right named ∙ sym (has_place-named (bit_of other) set.0 (bit_of right) named)
+named_of set right named = named_bit set.0 right named ∙ sym (has_bit-named (bit_of other) set.0 (bit_of right) named)
 
 -- what the named rights of a set and a lane have in common is what the set and the lane have
 pub alike_in_lane : (x w : ℕ) (set : Fs) (right : FsRight) (test : Bool → Bool)
@@ -145,40 +145,40 @@ known_bits set w right same known = elim (cases_lt (bit_of right) (bit_of other)
   | inl named ↦ same right named
   | inr unnamed ↦
       let last : bit_of right ≡ bit_of other = omega (arith, (fs_table.each right).2) in
-      unnamed_none w right unnamed ∙ sym (ap (has_place (bit_of other) set.0) last ∙ known)
+      unnamed_none w right unnamed ∙ sym (ap (has_bit (bit_of other) set.0) last ∙ known)
 ]
 
 -- ---- all lanes
 
 -- a row that is made lane by lane of two others
-module _ (f : ℕ → ℕ → ℕ) (xs ys : List ℕ) (whole : length xs ≡ MOST_LAYERS) (also : length ys ≡ MOST_LAYERS) (place : ℕ) (right : FsRight) (is : Bool) where
-  pub by_lane : (place < MOST_LAYERS → has (set_of (f (get_or xs place 0) (get_or ys place 0))) right ≡ is) → (MOST_LAYERS ≤ place → is ≡ false)
-      → has (lane (zip2 f xs ys) place) right ≡ is
-  by_lane inside past = elim (cases_lt place MOST_LAYERS) [
-    | inl lt ↦ ap (λ (bits : ℕ). has (set_of bits) right) (get_or-zip2 f xs ys place 0 0 0 (omega arith) (omega arith)) ∙ inside lt
-    | inr le ↦ nothing_in (get_or (zip2 f xs ys) place 0) right (get_or_past (zip2 f xs ys) place 0 (omega (arith, length-zip2 f xs ys (whole ∙ sym also))))
+module _ (f : ℕ → ℕ → ℕ) (xs ys : List ℕ) (whole : length xs ≡ MOST_LAYERS) (also : length ys ≡ MOST_LAYERS) (index : ℕ) (right : FsRight) (is : Bool) where
+  pub by_lane : (index < MOST_LAYERS → has (set_of (f (get_or xs index 0) (get_or ys index 0))) right ≡ is) → (MOST_LAYERS ≤ index → is ≡ false)
+      → has (lane (zip2 f xs ys) index) right ≡ is
+  by_lane inside past = elim (cases_lt index MOST_LAYERS) [
+    | inl lt ↦ ap (λ (bits : ℕ). has (set_of bits) right) (get_or-zip2 f xs ys index 0 0 0 (omega arith) (omega arith)) ∙ inside lt
+    | inr le ↦ nothing_in (get_or (zip2 f xs ys) index 0) right (get_or_past (zip2 f xs ys) index 0 (omega (arith, length-zip2 f xs ys (whole ∙ sym also))))
         ∙ sym (past le)
   ]
 
-pub nothing_past : (xs : List ℕ) (place : ℕ) (right : FsRight) → length xs ≡ MOST_LAYERS → MOST_LAYERS ≤ place → has (lane xs place) right ≡ false
-nothing_past xs place right whole past = nothing_in (get_or xs place 0) right (get_or_past xs place 0 (omega arith))
+pub nothing_past : (xs : List ℕ) (index : ℕ) (right : FsRight) → length xs ≡ MOST_LAYERS → MOST_LAYERS ≤ index → has (lane xs index) right ≡ false
+nothing_past xs index right whole past = nothing_in (get_or xs index 0) right (get_or_past xs index 0 (omega arith))
 
-pub lanes_either : (xs ys : List ℕ) → AreLanes xs → AreLanes ys → (place : ℕ) (right : FsRight)
-    → has (lane (zip2 bit_or xs ys) place) right ≡ (has (lane xs place) right || has (lane ys place) right)
-lanes_either xs ys whole also place right =
-    by_lane bit_or xs ys whole.0 also.0 place right (has (lane xs place) right || has (lane ys place) right)
-    (λ inside. either_bits (get_or xs place 0) (get_or ys place 0) right)
-    (λ past. rw (nothing_past xs place right whole.0 past, nothing_past ys place right also.0 past) refl)
+pub lanes_either : (xs ys : List ℕ) → AreLanes xs → AreLanes ys → (index : ℕ) (right : FsRight)
+    → has (lane (zip2 bit_or xs ys) index) right ≡ (has (lane xs index) right || has (lane ys index) right)
+lanes_either xs ys whole also index right =
+    by_lane bit_or xs ys whole.0 also.0 index right (has (lane xs index) right || has (lane ys index) right)
+    (λ inside. either_bits (get_or xs index 0) (get_or ys index 0) right)
+    (λ past. rw (nothing_past xs index right whole.0 past, nothing_past ys index right also.0 past) refl)
 
-pub lanes_without : (xs gs : List ℕ) → AreLanes xs → AreLanes gs → (place : ℕ) (right : FsRight)
-    → has (lane (zip2 bit_and xs (map (bit_not w32) gs)) place) right ≡ (has (lane xs place) right && not (has (lane gs place) right))
-lanes_without xs gs whole also place right =
-    by_lane bit_and xs (map (bit_not w32) gs) whole.0 (length-map gs (bit_not w32) ∙ also.0) place right
-    (has (lane xs place) right && not (has (lane gs place) right))
+pub lanes_without : (xs gs : List ℕ) → AreLanes xs → AreLanes gs → (index : ℕ) (right : FsRight)
+    → has (lane (zip2 bit_and xs (map (bit_not w32) gs)) index) right ≡ (has (lane xs index) right && not (has (lane gs index) right))
+lanes_without xs gs whole also index right =
+    by_lane bit_and xs (map (bit_not w32) gs) whole.0 (length-map gs (bit_not w32) ∙ also.0) index right
+    (has (lane xs index) right && not (has (lane gs index) right))
     (λ inside.
-    rw (get_or-map (bit_not w32) gs place 0 0 (omega (arith, also.0)))
-    (without_bits (get_or xs place 0) (get_or gs place 0) right (lane_fits xs place whole) (lane_fits gs place also)))
-    (λ past. rw (nothing_past xs place right whole.0 past) refl)
+    rw (get_or-map (bit_not w32) gs index 0 0 (omega (arith, also.0)))
+    (without_bits (get_or xs index 0) (get_or gs index 0) right (lane_fits xs index whole) (lane_fits gs index also)))
+    (λ past. rw (nothing_past xs index right whole.0 past) refl)
 
 -- ---- which lanes are filled
 
@@ -206,18 +206,18 @@ mask_is xs named whole same =
 pub mask_small : (xs : List ℕ) → length xs ≡ MOST_LAYERS → mask_l (map is_named xs) < 2 ^ 16
 mask_small xs whole = subst (λ (n : ℕ). mask_l (map is_named xs) < 2 ^ n) (length-map xs is_named ∙ whole) (mask_l-lt (map is_named xs))
 
-pub mask_places : (xs : List ℕ) (place : ℕ) → length xs ≡ MOST_LAYERS → place < MOST_LAYERS
-    → eqb (bit_at (mask_l (map is_named xs)) place) 1 ≡ not (is_empty (lane xs place))
-mask_places xs place whole inside =
-    ap (λ (bit : ℕ). eqb bit 1) (bit_mask_l (map is_named xs) place)
-    ∙ one_of (get_or (map is_named xs) place false)
-    ∙ get_or-map is_named xs place 0 false (omega arith)
-    ∙ ap not (fs_is_empty (lane xs place))
+pub mask_bits : (xs : List ℕ) (index : ℕ) → length xs ≡ MOST_LAYERS → index < MOST_LAYERS
+    → eqb (bit_at (mask_l (map is_named xs)) index) 1 ≡ not (is_empty (lane xs index))
+mask_bits xs index whole inside =
+    ap (λ (bit : ℕ). eqb bit 1) (bit_mask_l (map is_named xs) index)
+    ∙ one_of (get_or (map is_named xs) index false)
+    ∙ get_or-map is_named xs index 0 false (omega arith)
+    ∙ ap not (fs_is_empty (lane xs index))
 
-pub filled_places : (xs : List ℕ) (places : ℕ) → ((place : ℕ) → place < MOST_LAYERS → eqb (bit_at places place) 1 ≡ not (is_empty (lane xs place)))
-    → numbers_passing (is_at_place places) ≡ numbers_passing (is_filled xs)
-unfolding is_filled is_at_place
-filled_places xs places same = passing_upto-agree (is_at_place places) (is_filled xs) MOST_LAYERS each where
-  each : (number : ℕ) → 0 < number → number ≤ MOST_LAYERS → is_at_place places number ≡ is_filled xs number
+pub filled_by_mask : (xs : List ℕ) (mask : ℕ) → ((index : ℕ) → index < MOST_LAYERS → eqb (bit_at mask index) 1 ≡ not (is_empty (lane xs index)))
+    → numbers_passing (is_at_bit mask) ≡ numbers_passing (is_filled xs)
+unfolding is_filled is_at_bit
+filled_by_mask xs mask same = passing_upto-agree (is_at_bit mask) (is_filled xs) MOST_LAYERS each where
+  each : (number : ℕ) → 0 < number → number ≤ MOST_LAYERS → is_at_bit mask number ≡ is_filled xs number
   each zero pos le = absurd (omega arith)
-  each (suc place) pos le = same place (omega arith)
+  each (suc index) pos le = same index (omega arith)

@@ -9,11 +9,11 @@ use Rattle.std.proofs.lemmas.List.Folds.{list_any-append}
 use Rattle.std.proofs.lemmas.List.Elements.{All-head, All-tail}
 use Rattle.std.proofs.Math.Nat.{mod-eq_of_lt}
 use Rattle.std.proofs.lemmas.Nat.{one_shl}
-use Rattle.ll_rights.proofs.Places.{has_place-named, has_place-or}
+use Rattle.ll_rights.proofs.Bitwise.{has_bit-named, has_bit-or}
 use Rattle.ll_rules.specs.declared.domain.TheConstants.{MOST_LAYERS}
 use Rattle.ll_rules.proofs.Booleans.{or_false, and_none, and_true}
 use Rattle.ll_rules.specs.declared.layer_set.LayerSet.TheInside.{Inside}
-use Rattle.ll_rules.specs.LayerNumbers.{is_among, passing_upto, numbers_passing, united_numbers, is_at_place, numbers_of, places_of, places_of-passing_upto}
+use Rattle.ll_rules.specs.LayerNumbers.{is_among, passing_upto, numbers_passing, united_numbers, is_at_bit, numbers_of, mask_of, mask_of-passing_upto}
 
 is_among-one : (b : Bool) (m n : ℕ) → is_among n (cond b (m ∷ []) []) ≡ (b && eqb m n)
 is_among-one true m n = or_false (eqb m n)
@@ -86,63 +86,63 @@ passing_upto-one_more t u (suc bound) one pos le below here none none_above = el
 
 -- ---- sets kept as bits
 
-pub has_kept : (set : Inside) (number : ℕ) → 0 < number → number ≤ MOST_LAYERS → is_among number (numbers_of set) ≡ eqb (bit_at set.places (number - 1)) 1
-unfolding is_at_place
+pub has_kept : (set : Inside) (number : ℕ) → 0 < number → number ≤ MOST_LAYERS → is_among number (numbers_of set) ≡ eqb (bit_at set.mask (number - 1)) 1
+unfolding is_at_bit
 has_kept set zero pos le = absurd (omega arith)
-has_kept set (suc place) pos le =
-    let same : suc place - 1 ≡ place = omega arith in
-    rw same (is_among-passing_upto (is_at_place set.places) MOST_LAYERS (suc place) pos le)
+has_kept set (suc bit) pos le =
+    let same : suc bit - 1 ≡ bit = omega arith in
+    rw same (is_among-passing_upto (is_at_bit set.mask) MOST_LAYERS (suc bit) pos le)
 
 -- the test that code makes of one bit
 pub has_by_shift : (set : Inside) (number : ℕ) → 0 < number → number ≤ MOST_LAYERS
-    → eqb (bit_and (set.places / 2 ^ (number - 1)) 1) 1 ≡ is_among number (numbers_of set)
+    → eqb (bit_and (set.mask / 2 ^ (number - 1)) 1) 1 ≡ is_among number (numbers_of set)
 has_by_shift set number pos le =
-    ap (λ (bit : ℕ). eqb bit 1) (shr_and_one set.places (number - 1)) ∙ sym (has_kept set number pos le)
+    ap (λ (bit : ℕ). eqb bit 1) (shr_and_one set.mask (number - 1)) ∙ sym (has_kept set number pos le)
 
 pub has_outside : (set : Inside) (number : ℕ) → (number ≡ 0) ⊎ (MOST_LAYERS < number) → false ≡ is_among number (numbers_of set)
-has_outside set number (inl none) = rw none (sym (is_among-zero (is_at_place set.places) MOST_LAYERS))
-has_outside set number (inr above) = sym (is_among-above (is_at_place set.places) MOST_LAYERS number above)
+has_outside set number (inl none) = rw none (sym (is_among-zero (is_at_bit set.mask) MOST_LAYERS))
+has_outside set number (inr above) = sym (is_among-above (is_at_bit set.mask) MOST_LAYERS number above)
 
 -- no bit, no number
-pub empty_kept : (set : Inside) → set.places < 2 ^ 16 → eqb set.places 0 ≡ eqb (length (numbers_of set)) 0
-unfolding places_of passing_upto is_at_place
+pub empty_kept : (set : Inside) → set.mask < 2 ^ 16 → eqb set.mask 0 ≡ eqb (length (numbers_of set)) 0
+unfolding mask_of passing_upto is_at_bit
 empty_kept set fits =
-    let again : places_of (numbers_of set) ≡ set.places = places_of-passing_upto set.places MOST_LAYERS ∙ mod-eq_of_lt fits in
-    elim (cases_eq set.places 0) [
+    let again : mask_of (numbers_of set) ≡ set.mask = mask_of-passing_upto set.mask MOST_LAYERS ∙ mod-eq_of_lt fits in
+    elim (cases_eq set.mask 0) [
       | inl zero_is ↦ rw zero_is refl
-      | inr some ↦ rw (ne_eqb set.places 0 some) (no_numbers (numbers_of set) set.places again some)
+      | inr some ↦ rw (ne_eqb set.mask 0 some) (no_numbers (numbers_of set) set.mask again some)
     ]
   where
-    no_numbers : (numbers : List ℕ) (places : ℕ) → places_of numbers ≡ places → (places ≡ 0 → ⊥) → false ≡ eqb (length numbers) 0
-    no_numbers [] places again some = absurd (some (sym again))
-    no_numbers (x ∷ xs) places again some = sym (ne_eqb (length (x ∷ xs)) 0 (λ same. absurd (omega arith)))
+    no_numbers : (numbers : List ℕ) (mask : ℕ) → mask_of numbers ≡ mask → (mask ≡ 0 → ⊥) → false ≡ eqb (length numbers) 0
+    no_numbers [] mask again some = absurd (some (sym again))
+    no_numbers (x ∷ xs) mask again some = sym (ne_eqb (length (x ∷ xs)) 0 (λ same. absurd (omega arith)))
 
-is_at_place-or : (a b number : ℕ) → is_at_place (bit_or a b) number ≡ (is_at_place a number || is_at_place b number)
-unfolding is_at_place
-is_at_place-or a b zero = refl
-is_at_place-or a b (suc place) =
-    let last : place < suc place = omega arith in
-    rw (← has_place-named (suc place) (bit_or a b) place last, ← has_place-named (suc place) a place last, ← has_place-named (suc place) b place last)
-    (has_place-or (suc place) a b place)
+is_at_bit-or : (a b number : ℕ) → is_at_bit (bit_or a b) number ≡ (is_at_bit a number || is_at_bit b number)
+unfolding is_at_bit
+is_at_bit-or a b zero = refl
+is_at_bit-or a b (suc bit) =
+    let last : bit < suc bit = omega arith in
+    rw (← has_bit-named (suc bit) (bit_or a b) bit last, ← has_bit-named (suc bit) a bit last, ← has_bit-named (suc bit) b bit last)
+    (has_bit-or (suc bit) a b bit)
 
 -- the bits of two sets together
-pub union_kept : (a b : Inside) → numbers_passing (is_at_place (bit_or a.places b.places)) ≡ united_numbers (numbers_of a) (numbers_of b)
+pub union_kept : (a b : Inside) → numbers_passing (is_at_bit (bit_or a.mask b.mask)) ≡ united_numbers (numbers_of a) (numbers_of b)
 union_kept a b =
-    passing_upto-agree (is_at_place (bit_or a.places b.places)) (λ number. is_among number (numbers_of a) || is_among number (numbers_of b)) MOST_LAYERS
+    passing_upto-agree (is_at_bit (bit_or a.mask b.mask)) (λ number. is_among number (numbers_of a) || is_among number (numbers_of b)) MOST_LAYERS
     (λ number pos le.
-    rw (is_among-passing_upto (is_at_place a.places) MOST_LAYERS number pos le, is_among-passing_upto (is_at_place b.places) MOST_LAYERS number pos le)
-    (is_at_place-or a.places b.places number))
+    rw (is_among-passing_upto (is_at_bit a.mask) MOST_LAYERS number pos le, is_among-passing_upto (is_at_bit b.mask) MOST_LAYERS number pos le)
+    (is_at_bit-or a.mask b.mask number))
 
-is_at_place-power_same : (place : ℕ) → is_at_place (2 ^ place) (suc place) ≡ true
-unfolding is_at_place
-is_at_place-power_same place = rw (bit_at-pow_same place) refl
+is_at_bit-power_same : (bit : ℕ) → is_at_bit (2 ^ bit) (suc bit) ≡ true
+unfolding is_at_bit
+is_at_bit-power_same bit = rw (bit_at-pow_same bit) refl
 
-is_at_place-power_other : (place number : ℕ) → (number ≡ suc place → ⊥) → is_at_place (2 ^ place) number ≡ false
-unfolding is_at_place
-is_at_place-power_other place zero differs = refl
-is_at_place-power_other place (suc other) differs =
-    let apart : other ≢ place = λ same. differs (ap suc same) in
-    rw (bit_at-pow_other place other apart) refl
+is_at_bit-power_other : (bit number : ℕ) → (number ≡ suc bit → ⊥) → is_at_bit (2 ^ bit) number ≡ false
+unfolding is_at_bit
+is_at_bit-power_other bit zero differs = refl
+is_at_bit-power_other bit (suc other) differs =
+    let apart : other ≢ bit = λ same. differs (ap suc same) in
+    rw (bit_at-pow_other bit other apart) refl
 
 below_from_among : (numbers : List ℕ) (number bound : ℕ) → is_among number numbers ≡ true → All (λ other. other < bound) numbers → number < bound
 below_from_among [] number bound among all = absurd (false≢true among)
@@ -152,22 +152,22 @@ below_from_among (x ∷ xs) number bound among all = elim (or_cases (eqb x numbe
 ]
 
 -- one bit more, above the others
-pub noted_kept : (set : Inside) (place : ℕ) → suc place ≤ MOST_LAYERS → All (λ other. other < suc place) (numbers_of set)
-    → numbers_passing (is_at_place (bit_or set.places (2 ^ place))) ≡ numbers_of set ++ suc place ∷ []
-noted_kept set place le above =
-    let t : ℕ → Bool = is_at_place set.places in
-    let none : (number : ℕ) → suc place ≤ number → number ≤ MOST_LAYERS → t number ≡ false = λ number p q.
+pub noted_kept : (set : Inside) (bit : ℕ) → suc bit ≤ MOST_LAYERS → All (λ other. other < suc bit) (numbers_of set)
+    → numbers_passing (is_at_bit (bit_or set.mask (2 ^ bit))) ≡ numbers_of set ++ suc bit ∷ []
+noted_kept set bit le above =
+    let t : ℕ → Bool = is_at_bit set.mask in
+    let none : (number : ℕ) → suc bit ≤ number → number ≤ MOST_LAYERS → t number ≡ false = λ number p q.
     false_from_ne_true (t number) (λ there.
-    let below : number < suc place =
-    below_from_among (numbers_of set) number (suc place) (is_among-passing_upto t MOST_LAYERS number (omega arith) q ∙ there) above in
+    let below : number < suc bit =
+    below_from_among (numbers_of set) number (suc bit) (is_among-passing_upto t MOST_LAYERS number (omega arith) q ∙ there) above in
     omega arith) in
-    passing_upto-one_more t (is_at_place (bit_or set.places (2 ^ place))) MOST_LAYERS (suc place) (omega arith) le
-    (λ number p q. rw (is_at_place-or set.places (2 ^ place) number, is_at_place-power_other place number (λ same. omega arith)) (or_false (t number)))
-    (rw (is_at_place-or set.places (2 ^ place) (suc place), is_at_place-power_same place) (or_right (t (suc place)) true refl))
+    passing_upto-one_more t (is_at_bit (bit_or set.mask (2 ^ bit))) MOST_LAYERS (suc bit) (omega arith) le
+    (λ number p q. rw (is_at_bit-or set.mask (2 ^ bit) number, is_at_bit-power_other bit number (λ same. omega arith)) (or_false (t number)))
+    (rw (is_at_bit-or set.mask (2 ^ bit) (suc bit), is_at_bit-power_same bit) (or_right (t (suc bit)) true refl))
     none
     (λ number p q. rw (
-      is_at_place-or set.places (2 ^ place) number,
-      is_at_place-power_other place number (λ same. omega arith),
+      is_at_bit-or set.mask (2 ^ bit) number,
+      is_at_bit-power_other bit number (λ same. omega arith),
       none number (omega arith) q,
     ) refl)
 
@@ -175,18 +175,18 @@ noted_kept set place le above =
 
 pub numbers_again : (set : Inside) → numbers_of set ≡ numbers_passing (λ number. is_among number (numbers_of set))
 numbers_again set =
-    passing_upto-agree (is_at_place set.places) (λ number. is_among number (numbers_of set)) MOST_LAYERS
-    (λ number pos le. sym (is_among-passing_upto (is_at_place set.places) MOST_LAYERS number pos le))
+    passing_upto-agree (is_at_bit set.mask) (λ number. is_among number (numbers_of set)) MOST_LAYERS
+    (λ number pos le. sym (is_among-passing_upto (is_at_bit set.mask) MOST_LAYERS number pos le))
 
-pub places_kept : (set : Inside) (numbers : List ℕ) → numbers_of set ≡ numbers → set.places < 2 ^ 16 → set.places ≡ places_of numbers
-places_kept set numbers same fits = sym (ap places_of (sym same) ∙ places_of-passing_upto set.places MOST_LAYERS ∙ mod-eq_of_lt fits)
+pub mask_kept : (set : Inside) (numbers : List ℕ) → numbers_of set ≡ numbers → set.mask < 2 ^ 16 → set.mask ≡ mask_of numbers
+mask_kept set numbers same fits = sym (ap mask_of (sym same) ∙ mask_of-passing_upto set.mask MOST_LAYERS ∙ mod-eq_of_lt fits)
 
 -- one bit more, as code sets it
 pub noted_by_shift : (set : Inside) (number : ℕ) → 0 < number → number ≤ MOST_LAYERS → All (λ other. other < number) (numbers_of set)
-    → numbers_passing (is_at_place (bit_or set.places (1 * 2 ^ (number - 1) % 65536))) ≡ numbers_of set ++ number ∷ []
+    → numbers_passing (is_at_bit (bit_or set.mask (1 * 2 ^ (number - 1) % 65536))) ≡ numbers_of set ++ number ∷ []
 noted_by_shift set zero pos le above = absurd (omega arith)
-noted_by_shift set (suc place) pos le above =
-    let same : suc place - 1 ≡ place = omega arith in
-    let small : place < MOST_LAYERS = omega arith in
-    let power : 1 * 2 ^ place % 2 ^ 16 ≡ 2 ^ place = one_shl place MOST_LAYERS small in
-    rw (same, power) (noted_kept set place le above)
+noted_by_shift set (suc bit) pos le above =
+    let same : suc bit - 1 ≡ bit = omega arith in
+    let small : bit < MOST_LAYERS = omega arith in
+    let power : 1 * 2 ^ bit % 2 ^ 16 ≡ 2 ^ bit = one_shl bit MOST_LAYERS small in
+    rw (same, power) (noted_kept set bit le above)

@@ -202,8 +202,8 @@ module _ (tree : List Entry) (move : Move) (layers : List (RulesOn ℕ)) (ids : 
       → AreLacking tree (domain_of layers ids) source at_source → AreLacking tree (domain_of layers ids) destination at_destination
       → ((right : FsRight) → has from right ≡ list_any (is_right right) (asked_of_source move.how (kind_at tree move.moved) (kind_there tree move.target)))
       → ((right : FsRight) → has to right ≡ list_any (is_right right) (asked_of_destination (kind_at tree move.moved) (kind_there tree move.target)))
-      → ((place : ℕ) (right : FsRight) → has (lane lanes place) right
-      ≡ ((has (lane at_source place) right && has from right) || (has (lane at_destination place) right && has to right)))
+      → ((index : ℕ) (right : FsRight) → has (lane lanes index) right
+      ≡ ((has (lane at_source index) right && has from right) || (has (lane at_destination index) right && has to right)))
       → numbers_passing (is_filled lanes) ≡ numbers_where (denies tree move) (all_in_tree tree (domain_of layers ids))
   denied_numbers source destination at_source at_destination from to source_is destination_is lacks_here lacks_there from_is to_is is =
       let here : AreLacking tree (domain_of layers ids) (source_of tree move) at_source =
@@ -211,11 +211,11 @@ module _ (tree : List Entry) (move : Move) (layers : List (RulesOn ℕ)) (ids : 
       let there : AreLacking tree (domain_of layers ids) (destination_of tree move.target) at_destination =
       subst (λ (path : Path). AreLacking tree (domain_of layers ids) path at_destination) destination_is lacks_there in
       filled_in_tree tree lanes layers ids (denies tree move) few (none_denies tree move)
-      (λ place.
-      denied_some (in_tree tree (layer_in (domain_of layers ids) place)) (source_of tree move) (destination_of tree move.target) (has (lane at_source place))
-      (has (lane at_destination place)) (here place) (there place) (lane lanes place) from to _ _ from_is to_is (is place))
+      (λ index.
+      denied_some (in_tree tree (layer_in (domain_of layers ids) index)) (source_of tree move) (destination_of tree move.target) (has (lane at_source index))
+      (has (lane at_destination index)) (here index) (there index) (lane lanes index) from to _ _ from_is to_is (is index))
 
-  pub held_numbers : ((place : ℕ) → some_right (has (lane lanes place)) ≡ holds_back tree move (in_tree tree (layer_in (domain_of layers ids) place)))
+  pub held_numbers : ((index : ℕ) → some_right (has (lane lanes index)) ≡ holds_back tree move (in_tree tree (layer_in (domain_of layers ids) index)))
       → numbers_passing (is_filled lanes) ≡ numbers_where (holds_back tree move) (all_in_tree tree (domain_of layers ids))
   held_numbers same = filled_in_tree tree lanes layers ids (holds_back tree move) few (none_holds_back tree move) same
 

@@ -1,4 +1,4 @@
--- Layers as they are kept: in one list, of whose places a domain names some, and with one set of rights for all rules on a node or port.
+-- Layers as they are kept: in one list, of whose indices a domain names some, and with one set of rights for all rules on a node or port.
 -- Source: landlock(7), "Landlock rules"; the kernel's userspace document on Landlock, "Ruleset layers".
 use Rattle.std.specs.Prelude.{◌≡◌, ℕ, ◌<◌, Bool, ◌&&◌, ◌||◌, ◌==◌, List, map, length, All, slice_index_or}
 use Rattle.std.specs.List.{list_any}
@@ -43,7 +43,7 @@ pub record GrantsOn (old new : RulesOn ℕ) (here : NodeId) (set : Fs) : Type 0 
   pub grants : (picks : ℕ → Bool) (right : FsRight) → list_any (λ rule. picks rule.0 && files.has rule.1 right) new.file_rules ≡ ((picks here.0 && files.has set right) || list_any (λ rule. picks rule.0 && files.has rule.1 right) old.file_rules)
   pub places : (picks : ℕ → Bool) → list_any (λ rule. picks rule.0) new.file_rules ≡ (picks here.0 || list_any (λ rule. picks rule.0) old.file_rules)
 
--- the layer at a place of a list
+-- the layer at an index of a list
 abbrev pub layer_at : {P : Type 0} → List (RulesOn P) → LayerId → RulesOn P
 layer_at layers id = slice_index_or layers id.0 (without_rules files.no_right network.no_right)
 
@@ -51,6 +51,6 @@ layer_at layers id = slice_index_or layers id.0 (without_rules files.no_right ne
 abbrev pub domain_of : {P : Type 0} → List (RulesOn P) → List LayerId → List (RulesOn P)
 domain_of layers ids = map (layer_at layers) ids
 
--- the domain names places of the list
+-- the domain names indices of the list
 abbrev pub IsDomainOf : {P : Type 0} → List (RulesOn P) → List LayerId → Type 0
 IsDomainOf layers ids = All (λ id. id.0 < length layers) ids

@@ -31,46 +31,46 @@ united_numbers a b = numbers_passing (λ number. is_among number a || is_among n
 
 -- ---- how a set is kept: the layer of number n + 1 at bit n
 
-unfoldable pub is_at_place : ℕ → ℕ → Bool
-is_at_place places zero = false
-is_at_place places (suc place) = bit_at places place == 1
+unfoldable pub is_at_bit : ℕ → ℕ → Bool
+is_at_bit mask zero = false
+is_at_bit mask (suc bit) = bit_at mask bit == 1
 
 -- the numbers that the bits stand for
 abbrev pub numbers_of : Inside → List ℕ
-numbers_of set = numbers_passing (is_at_place set.places)
+numbers_of set = numbers_passing (is_at_bit set.mask)
 
 abbrev pub bit_for : ℕ → ℕ
 bit_for zero = 0
-bit_for (suc place) = 2 ^ place
+bit_for (suc bit) = 2 ^ bit
 
 -- the bits that stand for numbers
-unfoldable pub places_of : List ℕ → ℕ
-places_of numbers = sum_by bit_for numbers
+unfoldable pub mask_of : List ℕ → ℕ
+mask_of numbers = sum_by bit_for numbers
 
-places_of-one : (places bound : ℕ) → places_of (cond (eqb (bit_at places bound) 1) (suc bound ∷ []) []) ≡ bit_at places bound * 2 ^ bound
-unfolding places_of
-places_of-one places bound =
-    elim (cases_eq (bit_at places bound) 1) [
-      | inl one ↦ rw (eq-eqb (bit_at places bound) 1 one, one) (omega arith)
+mask_of-one : (mask bound : ℕ) → mask_of (cond (eqb (bit_at mask bound) 1) (suc bound ∷ []) []) ≡ bit_at mask bound * 2 ^ bound
+unfolding mask_of
+mask_of-one mask bound =
+    elim (cases_eq (bit_at mask bound) 1) [
+      | inl one ↦ rw (eq-eqb (bit_at mask bound) 1 one, one) (omega arith)
       | inr other ↦
-          let none : bit_at places bound ≡ 0 = omega (arith, bit_at-lt places bound) in
-          rw (ne_eqb (bit_at places bound) 1 other, none) (omega arith)
+          let none : bit_at mask bound ≡ 0 = omega (arith, bit_at-lt mask bound) in
+          rw (ne_eqb (bit_at mask bound) 1 other, none) (omega arith)
     ]
 
-pub places_of-passing_upto : (places bound : ℕ) → places_of (passing_upto (is_at_place places) bound) ≡ places % 2 ^ bound
-unfolding places_of passing_upto is_at_place
-places_of-passing_upto places zero = omega arith
-places_of-passing_upto places (suc bound) =
-    let rest : places_of (passing_upto (is_at_place places) bound) ≡ places % 2 ^ bound = places_of-passing_upto places bound in
-    let split : places % 2 ^ (1 + bound) ≡ (places / 2 ^ bound % 2 ^ 1) * 2 ^ bound + places % 2 ^ bound = mod-pow-add places 1 bound in
+pub mask_of-passing_upto : (mask bound : ℕ) → mask_of (passing_upto (is_at_bit mask) bound) ≡ mask % 2 ^ bound
+unfolding mask_of passing_upto is_at_bit
+mask_of-passing_upto mask zero = omega arith
+mask_of-passing_upto mask (suc bound) =
+    let rest : mask_of (passing_upto (is_at_bit mask) bound) ≡ mask % 2 ^ bound = mask_of-passing_upto mask bound in
+    let split : mask % 2 ^ (1 + bound) ≡ (mask / 2 ^ bound % 2 ^ 1) * 2 ^ bound + mask % 2 ^ bound = mod-pow-add mask 1 bound in
     let same : 1 + bound ≡ suc bound = omega arith in
-    let whole : places % 2 ^ suc bound ≡ bit_at places bound * 2 ^ bound + places % 2 ^ bound = rw (← same) split in
-    sum_by-append bit_for (passing_upto (is_at_place places) bound) (cond (eqb (bit_at places bound) 1) (suc bound ∷ []) [])
-    ∙ ap (λ (n : ℕ). n + places_of (cond (eqb (bit_at places bound) 1) (suc bound ∷ []) [])) rest
-    ∙ ap (λ (n : ℕ). places % 2 ^ bound + n) (places_of-one places bound)
-    ∙ add_comm (places % 2 ^ bound) (bit_at places bound * 2 ^ bound)
+    let whole : mask % 2 ^ suc bound ≡ bit_at mask bound * 2 ^ bound + mask % 2 ^ bound = rw (← same) split in
+    sum_by-append bit_for (passing_upto (is_at_bit mask) bound) (cond (eqb (bit_at mask bound) 1) (suc bound ∷ []) [])
+    ∙ ap (λ (n : ℕ). n + mask_of (cond (eqb (bit_at mask bound) 1) (suc bound ∷ []) [])) rest
+    ∙ ap (λ (n : ℕ). mask % 2 ^ bound + n) (mask_of-one mask bound)
+    ∙ add_comm (mask % 2 ^ bound) (bit_at mask bound * 2 ^ bound)
     ∙ sym whole
 
 -- the bits of the numbers that bits stand for are those bits
-pub kept_again : (set : Inside) → set.places < 2 ^ 16 → record { places = places_of (numbers_of set) } ≡ set
-kept_again set fits = ap (λ (n : ℕ). let kept : Inside = record { places = n } in kept) (places_of-passing_upto set.places MOST_LAYERS ∙ mod-eq_of_lt fits)
+pub kept_again : (set : Inside) → set.mask < 2 ^ 16 → record { mask = mask_of (numbers_of set) } ≡ set
+kept_again set fits = ap (λ (n : ℕ). let kept : Inside = record { mask = n } in kept) (mask_of-passing_upto set.mask MOST_LAYERS ∙ mod-eq_of_lt fits)

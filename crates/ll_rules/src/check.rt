@@ -15,7 +15,7 @@ use ll_rights::{Fs, Net};
 use ll_tree::{NodeId, Tree};
 use std::simd::prelude::*;
 
-/// The layer at a place of a slice.
+/// The layer at an index of a slice.
 pub(crate) fn layer_of(layers: &[Layer], id: LayerId) -> &Layer
     requires { id.0 < length layers.now }
     ensures { result.now ≡ layer_at layers.now id }
@@ -87,9 +87,9 @@ pub fn check_port(layers: &[Layer], domain: &Domain, port: u16, wanted: Net) -> 
 {
     let ids = domain.layers();
     let mut refusing = LayerSet::new();
-    for (place, id) in ids.iter().enumerate() {
+    for (index, id) in ids.iter().enumerate() {
         let closed = layer_of(layers, *id).refuses_on_port(port, wanted);
-        refusing = refusing.noted(place as u32 + 1, closed);
+        refusing = refusing.noted(index as u32 + 1, closed);
     }
     refusing
 }
@@ -102,9 +102,9 @@ pub fn check_mount(layers: &[Layer], domain: &Domain) -> LayerSet
 {
     let ids = domain.layers();
     let mut refusing = LayerSet::new();
-    for (place, id) in ids.iter().enumerate() {
+    for (index, id) in ids.iter().enumerate() {
         let handles = layer_of(layers, *id).handles_files();
-        refusing = refusing.noted(place as u32 + 1, handles);
+        refusing = refusing.noted(index as u32 + 1, handles);
     }
     refusing
 }

@@ -49,24 +49,24 @@ pub(crate) fn left_of(layer: &Layer, node: NodeId, lane: u32, look_ups: &mut u64
 impl<'a> Stack<'a> {
     /// The rights that each layer handles, in its lane.
     pub(crate) fn handled_in(&self) -> [u32; MOST_LAYERS]
-        ensures { (place : ℕ) (right : FsRight)
-            → has (lane result place) right ≡ handles (stacked self.now place) right }
+        ensures { (index : ℕ) (right : FsRight)
+            → has (lane result index) right ≡ handles (stacked self.now index) right }
     {
         let mut row = [0; MOST_LAYERS];
-        for (place, id) in self.ids.iter().enumerate() {
-            row[place] = handled_bits(layer_of(self.layers, *id));
+        for (index, id) in self.ids.iter().enumerate() {
+            row[index] = handled_bits(layer_of(self.layers, *id));
         }
         row
     }
 
     /// Those of some rights that each layer handles, in its lane.
     pub(crate) fn asked_in(&self, wanted: Fs) -> [u32; MOST_LAYERS]
-        ensures { (place : ℕ) (right : FsRight) → has (lane result place) right
-            ≡ (handles (stacked self.now place) right && has wanted right) }
+        ensures { (index : ℕ) (right : FsRight) → has (lane result index) right
+            ≡ (handles (stacked self.now index) right && has wanted right) }
     {
         let mut row = [0; MOST_LAYERS];
-        for (place, id) in self.ids.iter().enumerate() {
-            row[place] = asked_of(layer_of(self.layers, *id), wanted);
+        for (index, id) in self.ids.iter().enumerate() {
+            row[index] = asked_of(layer_of(self.layers, *id), wanted);
         }
         row
     }
@@ -74,24 +74,24 @@ impl<'a> Stack<'a> {
     /// Asks each layer whose lane isn't empty for its rule on a node, and takes from the lane what the rule
     /// grants. Answers whether anything is left in the lanes of these layers, and the number of look-ups.
     pub(crate) fn ask_on(&self, node: NodeId, lanes: &mut [u32; MOST_LAYERS]) -> (bool, u64)
-        ensures left { (place : ℕ) (right : FsRight)
-            → has (lane lanes.new place) right
-            ≡ (has (lane lanes.old place) right
-            && not (granted_on_node (stacked self.now place) node right)) }
-        ensures none { result.0 ≡ false → (place : ℕ) → place < length self.now.ids.now
-            → (right : FsRight) → has (lane lanes.new place) right ≡ false }
+        ensures left { (index : ℕ) (right : FsRight)
+            → has (lane lanes.new index) right
+            ≡ (has (lane lanes.old index) right
+            && not (granted_on_node (stacked self.now index) node right)) }
+        ensures none { result.0 ≡ false → (index : ℕ) → index < length self.now.ids.now
+            → (right : FsRight) → has (lane lanes.new index) right ≡ false }
         ensures count { result.1 ≤ length self.now.ids.now }
     {
         let mut look_ups = 0;
         let mut all = 0;
-        for (place, id) in self.ids.iter().enumerate() {
+        for (index, id) in self.ids.iter().enumerate() {
             let left = left_of(
                 layer_of(self.layers, *id),
                 node,
-                lanes[place],
+                lanes[index],
                 &mut look_ups,
             );
-            lanes[place] = left;
+            lanes[index] = left;
             all |= left;
         }
         (all != 0, look_ups)
@@ -100,10 +100,10 @@ impl<'a> Stack<'a> {
     /// Which of two nodes some layer may have a rule on, by the filters of all layers. Each layer is looked at once for
     /// both nodes.
     fn marked_of(&self, lower: NodeId, upper: NodeId) -> (bool, bool)
-        ensures lower { result.0 ≡ false → (place : ℕ) (right : FsRight)
-            → granted_on_node (stacked self.now place) lower right ≡ false }
-        ensures upper { result.1 ≡ false → (place : ℕ) (right : FsRight)
-            → granted_on_node (stacked self.now place) upper right ≡ false }
+        ensures lower { result.0 ≡ false → (index : ℕ) (right : FsRight)
+            → granted_on_node (stacked self.now index) lower right ≡ false }
+        ensures upper { result.1 ≡ false → (index : ℕ) (right : FsRight)
+            → granted_on_node (stacked self.now index) upper right ≡ false }
     {
         let mut at_lower = 0;
         let mut at_upper = 0;
@@ -131,9 +131,9 @@ impl<'a> Stack<'a> {
             < 2 ^ 64 }
         ensures inside { IfSome result (IsNode self.now.tree.now) }
         ensures above { nodes_up self.now.tree.now result ≤ nodes_up self.now.tree.now from }
-        ensures passed { (place : ℕ) (right : FsRight)
-            → granted_above self.now.tree.now (stacked self.now place) result right
-            ≡ granted_above self.now.tree.now (stacked self.now place) from right }
+        ensures passed { (index : ℕ) (right : FsRight)
+            → granted_above self.now.tree.now (stacked self.now index) result right
+            ≡ granted_above self.now.tree.now (stacked self.now index) from right }
         ensures count { look_ups.new + length self.now.ids.now * nodes_up self.now.tree.now result
             ≤ look_ups.old + length self.now.ids.now * nodes_up self.now.tree.now from }
     {
@@ -162,11 +162,11 @@ impl<'a> Stack<'a> {
     fn is_any_filled(&self, lanes: &[u32; MOST_LAYERS]) -> bool
         ensures exact { result
             ≡ list_any (λ bits. not (bits == 0)) (take (length self.now.ids.now) lanes.now) }
-        ensures none { result ≡ false → (place : ℕ) → place < length self.now.ids.now
-            → (right : FsRight) → has (lane lanes.now place) right ≡ false }
+        ensures none { result ≡ false → (index : ℕ) → index < length self.now.ids.now
+            → (right : FsRight) → has (lane lanes.now index) right ≡ false }
     {
-        for place in 0..self.ids.len() {
-            if lanes[place] != 0 {
+        for index in 0..self.ids.len() {
+            if lanes[index] != 0 {
                 return true;
             }
         }
@@ -180,8 +180,8 @@ impl<'a> Stack<'a> {
         ensures few { result ≤ length self.now.ids.now }
     {
         let mut filled = 0;
-        for place in 0..self.ids.len() {
-            filled += u64::from(lanes[place] != 0);
+        for index in 0..self.ids.len() {
+            filled += u64::from(lanes[index] != 0);
         }
         filled
     }
@@ -190,10 +190,10 @@ impl<'a> Stack<'a> {
     /// of look-ups. A layer whose lane is empty isn't asked any more.
     pub(crate) fn climb(&self, node: NodeId, lanes: &mut [u32; MOST_LAYERS]) -> u64
         requires { IsNode self.now.tree.now node }
-        ensures left { (place : ℕ) (right : FsRight)
-            → has (lane lanes.new place) right
-            ≡ (has (lane lanes.old place) right
-            && not (granted (in_tree self.now.tree.now (stacked self.now place))
+        ensures left { (index : ℕ) (right : FsRight)
+            → has (lane lanes.new index) right
+            ≡ (has (lane lanes.old index) right
+            && not (granted (in_tree self.now.tree.now (stacked self.now index))
             (path_at self.now.tree.now node) right)) }
         ensures count { result ≤ length self.now.ids.now * (depth_at self.now.tree.now node + 1) }
         ensures little { result ≤ 2 ^ 40 }

@@ -28,9 +28,9 @@ pub(crate) struct Lacking {
 impl Lacking {
     /// The rights that a move asks on the two directories and that each layer denies.
     pub(crate) fn denied(&self, from: Asked, to: Asked) -> u32x16
-        ensures { (place : ℕ) (right : FsRight) → has (lane result place) right
-            ≡ ((has (lane self.now.source place) right && has from.rights right)
-            || (has (lane self.now.destination place) right && has to.rights right)) }
+        ensures { (index : ℕ) (right : FsRight) → has (lane result index) right
+            ≡ ((has (lane self.now.source index) right && has from.rights right)
+            || (has (lane self.now.destination index) right && has to.rights right)) }
     {
         let at_source = within(u32x16::from_array(self.source), from.rights);
         let at_destination = within(u32x16::from_array(self.destination), to.rights);
@@ -40,8 +40,8 @@ impl Lacking {
 
 /// The rights of some lanes that count for an object of a kind.
 fn counting_for(kind: Kind, lanes: u32x16) -> u32x16
-    ensures { (place : ℕ) (right : FsRight) → has (lane result place) right
-        ≡ (has (lane lanes place) right && (is_dir kind || is_file_right right)) }
+    ensures { (index : ℕ) (right : FsRight) → has (lane result index) right
+        ≡ (has (lane lanes index) right && (is_dir kind || is_file_right right)) }
 {
     if is_directory(kind) {
         lanes
@@ -97,10 +97,10 @@ impl<'a> Stack<'a> {
     /// itself if there is a right to gain.
     fn gained(&self, object: NodeId, here: u32x16, there: u32x16) -> (u32x16, u64)
         requires { IsNode self.now.tree.now object }
-        ensures gained { (place : ℕ) (right : FsRight) → has (lane result.0 place) right
-            ≡ (((has (lane here place) right && not (has (lane there place) right))
+        ensures gained { (index : ℕ) (right : FsRight) → has (lane result.0 index) right
+            ≡ (((has (lane here index) right && not (has (lane there index) right))
             && (is_dir (kind_at self.now.tree.now object) || is_file_right right))
-            && not (granted_on_node (stacked self.now place) object right)) }
+            && not (granted_on_node (stacked self.now index) object right)) }
         ensures count { result.1 ≤ length self.now.ids.now }
     {
         let granted_there = without(here, there);
@@ -132,9 +132,9 @@ impl<'a> CrossDirectoryMove<'a> {
     /// What the object that is there already gains in an exchange, under each layer; nothing in other moves. And how
     /// many look-ups it took to tell.
     fn other_gained(&self) -> (u32x16, u64)
-        ensures gained { (place : ℕ) → some_right (has (lane result.0 place))
+        ensures gained { (index : ℕ) → some_right (has (lane result.0 index))
             ≡ other_gains self.now.stack.tree.now self.now.attempt
-            (in_tree self.now.stack.tree.now (stacked self.now.stack place)) self.now.attempt.how
+            (in_tree self.now.stack.tree.now (stacked self.now.stack index)) self.now.attempt.how
             self.now.attempt.target }
         ensures count { result.1 ≤ length self.now.stack.ids.now }
     {

@@ -46,8 +46,8 @@ impl Filter {
         ensures kept { (other : ℕ) → is_marked self.old.words other ≡ true
             → is_marked self.new.words other ≡ true }
     {
-        let place = (number / 64 % 64) as usize;
-        self.words[place] |= 1 << (number % 64);
+        let index = (number / 64 % 64) as usize;
+        self.words[index] |= 1 << (number % 64);
     }
 }
 

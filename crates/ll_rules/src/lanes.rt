@@ -37,7 +37,7 @@ pub(crate) fn is_any_in(lane: u32) -> bool
 
 /// No right in any lane.
 pub(crate) fn no_rights() -> u32x16
-    ensures { (place : ℕ) (right : FsRight) → has (lane result place) right ≡ false }
+    ensures { (index : ℕ) (right : FsRight) → has (lane result index) right ≡ false }
 {
     u32x16::splat(0)
 }
@@ -45,8 +45,8 @@ pub(crate) fn no_rights() -> u32x16
 /// Each lane without what is granted in it.
 #[tactic(auto, using(crate::proofs::LaneSets::lanes_without))]
 pub(crate) fn without(lanes: u32x16, granted: u32x16) -> u32x16
-    ensures { (place : ℕ) (right : FsRight) → has (lane result place) right
-        ≡ (has (lane lanes place) right && not (has (lane granted place) right)) }
+    ensures { (index : ℕ) (right : FsRight) → has (lane result index) right
+        ≡ (has (lane lanes index) right && not (has (lane granted index) right)) }
 {
     lanes & !granted
 }
@@ -54,33 +54,33 @@ pub(crate) fn without(lanes: u32x16, granted: u32x16) -> u32x16
 /// The rights that are in either of two lanes.
 #[tactic(auto, using(crate::proofs::LaneSets::lanes_either))]
 pub(crate) fn either(first: u32x16, second: u32x16) -> u32x16
-    ensures { (place : ℕ) (right : FsRight) → has (lane result place) right
-        ≡ (has (lane first place) right || has (lane second place) right) }
+    ensures { (index : ℕ) (right : FsRight) → has (lane result index) right
+        ≡ (has (lane first index) right || has (lane second index) right) }
 {
     first | second
 }
 
 /// The rights of each lane that are in one set.
 pub(crate) fn within(lanes: u32x16, rights: Fs) -> u32x16
-    ensures { (place : ℕ) (right : FsRight)
-        → has (lane result place) right ≡ (has (lane lanes place) right && has rights right) }
+    ensures { (index : ℕ) (right : FsRight)
+        → has (lane result index) right ≡ (has (lane lanes index) right && has rights right) }
 {
     lanes & u32x16::splat(bits_of(rights))
 }
 
 /// The indices of the lanes that hold a right, as bits.
-fn places(lanes: u32x16) -> u16
-    ensures { (place : ℕ) → place < MOST_LAYERS
-        → (bit_at result place == 1) ≡ not (is_empty (lane lanes place)) }
+fn filled_mask(lanes: u32x16) -> u16
+    ensures { (index : ℕ) → index < MOST_LAYERS
+        → (bit_at result index == 1) ≡ not (is_empty (lane lanes index)) }
 {
     let named = lanes & u32x16::splat(named_bits());
     named.simd_ne(u32x16::splat(0)).to_bitmask() as u16
 }
 
 /// The layers whose lanes hold a right.
-#[tactic(auto, using(crate::proofs::LaneSets::filled_places))]
+#[tactic(auto, using(crate::proofs::LaneSets::filled_by_mask))]
 pub(crate) fn filled(lanes: u32x16) -> LayerSet
     ensures { result ≡ numbers_passing (is_filled lanes) }
 {
-    LayerSet::at_places(places(lanes))
+    LayerSet::of_mask(filled_mask(lanes))
 }

@@ -1,9 +1,9 @@
 //! Sets of the layers of a domain.
-#![tactic(auto, using(crate::proofs::LayerNumbers::places_kept))]
+#![tactic(auto, using(crate::proofs::LayerNumbers::mask_kept))]
 
 ghost use Rattle.std.specs.Prelude.{◌≡◌, ◌++◌, ◌∷◌, [], ◌≤◌, ◌<◌, ◌==◌, length, All, if◌then◌else◌};
 ghost use Rattle.ll_rules.specs.declared.domain.TheConstants.{MOST_LAYERS};
-ghost use Rattle.ll_rules.specs.LayerNumbers.{is_among, is_at_place, numbers_passing, united_numbers};
+ghost use Rattle.ll_rules.specs.LayerNumbers.{is_among, is_at_bit, numbers_passing, united_numbers};
 
 use crate::domain::MOST_LAYERS;
 use std::marker::Model;
@@ -11,7 +11,7 @@ use std::marker::Model;
 /// A set of layers of one domain, by their numbers from 1, the oldest, to 16.
 #[derive(Clone, Copy, Debug, PartialEq, Eq)]
 pub struct LayerSet {
-    places: u16,
+    mask: u16,
 }
 
 impl Model for LayerSet {
@@ -19,24 +19,24 @@ impl Model for LayerSet {
 
     ghost Value = { List ℕ };
 
-    ghost use Rattle.ll_rules.specs.LayerNumbers.{numbers_of, places_of, kept_again};
+    ghost use Rattle.ll_rules.specs.LayerNumbers.{numbers_of, mask_of, kept_again};
 
     ghost view = { numbers_of };
 
-    ghost invariant = { λ s. s.places < 2 ^ 16 };
+    ghost invariant = { λ s. s.mask < 2 ^ 16 };
 
-    ghost inverse = { λ numbers. record { places = places_of numbers } };
+    ghost inverse = { λ numbers. record { mask = mask_of numbers } };
 
     ghost inverse_ok = { kept_again };
 }
 
 impl LayerSet {
     /// No layer.
-    #[tactic(auto, unfolding(crate::specs::LayerNumbers::passing_upto, crate::specs::LayerNumbers::is_at_place))]
+    #[tactic(auto, unfolding(crate::specs::LayerNumbers::passing_upto, crate::specs::LayerNumbers::is_at_bit))]
     pub fn new() -> LayerSet
         ensures { result ≡ [] }
     {
-        LayerSet { places: 0 }
+        LayerSet { mask: 0 }
     }
 
     /// Whether there is no layer in the set.
@@ -46,18 +46,18 @@ impl LayerSet {
         // The list of its numbers is the rising one.
         ensures rising { numbers_passing (λ number. is_among number self) ≡ self }
     {
-        self.places == 0
+        self.mask == 0
     }
 
     /// Whether the layer of a number, from 1 to 16, is in the set.
     pub fn has(self, number: u32) -> bool
         ensures { result ≡ is_among number self }
     {
-        let places = self.places;
+        let mask = self.mask;
         if number == 0 || number > MOST_LAYERS as u32 {
             return false;
         }
-        places >> (number - 1) & 1 == 1
+        mask >> (number - 1) & 1 == 1
     }
 
     /// The layers that are in either set.
@@ -66,15 +66,15 @@ impl LayerSet {
         ensures { result ≡ united_numbers self other }
     {
         LayerSet {
-            places: self.places | other.places,
+            mask: self.mask | other.mask,
         }
     }
 
     /// The layers whose bits are ones: bit 0 stands for the oldest.
-    pub(crate) fn at_places(places: u16) -> LayerSet
-        ensures { result ≡ numbers_passing (is_at_place places) }
+    pub(crate) fn of_mask(mask: u16) -> LayerSet
+        ensures { result ≡ numbers_passing (is_at_bit mask) }
     {
-        LayerSet { places }
+        LayerSet { mask }
     }
 
     /// The set with the layer of a number above all others added, if that layer `refuses`.
@@ -89,7 +89,7 @@ impl LayerSet {
             return self;
         }
         LayerSet {
-            places: self.places | 1 << (number - 1),
+            mask: self.mask | 1 << (number - 1),
         }
     }
 }

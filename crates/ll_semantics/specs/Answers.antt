@@ -66,11 +66,11 @@ of_move tree domain (Some asked) = of_verdict (move_verdict tree domain asked)
 -- the ruleset that a number names, if the process holds one under it
 abbrev pub named : List Layer → Option ℕ → Option Layer
 named rulesets None = None
-named rulesets (Some place) = slice_get rulesets place
+named rulesets (Some index) = slice_get rulesets index
 
 unfoldable pub create_answer : Abi → Fs → Net → Option ℕ → Answer
 create_answer abi fs net None = unless (create_fault abi fs net)
-create_answer abi fs net (Some place) = Moot
+create_answer abi fs net (Some index) = Moot
 
 unfoldable pub add_path_answer : List Entry → List ℕ → Fs → Option Layer → Answer
 add_path_answer tree path fs None = fails BadFd

@@ -52,7 +52,7 @@ abbrev pub with_descriptor : State → ℕ → Option Descriptor → State
 with_descriptor s fd held = record s { descriptors = update nat_eq s.descriptors fd held }
 
 abbrev pub with_held : State → ℕ → Option ℕ → State
-with_held s rs place = record s { held = update nat_eq s.held rs place }
+with_held s rs index = record s { held = update nat_eq s.held rs index }
 
 -- one more layer: the ruleset as it is now
 abbrev pub with_layer : State → Option Layer → State
@@ -60,10 +60,10 @@ with_layer s rules = record s { domain = s.domain ++ option_to_list rules }
 
 -- ---- the rulesets, one list for all processes
 
--- what is at a place of the list becomes another
+-- what is at an index of the list becomes another
 abbrev pub changed_at : List Layer → Option ℕ → (Layer → Layer) → List Layer
 changed_at rulesets None f = rulesets
-changed_at rulesets (Some place) f = unwrap_or (option_map (λ old. slice_set rulesets place (f old)) (slice_get rulesets place)) rulesets
+changed_at rulesets (Some index) f = unwrap_or (option_map (λ old. slice_set rulesets index (f old)) (slice_get rulesets index)) rulesets
 
 -- ---- every call
 

@@ -99,7 +99,7 @@ Agrees-if_allowed ctx own (Refused error numbers) after before first second = se
 Agrees-with_held : (ctx : CallContext) (own : OwnState) (s : State) (rs : ℕ) (held : Option ℕ) → Agrees ctx.tree ctx.layers own s
     → Agrees ctx.tree ctx.layers own (with_held s rs held)
 Agrees-with_held ctx own s rs held agrees =
-    record { no_new_privs = agrees.no_new_privs; admin = agrees.admin; places = agrees.places; domain = agrees.domain; descriptors = agrees.descriptors }
+    record { no_new_privs = agrees.no_new_privs; admin = agrees.admin; indices = agrees.indices; domain = agrees.domain; descriptors = agrees.descriptors }
 
 Agrees-changed : (ctx : CallContext) (own : OwnState) (op : Op) → Agrees ctx.tree ctx.layers own ctx.state → is_on_rulesets op ≡ true
     → Agrees ctx.tree ctx.layers own (change ctx.tree ctx.rulesets op ctx.state)

@@ -155,7 +155,7 @@ Agrees-with_layer ctx own s id None domain agrees frozen more = absurd frozen
 Agrees-with_layer ctx own s id (Some rules) domain agrees frozen more = record {
   no_new_privs = agrees.no_new_privs;
   admin = agrees.admin;
-  places = rw more (All-push (λ (other : LayerId). other.0 < length ctx.layers) own.domain id agrees.places frozen.0);
+  indices = rw more (All-push (λ (other : LayerId). other.0 < length ctx.layers) own.domain id agrees.indices frozen.0);
   domain = rw (
     more,
     map-append (layer_at ctx.layers) own.domain (id ∷ []),

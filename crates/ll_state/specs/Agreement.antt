@@ -33,7 +33,7 @@ pub record IsMet (ctx : CallContext) (tree : List Entry) (layers : List (RulesOn
 pub record Agrees (tree : List Entry) (layers : List (RulesOn ℕ)) (own : OwnState) (state : State) : Type 0 where
   pub no_new_privs : own.no_new_privs ≡ state.no_new_privs
   pub admin : own.admin ≡ state.admin
-  pub places : IsDomainOf layers own.domain
+  pub indices : IsDomainOf layers own.domain
   pub domain : AllZip SameRules (all_in_tree tree (domain_of layers own.domain)) state.domain
   pub descriptors : (fd : ℕ) → get own.descriptors fd ≡ state.descriptors fd
 

@@ -26,5 +26,5 @@ pub(crate) struct Call<'a> {
 pub(crate) struct ConfinedCall<'a> {
     pub(crate) call: Call<'a>,
     pub(crate) domain: &'a Domain,
-    ghost places: { IsDomainOf call.layers.now domain.now } by { Prim.hlevel props },
+    ghost indices: { IsDomainOf call.layers.now domain.now } by { Prim.hlevel props },
 }

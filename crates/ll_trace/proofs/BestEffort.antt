@@ -216,12 +216,12 @@ module _ (abi : Abi) where
   named_before (calls.AddPort rs port net) names = refl
   named_before op names = names
 
-  rights-kept : (places : List ℕ) (records : List Record) → HaveRights places records → HaveRights places (records_at_best_effort abi records)
+  rights-kept : (indices : List ℕ) (records : List Record) → HaveRights indices records → HaveRights indices (records_at_best_effort abi records)
   unfolding kept_there HaveRights
-  rights-kept places records have = λ k after at. by k after (slice_get records k) refl (sym (there-kept records k) ∙ at)
+  rights-kept indices records have = λ k after at. by k after (slice_get records k) refl (sym (there-kept records k) ∙ at)
     where
       by : (k : ℕ) (after : Record) (one : Option Record) → slice_get records k ≡ one → kept_there one ≡ Some after → names_rights after.op ≡ true
-          → (j : ℕ) × (slice_get places j ≡ Some k)
+          → (j : ℕ) × (slice_get indices j ≡ Some k)
       by k after None is kept names = absurd (none-some after kept)
       by k after (Some r) is kept names =
           let same : record_at_best_effort abi r ≡ after = same_Some (record_at_best_effort abi r) after kept in
@@ -232,7 +232,7 @@ module _ (abi : Abi) where
   indexes-kept tables records indexes = record {
     by_process = indexes.by_process ∙ sym (parents-kept records);
     size = indexes.size ∙ sym (starting-kept records);
-    places = λ process. indexes.places process ∙ sym (own-kept process 0 records);
+    indices = λ process. indexes.indices process ∙ sym (own-kept process 0 records);
     by_start = record {
       one_each = indexes.by_start.one_each ∙ sym (starting-kept records);
       start =

@@ -50,33 +50,33 @@ op_stays abi op other = refl
 
 -- ---- call after call
 
--- of the calls that name rights, those are left that are at these places from one on
-pub record IsLeft (abi : Abi) (records now : List Record) (places : List ℕ) (from : ℕ) : Type 0 where
+-- of the calls that name rights, those are left that are at these indices from one on
+pub record IsLeft (abi : Abi) (records now : List Record) (indices : List ℕ) (from : ℕ) : Type 0 where
   pub same : records_at_best_effort abi now ≡ records_at_best_effort abi records
-  pub left : (k : ℕ) (r : Record) → slice_get now k ≡ Some r → ((j : ℕ) → from ≤ j → slice_get places j ≢ Some k) → record_at_best_effort abi r ≡ r
+  pub left : (k : ℕ) (r : Record) → slice_get now k ≡ Some r → ((j : ℕ) → from ≤ j → slice_get indices j ≢ Some k) → record_at_best_effort abi r ≡ r
 
-pub all_left : (abi : Abi) (records : List Record) (places : List ℕ) → HaveRights places records → IsLeft abi records records places 0
+pub all_left : (abi : Abi) (records : List Record) (indices : List ℕ) → HaveRights indices records → IsLeft abi records records indices 0
 unfolding HaveRights
-all_left abi records places have = record { same = refl; left = λ k r at none. stays r k (have k r at) none (names_rights r.op) refl }
+all_left abi records indices have = record { same = refl; left = λ k r at none. stays r k (have k r at) none (names_rights r.op) refl }
   where
-    stays : (r : Record) (k : ℕ) → (names_rights r.op ≡ true → (j : ℕ) × (slice_get places j ≡ Some k)) → ((j : ℕ) → 0 ≤ j → slice_get places j ≢ Some k)
+    stays : (r : Record) (k : ℕ) → (names_rights r.op ≡ true → (j : ℕ) × (slice_get indices j ≡ Some k)) → ((j : ℕ) → 0 ≤ j → slice_get indices j ≢ Some k)
         → (b : Bool) → names_rights r.op ≡ b → record_at_best_effort abi r ≡ r
     stays r k one none true is = let there = one is in absurd (none there.0 (omega arith) there.1)
     stays r k one none false is = ap (λ (op : Op). record r { op = op }) (op_stays abi r.op is)
 
-pub one_less : (abi : Abi) (records old new : List Record) (places : List ℕ) (i p : ℕ) → IsLeft abi records old places i → slice_get places i ≡ Some p
-    → MatchOption (slice_get old p) (new ≡ old) (λ r. new ≡ set old p (record_at_best_effort abi r)) → IsLeft abi records new places (i + 1)
-one_less abi records old new places i p before here changes = by (slice_get old p) refl changes
+pub one_less : (abi : Abi) (records old new : List Record) (indices : List ℕ) (i p : ℕ) → IsLeft abi records old indices i → slice_get indices i ≡ Some p
+    → MatchOption (slice_get old p) (new ≡ old) (λ r. new ≡ set old p (record_at_best_effort abi r)) → IsLeft abi records new indices (i + 1)
+one_less abi records old new indices i p before here changes = by (slice_get old p) refl changes
   where
-    -- a place from the next one on is no other than one from this on, or this
-    not_here : (k : ℕ) → k ≢ p → ((j : ℕ) → i + 1 ≤ j → slice_get places j ≢ Some k) → (j : ℕ) → i ≤ j → slice_get places j ≢ Some k
+    -- an index from the next one on is no other than one from this on, or this
+    not_here : (k : ℕ) → k ≢ p → ((j : ℕ) → i + 1 ≤ j → slice_get indices j ≢ Some k) → (j : ℕ) → i ≤ j → slice_get indices j ≢ Some k
     not_here k other none j le there = elim (cases_eq j i) [
-      | inl same ↦ other (sym (same_Some p k (sym here ∙ ap (slice_get places) (sym same) ∙ there)))
+      | inl same ↦ other (sym (same_Some p k (sym here ∙ ap (slice_get indices) (sym same) ∙ there)))
       | inr more ↦ none j (omega (arith, le, more)) there
     ]
 
     by : (one : Option Record) → slice_get old p ≡ one → MatchOption one (new ≡ old) (λ r. new ≡ set old p (record_at_best_effort abi r))
-        → IsLeft abi records new places (i + 1)
+        → IsLeft abi records new indices (i + 1)
     by None is stays = record {
       same = ap (records_at_best_effort abi) stays ∙ before.same;
       left = λ k r at none.
@@ -97,9 +97,9 @@ one_less abi records old new places i p before here changes = by (slice_get old 
           ];
     }
 
-pub none_left : (abi : Abi) (records now : List Record) (places : List ℕ) (from : ℕ) → IsLeft abi records now places from → length places ≤ from
+pub none_left : (abi : Abi) (records now : List Record) (indices : List ℕ) (from : ℕ) → IsLeft abi records now indices from → length indices ≤ from
     → now ≡ records_at_best_effort abi records
-none_left abi records now places from left all =
+none_left abi records now indices from left all =
     sym (map_fixed (record_at_best_effort abi) now
-    (λ k r at. left.left k r at (λ j le there. absurd (omega (arith, slice_get_within places j k there, le, all)))))
+    (λ k r at. left.left k r at (λ j le there. absurd (omega (arith, slice_get_within indices j k there, le, all)))))
     ∙ left.same

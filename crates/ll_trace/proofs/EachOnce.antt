@@ -42,7 +42,7 @@ times-each p parent f each [] = rw (times-nil p, times-nil parent) refl
 times-each p parent f each (q ∷ qs) =
     rw flat_map-cons (omega (arith, times-append p (f q) (flat_map f qs), each q, times-each p parent f each qs, times-cons parent q qs))
 
--- a list without the first place at which a process is
+-- a list without the first index at which a process is
 without : ℕ → List ℕ → List ℕ
 without p [] = []
 without p (x ∷ xs) = cond (eqb x p) xs (x ∷ without p xs)
@@ -71,7 +71,7 @@ equal_weights (x ∷ xs) ys same w =
     let rest : (p : ℕ) → times p xs ≡ times p (without x ys) = λ p. omega (arith, same p, times-cons p x xs, times-without p x ys some) in
     omega (arith, sum_by-cons w x xs, weighs-without w x ys some, equal_weights xs (without x ys) rest w)
 
--- ---- processes that records give, each record by its place
+-- ---- processes that records give, each record by its index
 
 among : (ℕ → Record → Option ℕ) → ℕ → List Record → List ℕ
 among gives b [] = []
@@ -108,7 +108,7 @@ module _ (gives : ℕ → Record → Option ℕ) (p : ℕ) where
     none_among (b + 1) rs (λ j x eq is. none (suc j) x eq (next b j x is)),
   )
 
-  -- where one place alone gives the process
+  -- where one index alone gives the process
   once_among : (b : ℕ) (rs : List Record) (k : ℕ) (r : Record) → slice_get rs k ≡ Some r
       → ((j : ℕ) (x : Record) → slice_get rs j ≡ Some x → gives (b + j) x ≡ Some p → j ≡ k)
       → times p (among gives b rs) ≡ given p (gives (b + k) r)

@@ -29,7 +29,7 @@ none_recent items at one blank there =
 
 -- ---- one pid more
 
--- what the table says of a pid at a place is in the map
+-- what the table says of a pid in a slot is in the map
 abbrev IsRight : FinMap nat_cmp Owner → ℕ → RecentPid → Type 0
 IsRight map at one = (one.pid % RECENT_PIDS ≡ at) × (get map one.pid ≡ Some one.owner)
 
@@ -41,7 +41,7 @@ module _ (before after : FinMap nat_cmp Owner) (now : RecentPid)
   another : (pid : ℕ) → pid ≢ now.pid → get after pid ≡ get before pid
   another pid other = grind (arith, each pid, other)
 
-  module _ (items : List (Option RecentPid)) (slot : ℕ) (fits : slot < length items) (place : slot ≡ now.pid % RECENT_PIDS)
+  module _ (items : List (Option RecentPid)) (slot : ℕ) (fits : slot < length items) (its_slot : slot ≡ now.pid % RECENT_PIDS)
       (right : (at : ℕ) (one : RecentPid) → slice_get items at ≡ Some (Some one) → IsRight before at one) where
     here : (one : RecentPid) → slice_get (slice_set items slot (Some now)) slot ≡ Some (Some one) → now ≡ one
     here one there =
@@ -64,8 +64,8 @@ module _ (before after : FinMap nat_cmp Owner) (now : RecentPid)
         cases : ((eqb at slot ≡ true) × (at ≡ slot)) ⊎ ((eqb at slot ≡ false) × (at ≢ slot)) → IsRight after at one
         cases (inl same) =
             let here_is : now ≡ one = here one (subst (λ (k : ℕ). slice_get (slice_set items slot (Some now)) k ≡ Some (Some one)) same.1 there) in
-            rw (← here_is) (sym place ∙ sym same.1, its_own)
+            rw (← here_is) (sym its_slot ∙ sym same.1, its_own)
         cases (inr other) =
             let is : IsRight before at one = right at one (elsewhere at one other.1 there) in
-            let apart : one.pid ≢ now.pid = λ e. other.1 (sym is.0 ∙ ap (λ (p : ℕ). p % RECENT_PIDS) e ∙ sym place) in
+            let apart : one.pid ≢ now.pid = λ e. other.1 (sym is.0 ∙ ap (λ (p : ℕ). p % RECENT_PIDS) e ∙ sym its_slot) in
             (is.0, another one.pid apart ∙ is.1)

@@ -22,7 +22,7 @@ use Rattle.std.specs.declared.alloc.Global.{Global}
 use Rattle.ll_trace.specs.declared.op.ProcessId.{ProcessId}
 use Rattle.ll_trace.specs.declared.tables.Tables.{Tables}
 
--- ---- the places of the records that start the processes, of one record more
+-- ---- the indices of the records that start the processes, of one record more
 
 still_started : (records : List Record) (it : Record) (k p : ℕ) → started_at records k ≡ Some p → started_at (records ++ it ∷ []) k ≡ Some p
 still_started records it k p is =
@@ -55,7 +55,7 @@ starts-push starts records it are = record {
         rw (get_or_at starts (length records) [] 0 p (omega (arith, are.one_each))) (last_starts records it kind ∙ ap (λ n. Some n) same)
     last false kind p past below = absurd (omega arith)
 
--- ---- the places of the calls that name rights, of one record more
+-- ---- the indices of the calls that name rights, of one record more
 
 at_left : {X : Type 0} (xs ys : List X) (k : ℕ) (x : X) → slice_get xs k ≡ Some x → slice_get (xs ++ ys) k ≡ Some x
 at_left [] ys k x at = absurd (none-some x at)
@@ -66,21 +66,21 @@ at_end : {X : Type 0} (xs : List X) (x : X) → slice_get (xs ++ x ∷ []) (leng
 at_end [] x = refl
 at_end (z ∷ xs) x = at_end xs x
 
-rights-push : (places : List ℕ) (records : List Record) (it : Record) → HaveRights places records
-    → HaveRights (places ++ cond (names_rights it.op) (length records ∷ []) []) (records ++ it ∷ [])
+rights-push : (indices : List ℕ) (records : List Record) (it : Record) → HaveRights indices records
+    → HaveRights (indices ++ cond (names_rights it.op) (length records ∷ []) []) (records ++ it ∷ [])
 unfolding HaveRights
-rights-push places records it have = λ k r at names. elim (cases_lt k (length records)) [
+rights-push indices records it have = λ k r at names. elim (cases_lt k (length records)) [
   | inl below ↦
       let one : slice_get records k ≡ Some (get_or records k r) = slice_get-get_or records k r below in
       let same : get_or records k r ≡ r = same_Some (get_or records k r) r (sym (at_left records (it ∷ []) k (get_or records k r) one) ∙ at) in
       let there = have k (get_or records k r) one (ap (λ (x : Record). names_rights x.op) same ∙ names) in
-      (there.0, at_left places (cond (names_rights it.op) (length records ∷ []) []) there.0 k there.1)
+      (there.0, at_left indices (cond (names_rights it.op) (length records ∷ []) []) there.0 k there.1)
   | inr past ↦
       let end : k ≡ length records = omega (arith, past, slice_get_within (records ++ it ∷ []) k r at, length-append records (it ∷ [])) in
       let same : it ≡ r = same_Some it r (sym (at_end records it) ∙ ap (slice_get (records ++ it ∷ [])) (sym end) ∙ at) in
       let noted : cond (names_rights it.op) (length records ∷ []) [] ≡ k ∷ [] =
       ap (λ b. cond b (length records ∷ []) []) (ap (λ (x : Record). names_rights x.op) same ∙ names) ∙ ap (λ n. n ∷ []) (sym end) in
-      (length places, ap (λ ns. slice_get (places ++ ns) (length places)) noted ∙ at_end places k)
+      (length indices, ap (λ ns. slice_get (indices ++ ns) (length indices)) noted ∙ at_end indices k)
 ]
 
 -- ---- which process a record starts
@@ -100,33 +100,33 @@ rising starts records are i j le lt =
       | inr more ↦ more
     ]
 
-pub start_found : (starts : List ℕ) (records : List Record) (place : ℕ) (found : Result ℕ ℕ) → AreStarts starts records
-    → IsBinarySearchResult (λ y. nat_cmp y place) starts found
-    → MatchResult found (λ p. (p < process_count records) × (started_at records place ≡ Some p)) (λ p. started_at records place ≡ None)
-start_found starts records place found are search_is = told found (searched starts place found search_is (rising starts records are))
+pub start_found : (starts : List ℕ) (records : List Record) (index : ℕ) (found : Result ℕ ℕ) → AreStarts starts records
+    → IsBinarySearchResult (λ y. nat_cmp y index) starts found
+    → MatchResult found (λ p. (p < process_count records) × (started_at records index ≡ Some p)) (λ p. started_at records index ≡ None)
+start_found starts records index found are search_is = told found (searched starts index found search_is (rising starts records are))
   where
-    other : (p : ℕ) → ((k : ℕ) → k < p → get_or starts k 0 < place) → ((k : ℕ) → p ≤ k → k < length starts → place < get_or starts k 0) → (started : Option ℕ)
-        → started_at records place ≡ started → started ≡ None
+    other : (p : ℕ) → ((k : ℕ) → k < p → get_or starts k 0 < index) → ((k : ℕ) → p ≤ k → k < length starts → index < get_or starts k 0) → (started : Option ℕ)
+        → started_at records index ≡ started → started ≡ None
     other p before behind None is = refl
     other p before behind (Some q) is =
-        let one : StartedAt records place q = started_at-is records place q is in
-        let below : q < process_count records = below_count records place q one in
+        let one : StartedAt records index q = started_at-is records index q is in
+        let below : q < process_count records = below_count records index q one in
         let two : StartedAt records (get_or starts q 0) q = started_at-is records (get_or starts q 0) q (are.start q below) in
-        let same : place ≡ get_or starts q 0 = started_once records place (get_or starts q 0) q one two in
+        let same : index ≡ get_or starts q 0 = started_once records index (get_or starts q 0) q one two in
         elim (cases_lt q p) [
           | inl less ↦ absurd (omega (arith, same, before q less))
           | inr more ↦ absurd (omega (arith, same, behind q more (omega (arith, below, are.one_each))))
         ]
 
-    told : (r : Result ℕ ℕ) → MatchResult r (λ p. (p < length starts) × (get_or starts p 0 ≡ place))
-        (λ p. (p ≤ length starts) × ((k : ℕ) → k < p → get_or starts k 0 < place) × ((k : ℕ) → p ≤ k → k < length starts → place < get_or starts k 0))
-        → MatchResult r (λ p. (p < process_count records) × (started_at records place ≡ Some p)) (λ p. started_at records place ≡ None)
+    told : (r : Result ℕ ℕ) → MatchResult r (λ p. (p < length starts) × (get_or starts p 0 ≡ index))
+        (λ p. (p ≤ length starts) × ((k : ℕ) → k < p → get_or starts k 0 < index) × ((k : ℕ) → p ≤ k → k < length starts → index < get_or starts k 0))
+        → MatchResult r (λ p. (p < process_count records) × (started_at records index ≡ Some p)) (λ p. started_at records index ≡ None)
     told (Ok p) eq = (omega (arith, eq.0, are.one_each), ap (started_at records) (sym eq.1) ∙ are.start p (omega (arith, eq.0, are.one_each)))
-    told (Err p) eq = other p eq.1 eq.2 (started_at records place) refl
+    told (Err p) eq = other p eq.1 eq.2 (started_at records index) refl
 
 -- ---- one record more in the tables
 
--- an empty list more is no place more
+-- an empty list more is no index more
 pub grown : (xs : List (List ℕ)) (b : Bool) (q : ℕ) → get_or (xs ++ cond b ([] ∷ []) []) q [] ≡ get_or xs q []
 grown [] true zero = refl
 grown [] true (suc q) = refl
@@ -141,14 +141,14 @@ pub length-lists : (vecs : List (Vec ℕ Global)) → length (lists vecs) ≡ le
 length-lists [] = refl
 length-lists (v ∷ vecs) = ap (λ n. suc n) (length-lists vecs)
 
-pub pushed : (vecs : List (Vec ℕ Global)) (p q place : ℕ) (old new : Vec ℕ Global) (same : Bool) → eqb p q ≡ same → p < length vecs → old ≡ get_or vecs p old
-    → new.items ≡ old.items ++ place ∷ []
-    → get_or (lists (set vecs p new)) q [] ≡ get_or (lists vecs) q [] ++ cond same (place ∷ []) []
-pushed vecs p q place old new true same lt is grows =
+pub pushed : (vecs : List (Vec ℕ Global)) (p q index : ℕ) (old new : Vec ℕ Global) (same : Bool) → eqb p q ≡ same → p < length vecs → old ≡ get_or vecs p old
+    → new.items ≡ old.items ++ index ∷ []
+    → get_or (lists (set vecs p new)) q [] ≡ get_or (lists vecs) q [] ++ cond same (index ∷ []) []
+pushed vecs p q index old new true same lt is grows =
     let here : p ≡ q = eqb-true p q same in
     let within : p < length (lists vecs) = omega (arith, length-lists vecs) in
-    rw (← here, map-set) (get_or-set_same (lists vecs) p new.items [] within ∙ (grows ∙ ap (λ ns. ns ++ place ∷ []) (sym (list_at vecs p old lt is))))
-pushed vecs p q place old new false same lt is grows =
+    rw (← here, map-set) (get_or-set_same (lists vecs) p new.items [] within ∙ (grows ∙ ap (λ ns. ns ++ index ∷ []) (sym (list_at vecs p old lt is))))
+pushed vecs p q index old new false same lt is grows =
     let there : q ≢ p = λ e. eqb-false p q same (sym e) in
     rw map-set (get_or-set_other (lists vecs) p q new.items [] there ∙ sym (append-nil (get_or (lists vecs) q [])))
 
@@ -172,10 +172,10 @@ indexes_next old new records it indexes adds_one =
       by_process = adds_one.by_process
           ∙ (ap (λ ps. ps ++ cond (is_starting it.op) (forked_by it.op it.process ∷ []) []) indexes.by_process ∙ sym (parents-push records it));
       size = omega (arith, adds_one.size, indexes.size, process_count-push records it);
-      places = λ q. adds_one.places q ∙ ap (λ ns. ns ++ cond (eqb it.process.0 q) (length records ∷ []) []) (indexes.places q)
+      indices = λ q. adds_one.indices q ∙ ap (λ ns. ns ++ cond (eqb it.process.0 q) (length records ∷ []) []) (indexes.indices q)
           ∙ sym (own_from-push q 0 records it ∙ ap (λ k. own_from q 0 records ++ cond (eqb it.process.0 q) (k ∷ []) []) here);
       by_start = rw adds_one.by_start (starts-push old.starts.items records it indexes.by_start);
-      rights = subst (λ places. HaveRights places (records ++ it ∷ [])) (sym adds_one.rights) (rights-push old.rights.items records it indexes.rights);
+      rights = subst (λ indices. HaveRights indices (records ++ it ∷ [])) (sym adds_one.rights) (rights-push old.rights.items records it indexes.rights);
     }
 
 -- ---- the tables of the first records, record after record
@@ -217,22 +217,22 @@ parent_read tables records process r numbered indexes lt is =
     let value : parent_of records process ≡ r = ap (λ ps. only (slice_get ps process)) (sym indexes.by_process) ∙ ap only got in
     (sym value, IfSome_by r (λ parent. parent.0 < process) (λ parent some. parent_below records process parent numbered lt (value ∙ some)))
 
-own_place : (b : Bool) (n m : ℕ) (places : List ℕ) → n < m → AllByRecursion (λ k. k < m) places → AllByRecursion (λ k. k < m) (cond b (n ∷ places) places)
-own_place true n m places lt all = (lt, all)
-own_place false n m places lt all = all
+own_index : (b : Bool) (n m : ℕ) (indices : List ℕ) → n < m → AllByRecursion (λ k. k < m) indices → AllByRecursion (λ k. k < m) (cond b (n ∷ indices) indices)
+own_index true n m indices lt all = (lt, all)
+own_index false n m indices lt all = all
 
 own_within : (q k : ℕ) (rs : List Record) (m : ℕ) → k + length rs ≤ m → AllByRecursion (λ n. n < m) (own_from q k rs)
 unfolding own_from
 own_within q k [] m le = tt
-own_within q k (r ∷ rs) m le = own_place (eqb r.process.0 q) k m (own_from q (k + 1) rs) (omega arith) (own_within q (k + 1) rs m (omega arith))
+own_within q k (r ∷ rs) m le = own_index (eqb r.process.0 q) k m (own_from q (k + 1) rs) (omega arith) (own_within q (k + 1) rs m (omega arith))
 
-pub places_read : (tables : Tables) (records : List Record) (process : ℕ) (own : Vec ℕ Global) (places : List ℕ) → Indexes tables records
+pub indices_read : (tables : Tables) (records : List Record) (process : ℕ) (own : Vec ℕ Global) (indices : List ℕ) → Indexes tables records
     → process < process_count records
-    → own ≡ get_or tables.own.items process own → places ≡ own.items → (places ≡ own_records records process) × All (λ k. k < length records) places
+    → own ≡ get_or tables.own.items process own → indices ≡ own.items → (indices ≡ own_records records process) × All (λ k. k < length records) indices
 unfolding own_records
-places_read tables records process own places indexes lt is read =
+indices_read tables records process own indices indexes lt is read =
     let within : process < length tables.own.items = omega (arith, indexes.size) in
-    let same : places ≡ own_from process 0 records = read ∙ (sym (list_at tables.own.items process own within is) ∙ indexes.places process) in
+    let same : indices ≡ own_from process 0 records = read ∙ (sym (list_at tables.own.items process own within is) ∙ indexes.indices process) in
     (same, rw same (All-from_recursion (λ k. k < length records) (own_from process 0 records) (own_within process 0 records (length records) (omega arith))))
 
 -- All that unfolds where there is no record yet.

@@ -10,32 +10,32 @@ use Rattle.ll_trace.specs.Processes.{is_starting, process_count, started_at, own
 abbrev pub lists : List (Vec ℕ Global) → List (List ℕ)
 lists vecs = map (λ v. v.items) vecs
 
--- the places that are noted for a process, and none for one without a list
-abbrev pub places_noted : Tables → ℕ → List ℕ
-places_noted tables process = slice_index_or (lists tables.own.items) process []
+-- the indices that are noted for a process, and none for one without a list
+abbrev pub indices_noted : Tables → ℕ → List ℕ
+indices_noted tables process = slice_index_or (lists tables.own.items) process []
 
--- The places of the records that start the processes, in the order of the processes' numbers.
+-- The indices of the records that start the processes, in the order of the processes' numbers.
 pub record AreStarts (starts : List ℕ) (records : List Record) : Type 0 where
   pub one_each : length starts ≡ process_count records
   pub start : (process : ℕ) → process < process_count records → started_at records (slice_index_or starts process 0) ≡ Some process
 
--- each call that names rights is at one of these places
+-- each call that names rights is at one of these indices
 unfoldable pub HaveRights : List ℕ → List Record → Type 0
-HaveRights places records =
-    (k : ℕ) (r : Record) → slice_get records k ≡ Some r → names_rights r.op ≡ true → (j : ℕ) × (slice_get places j ≡ Some k)
+HaveRights indices records =
+    (k : ℕ) (r : Record) → slice_get records k ≡ Some r → names_rights r.op ≡ true → (j : ℕ) × (slice_get indices j ≡ Some k)
 
 -- the tables of some records
 pub record Indexes (tables : Tables) (records : List Record) : Type 0 where
   pub by_process : tables.parents.items ≡ parents records
   pub size : length tables.own.items ≡ process_count records
-  pub places : (process : ℕ) → places_noted tables process ≡ own_records records process
+  pub indices : (process : ℕ) → indices_noted tables process ≡ own_records records process
   pub by_start : AreStarts tables.starts.items records
   pub rights : HaveRights tables.rights.items records
 
--- one record more, at a place
-pub record Adds (old new : Tables) (r : Record) (place : ℕ) : Type 0 where
+-- one record more, at an index
+pub record Adds (old new : Tables) (r : Record) (index : ℕ) : Type 0 where
   pub by_process : new.parents.items ≡ old.parents.items ++ (if is_starting r.op then forked_by r.op r.process ∷ [] else [])
   pub size : length new.own.items ≡ length old.own.items + (if is_starting r.op then 1 else 0)
-  pub places : (process : ℕ) → places_noted new process ≡ places_noted old process ++ (if r.process.0 == process then place ∷ [] else [])
-  pub by_start : new.starts.items ≡ old.starts.items ++ (if is_starting r.op then place ∷ [] else [])
-  pub rights : new.rights.items ≡ old.rights.items ++ (if names_rights r.op then place ∷ [] else [])
+  pub indices : (process : ℕ) → indices_noted new process ≡ indices_noted old process ++ (if r.process.0 == process then index ∷ [] else [])
+  pub by_start : new.starts.items ≡ old.starts.items ++ (if is_starting r.op then index ∷ [] else [])
+  pub rights : new.rights.items ≡ old.rights.items ++ (if names_rights r.op then index ∷ [] else [])

@@ -37,7 +37,7 @@ pub record IsNumbered (records : List Record) : Type 0 where
   pub begins : (k : ℕ) (r : Record) → slice_get records k ≡ Some r → is_start r.op ≡ true → r.process.0 ≡ process_count (take k records)
   pub goes_on : (k : ℕ) (r : Record) → slice_get records k ≡ Some r → is_start r.op ≡ false → r.process.0 < process_count (take k records)
 
--- the places of a process's own records, from a first place on
+-- the indices of a process's own records, from a first index on
 unfoldable pub own_from : ℕ → ℕ → List Record → List ℕ
 own_from process k [] = []
 own_from process k (r ∷ rs) = if r.process.0 == process then k ∷ own_from process (k + 1) rs else own_from process (k + 1) rs

@@ -38,12 +38,12 @@ pub fn processes_are_numbered()
     ensures numbered { (records : List Record) → ArePlaced [] (map entry_of records)
         → records ≡ records_after [] (map entry_of records) → IsNumbered records }
     ensures each { (records : List Record) (process : ℕ) → process < process_count records
-        → (place : ℕ) × (started_at records place ≡ Some process) }
-    ensures once { (records : List Record) (place other process : ℕ)
-        → started_at records place ≡ Some process
-        → started_at records other ≡ Some process → place ≡ other }
-    ensures forked { (records : List Record) (place process : ℕ) (r : Record)
-        → slice_get records place ≡ Some r → started_at records place ≡ Some process
+        → (index : ℕ) × (started_at records index ≡ Some process) }
+    ensures once { (records : List Record) (index other process : ℕ)
+        → started_at records index ≡ Some process
+        → started_at records other ≡ Some process → index ≡ other }
+    ensures forked { (records : List Record) (index process : ℕ) (r : Record)
+        → slice_get records index ≡ Some r → started_at records index ≡ Some process
         → parent_of records process ≡ forked_by r.op r.process }
     ensures parent { (records : List Record) (process : ℕ) (parent : ProcessId) → IsNumbered records
         → process < process_count records

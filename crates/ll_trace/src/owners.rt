@@ -58,7 +58,7 @@ impl Model for Owners {
         → (one.pid % RECENT_PIDS ≡ at) × (finite.get owners.map one.pid ≡ Some one.owner)) };
 }
 
-/// The place of a pid in the table.
+/// The slot of a pid in the table.
 fn slot_of(pid: u64) -> usize
     ensures at { result ≡ pid % RECENT_PIDS }
     ensures within { result < RECENT_PIDS }

@@ -6,10 +6,10 @@ ghost use Rattle.ll_trace.specs.{Traces.AreRecords, Indexed.Indexes};
 use crate::op::{ProcessId, Record};
 use std::alloc::{AllocError, Global};
 
-/// The parent of each process, the places of its records, and the place of the record that starts it,
-/// in the order of the processes' numbers. So the places in `starts` rise, and the process that a
-/// record starts is found by a binary search. `rights` has the places of the calls that name rights, and may
-/// have places of other calls.
+/// The parent of each process, the indices of its records, and the index of the record that starts it,
+/// in the order of the processes' numbers. So the indices in `starts` rise, and the process that a
+/// record starts is found by a binary search. `rights` has the indices of the calls that name rights, and may
+/// have indices of other calls.
 #[derive(Drop)]
 pub struct Tables {
     pub parents: Vec<Option<ProcessId>>,
@@ -21,7 +21,7 @@ pub struct Tables {
 impl Tables {
     ghost use Rattle.ll_trace.specs.Processes.{is_starting, forked_by};
     ghost use Rattle.ll_trace.specs.BestEffort.{names_rights};
-    ghost use Rattle.ll_trace.specs.Indexed.{Adds, Indexes, lists, places_noted};
+    ghost use Rattle.ll_trace.specs.Indexed.{Adds, Indexes, lists, indices_noted};
 
     #[tactic(auto, unfolding(crate::proofs::TableLemmas::without_records, crate::specs::Indexed::HaveRights))]
     fn new(alloc: Global) -> Tables
@@ -35,15 +35,15 @@ impl Tables {
         }
     }
 
-    /// Makes room for the process that the record at a place starts.
-    fn begin(&mut self, alloc: Global, added: &Record, place: u32) -> Result<(), AllocError>
+    /// Makes room for the process that the record at an index starts.
+    fn begin(&mut self, alloc: Global, added: &Record, index: u32) -> Result<(), AllocError>
         ensures parents { OnOk result (self.new.parents.items ≡ self.old.parents.items
             ++ (if is_starting added.now.op
             then forked_by added.now.op added.now.process ∷ [] else [])) }
         ensures own { OnOk result (lists self.new.own.items ≡ lists self.old.own.items
             ++ (if is_starting added.now.op then [] ∷ [] else [])) }
         ensures starts { OnOk result (self.new.starts.items ≡ self.old.starts.items
-            ++ (if is_starting added.now.op then place ∷ [] else [])) }
+            ++ (if is_starting added.now.op then index ∷ [] else [])) }
         ensures rights { OnOk result (self.new.rights ≡ self.old.rights) }
     {
         if !added.op.is_starting() {
@@ -51,33 +51,33 @@ impl Tables {
         }
         self.parents.push(added.op.forked_by(added.process))?;
         self.own.push(Vec::new(alloc))?;
-        self.starts.push(place)?;
+        self.starts.push(index)?;
         Ok(())
     }
 
-    /// Notes the place of a call if it names rights.
-    fn note_rights(&mut self, added: &Record, place: u32) -> Result<(), AllocError>
+    /// Notes the index of a call if it names rights.
+    fn note_rights(&mut self, added: &Record, index: u32) -> Result<(), AllocError>
         ensures rights { OnOk result (self.new.rights.items ≡ self.old.rights.items
-            ++ (if names_rights added.now.op then place ∷ [] else [])) }
+            ++ (if names_rights added.now.op then index ∷ [] else [])) }
         ensures parents { OnOk result (self.new.parents ≡ self.old.parents) }
         ensures own { OnOk result (self.new.own ≡ self.old.own) }
         ensures starts { OnOk result (self.new.starts ≡ self.old.starts) }
     {
         if added.op.names_rights() {
-            self.rights.push(place)?;
+            self.rights.push(index)?;
         }
         Ok(())
     }
 
-    /// Adds the record at a place.
-    fn add(&mut self, alloc: Global, added: &Record, place: u32) -> Result<(), AllocError>
+    /// Adds the record at an index.
+    fn add(&mut self, alloc: Global, added: &Record, index: u32) -> Result<(), AllocError>
         requires { added.now.process.0 < length self.old.own.items
             + (if is_starting added.now.op then 1 else 0) }
-        ensures { OnOk result (Adds self.old self.new added.now place) }
+        ensures { OnOk result (Adds self.old self.new added.now index) }
     {
-        self.begin(alloc, added, place)?;
-        self.note_rights(added, place)?;
-        self.own[added.process.0 as usize].push(place)?;
+        self.begin(alloc, added, index)?;
+        self.note_rights(added, index)?;
+        self.own[added.process.0 as usize].push(index)?;
         Ok(())
     }
 }
@@ -88,8 +88,8 @@ pub fn index(alloc: Global, records: &[Record]) -> Result<Tables, AllocError>
     ensures { IfOk result (λ tables. Indexes tables records.now) }
 {
     let mut tables = Tables::new(alloc);
-    for (place, added) in records.iter().enumerate() {
-        tables.add(alloc, added, place as u32)?;
+    for (index, added) in records.iter().enumerate() {
+        tables.add(alloc, added, index as u32)?;
     }
     Ok(tables)
 }

@@ -88,8 +88,8 @@ impl Trace {
         Trace::of(alloc, read_all_by(rt, alloc, bytes, workers)?)
     }
 
-    /// Reads a trace file in blocks as [`Trace::read_by`] does, and gives the memory of each block back once its lines are
-    /// read.
+    /// Reads a trace file in blocks as [`Trace::read_by`] does, and gives the memory of each block back once its lines
+    /// are read.
     #[tactic(auto, using(ll_lines::proofs::ReadingLemmas::good_from_reading, ll_lines::proofs::ReadingLemmas::bad_from_fault))]
     pub fn read_blocks_by<R: Threads + Sync>(
         rt: &R,
@@ -136,8 +136,8 @@ impl Trace {
             mut records,
             tables,
         } = self;
-        for place in &tables.rights {
-            drop_at(&mut records, *place as usize, abi);
+        for index in &tables.rights {
+            drop_at(&mut records, *index as usize, abi);
         }
         Trace { records, tables }
     }
@@ -153,7 +153,7 @@ impl Trace {
         records.as_slice()
     }
 
-    /// The places of the calls that name rights. There may be places of other calls among them.
+    /// The indices of the calls that name rights. There may be indices of other calls among them.
     pub fn rights(&self) -> &[u32]
         ensures { HaveRights result.now self.now }
     {
@@ -179,37 +179,37 @@ impl Trace {
         self.tables.parents[process.0 as usize]
     }
 
-    /// The places of a process's records among [`Trace::records`], in ascending order.
+    /// The indices of a process's records among [`Trace::records`], in ascending order.
     pub fn records_of(&self, process: ProcessId) -> &[u32]
         requires { process.0 < process_count self.now }
         ensures value { result.now ≡ own_records self.now process.0 }
-        ensures within { All (λ place. place < length self.now) result.now }
+        ensures within { All (λ index. index < length self.now) result.now }
     {
         let own = &self.tables.own[process.0 as usize];
         own.as_slice()
     }
 
-    /// The process that the `start` or `fork` record at a place starts. Other records start none,
-    /// and a place after the last record has none.
-    pub fn starts(&self, place: u32) -> Option<ProcessId>
-        ensures { option_map (λ process. process.0) result ≡ started_at self.now place }
+    /// The process that the `start` or `fork` record at an index starts. Other records start none,
+    /// and an index after the last record has none.
+    pub fn starts(&self, index: u32) -> Option<ProcessId>
+        ensures { option_map (λ process. process.0) result ≡ started_at self.now index }
     {
         let starts = &self.tables.starts;
-        match starts.binary_search(&place) {
+        match starts.binary_search(&index) {
             Ok(process) => Some(ProcessId(process as u32)),
             Err(_) => None,
         }
     }
 }
 
-/// Takes those rights that a version lacks out of the call of the record at a place, if there is one.
-fn drop_at(records: &mut Vec<Record>, place: usize, abi: Abi)
-    ensures { MatchOption (slice_get records.old.items place)
+/// Takes those rights that a version lacks out of the call of the record at an index, if there is one.
+fn drop_at(records: &mut Vec<Record>, index: usize, abi: Abi)
+    ensures { MatchOption (slice_get records.old.items index)
         (records.new.items ≡ records.old.items)
         (λ r. records.new.items
-        ≡ slice_set records.old.items place (record_at_best_effort abi r)) }
+        ≡ slice_set records.old.items index (record_at_best_effort abi r)) }
 {
-    if let Some(record) = records.get_mut(place) {
+    if let Some(record) = records.get_mut(index) {
         record.op.drop_unsupported(abi);
     }
 }

@@ -63,7 +63,7 @@ noted ctx op (Answered answer) fits = without_layer ctx (enforced ctx.rulesets o
 noted ctx op (Frozen id) fits = fits
 noted ctx op ByState fits = without_layer ctx (enforced ctx.rulesets op ctx.state) fits.1
 
--- the outcome at a place names the layer that the record there enforces
+-- the outcome at an index names the layer that the record there enforces
 pub noted_at : (cv : CaseValue) (k process : ℕ) (outcome : RulesetOutcome) → IsCase cv → k < length cv.records → slice_get cv.outcomes k ≡ Some outcome
     → IsFrozen (met_by cv.tree cv.abi cv.layers (world_at cv.tree cv.abi cv.records k) process) (layer_in outcome) (enforced_at cv.tree cv.abi cv.records k)
 unfolding enforced_at enforced_by
@@ -88,73 +88,75 @@ none_past cv k process past =
 -- ---- the layers of some records, in order
 
 module _ (cv : CaseValue) where
-  -- one by one the same as the rulesets that the records at some places enforce
-  pub record AreOf (places : List ℕ) (ids : List LayerId) : Type 0 where
+  -- one by one the same as the rulesets that the records at some indices enforce
+  pub record AreOf (indices : List ℕ) (ids : List LayerId) : Type 0 where
     pub inside : IsDomainOf cv.layers ids
-    pub same : AllZip SameRules (all_in_tree cv.tree (domain_of cv.layers ids)) (filter_map (enforced_at cv.tree cv.abi cv.records) places)
+    pub same : AllZip SameRules (all_in_tree cv.tree (domain_of cv.layers ids)) (filter_map (enforced_at cv.tree cv.abi cv.records) indices)
 
   -- one record more, which enforces nothing
-  made_none : (places : List ℕ) (k : ℕ) → enforced_at cv.tree cv.abi cv.records k ≡ None
-      → filter_map (enforced_at cv.tree cv.abi cv.records) (places ++ k ∷ []) ≡ filter_map (enforced_at cv.tree cv.abi cv.records) places
-  made_none places k makes =
+  made_none : (indices : List ℕ) (k : ℕ) → enforced_at cv.tree cv.abi cv.records k ≡ None
+      → filter_map (enforced_at cv.tree cv.abi cv.records) (indices ++ k ∷ []) ≡ filter_map (enforced_at cv.tree cv.abi cv.records) indices
+  made_none indices k makes =
       let made : ℕ → Option Layer = enforced_at cv.tree cv.abi cv.records in
-      filter_map-append made places (k ∷ []) ∙ ap (λ (x : Option Layer). filter_map made places ++ cons_option x []) makes ∙ append-nil (filter_map made places)
+      filter_map-append made indices (k ∷ []) ∙ ap (λ (x : Option Layer). filter_map made indices ++ cons_option x []) makes
+      ∙ append-nil (filter_map made indices)
 
   -- one record more, which enforces a ruleset
-  made_some : (places : List ℕ) (k : ℕ) (rules : Layer) → enforced_at cv.tree cv.abi cv.records k ≡ Some rules
-      → filter_map (enforced_at cv.tree cv.abi cv.records) (places ++ k ∷ []) ≡ filter_map (enforced_at cv.tree cv.abi cv.records) places ++ rules ∷ []
-  made_some places k rules makes =
+  made_some : (indices : List ℕ) (k : ℕ) (rules : Layer) → enforced_at cv.tree cv.abi cv.records k ≡ Some rules
+      → filter_map (enforced_at cv.tree cv.abi cv.records) (indices ++ k ∷ []) ≡ filter_map (enforced_at cv.tree cv.abi cv.records) indices ++ rules ∷ []
+  made_some indices k rules makes =
       let made : ℕ → Option Layer = enforced_at cv.tree cv.abi cv.records in
-      filter_map-append made places (k ∷ []) ∙ ap (λ (x : Option Layer). filter_map made places ++ cons_option x []) makes
+      filter_map-append made indices (k ∷ []) ∙ ap (λ (x : Option Layer). filter_map made indices ++ cons_option x []) makes
 
-  kept_of : (ctx : CallContext) (places : List ℕ) (k : ℕ) (ids : List LayerId) (rules : Option Layer) → enforced_at cv.tree cv.abi cv.records k ≡ rules
-      → IsFrozen ctx None rules → AreOf places ids → AreOf (places ++ k ∷ []) ids
+  kept_of : (ctx : CallContext) (indices : List ℕ) (k : ℕ) (ids : List LayerId) (rules : Option Layer) → enforced_at cv.tree cv.abi cv.records k ≡ rules
+      → IsFrozen ctx None rules → AreOf indices ids → AreOf (indices ++ k ∷ []) ids
   unfolding IsFrozen
-  kept_of ctx places k ids None makes frozen are = record { inside = are.inside; same = rw (made_none places k makes) (are.same) }
-  kept_of ctx places k ids (Some rules) makes frozen are = absurd frozen
+  kept_of ctx indices k ids None makes frozen are = record { inside = are.inside; same = rw (made_none indices k makes) (are.same) }
+  kept_of ctx indices k ids (Some rules) makes frozen are = absurd frozen
 
-  more_of : (ctx : CallContext) (places : List ℕ) (k : ℕ) (ids : List LayerId) (id : LayerId) (rules : Option Layer) → ctx.tree ≡ cv.tree
+  more_of : (ctx : CallContext) (indices : List ℕ) (k : ℕ) (ids : List LayerId) (id : LayerId) (rules : Option Layer) → ctx.tree ≡ cv.tree
       → ctx.layers ≡ cv.layers → enforced_at cv.tree cv.abi cv.records k ≡ rules
-      → IsFrozen ctx (Some id) rules → AreOf places ids → AreOf (places ++ k ∷ []) (ids ++ id ∷ [])
+      → IsFrozen ctx (Some id) rules → AreOf indices ids → AreOf (indices ++ k ∷ []) (ids ++ id ∷ [])
   unfolding IsFrozen
-  more_of ctx places k ids id None tree layers makes frozen are = absurd frozen
-  more_of ctx places k ids id (Some rules) tree layers makes frozen are =
+  more_of ctx indices k ids id None tree layers makes frozen are = absurd frozen
+  more_of ctx indices k ids id (Some rules) tree layers makes frozen are =
       let in_order = map-append (in_tree cv.tree) (domain_of cv.layers ids) (layer_at cv.layers id ∷ []) in
       let made : ℕ → Option Layer = enforced_at cv.tree cv.abi cv.records in
       record {
         inside = All-push (λ (other : LayerId). other.0 < length cv.layers) ids id are.inside (rw (← layers) (frozen.0));
-        same = rw (made_some places k rules makes, map-append (layer_at cv.layers) ids (id ∷ []), in_order)
-            (AllZip-push SameRules (all_in_tree cv.tree (domain_of cv.layers ids)) (filter_map made places)
+        same = rw (made_some indices k rules makes, map-append (layer_at cv.layers) ids (id ∷ []), in_order)
+            (AllZip-push SameRules (all_in_tree cv.tree (domain_of cv.layers ids)) (filter_map made indices)
             (in_tree cv.tree (layer_at cv.layers id)) rules are.same (rw (← layers, ← tree) (frozen.1)));
       }
 
-  one_more : (ctx : CallContext) (places : List ℕ) (k : ℕ) (ids : List LayerId) (found : Option LayerId) → ctx.tree ≡ cv.tree → ctx.layers ≡ cv.layers
-      → IsFrozen ctx found (enforced_at cv.tree cv.abi cv.records k) → AreOf places ids → AreOf (places ++ k ∷ []) (ids ++ option_to_list found)
-  one_more ctx places k ids None tree layers frozen are =
-      rw (append-nil ids) (kept_of ctx places k ids (enforced_at cv.tree cv.abi cv.records k) refl frozen are)
-  one_more ctx places k ids (Some id) tree layers frozen are = more_of ctx places k ids id (enforced_at cv.tree cv.abi cv.records k) tree layers refl frozen are
+  one_more : (ctx : CallContext) (indices : List ℕ) (k : ℕ) (ids : List LayerId) (found : Option LayerId) → ctx.tree ≡ cv.tree → ctx.layers ≡ cv.layers
+      → IsFrozen ctx found (enforced_at cv.tree cv.abi cv.records k) → AreOf indices ids → AreOf (indices ++ k ∷ []) (ids ++ option_to_list found)
+  one_more ctx indices k ids None tree layers frozen are =
+      rw (append-nil ids) (kept_of ctx indices k ids (enforced_at cv.tree cv.abi cv.records k) refl frozen are)
+  one_more ctx indices k ids (Some id) tree layers frozen are =
+      more_of ctx indices k ids id (enforced_at cv.tree cv.abi cv.records k) tree layers refl frozen are
 
-  -- the next of some places that are read
-  pub next_of : (places read : List ℕ) (n : ℕ) (ids next : List LayerId) (found : Option LayerId) → read ≡ places → n < length read
+  -- the next of some indices that are read
+  pub next_of : (indices read : List ℕ) (n : ℕ) (ids next : List LayerId) (found : Option LayerId) → read ≡ indices → n < length read
       → ((process : ℕ) → IsFrozen (met_by cv.tree cv.abi cv.layers (world_at cv.tree cv.abi cv.records (get_or read n 0)) process) found
       (enforced_at cv.tree cv.abi cv.records (get_or read n 0)))
-      → next ≡ ids ++ option_to_list found → AreOf (take n places) ids → AreOf (take (n + 1) places) next
-  next_of places read n ids next found same within frozen is are =
+      → next ≡ ids ++ option_to_list found → AreOf (take n indices) ids → AreOf (take (n + 1) indices) next
+  next_of indices read n ids next found same within frozen is are =
       let k : ℕ = get_or read n 0 in
       let taken : take (n + 1) read ≡ take n read ++ k ∷ [] = rw add-one (take-suc read n 0 within) in
       rw (is, ← same, taken)
       (one_more (met_by cv.tree cv.abi cv.layers (world_at cv.tree cv.abi cv.records k) 0) (take n read) k ids found refl refl (frozen 0) (rw same are))
 
   -- all of them
-  pub all_of : (places read : List ℕ) (n : ℕ) (ids : List LayerId) → read ≡ places → length read ≤ n → AreOf (take n places) ids → AreOf places ids
-  all_of places read n ids same within are =
-      let taken : take n places ≡ places = take_all n places (omega (arith, within, ap (λ (xs : List ℕ). length xs) same)) in
+  pub all_of : (indices read : List ℕ) (n : ℕ) (ids : List LayerId) → read ≡ indices → length read ≤ n → AreOf (take n indices) ids → AreOf indices ids
+  all_of indices read n ids same within are =
+      let taken : take n indices ≡ indices = take_all n indices (omega (arith, within, ap (λ (xs : List ℕ). length xs) same)) in
       subst (λ (xs : List ℕ). AreOf xs ids) taken are
 
   -- the layers of the records that a process's origins name are those of the process
-  pub domain_is : (trail : ProcessOrigins) (ids : List LayerId) (place process : ℕ) → AreOf trail.layers.items ids
-      → Follows trail (origins_at cv.tree cv.abi cv.records place process) → IsDomainAt cv place process ids
-  domain_is trail ids place process are follows = record {
-    places = are.inside;
-    same = rw (layers_made cv.tree cv.abi cv.records place process, ← follows.layers) (are.same);
+  pub domain_is : (trail : ProcessOrigins) (ids : List LayerId) (index process : ℕ) → AreOf trail.layers.items ids
+      → Follows trail (origins_at cv.tree cv.abi cv.records index process) → IsDomainAt cv index process ids
+  domain_is trail ids index process are follows = record {
+    indices = are.inside;
+    same = rw (layers_made cv.tree cv.abi cv.records index process, ← follows.layers) (are.same);
   }

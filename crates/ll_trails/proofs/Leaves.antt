@@ -1,4 +1,4 @@
--- Leaves and what is at their places.
+-- Leaves and what is in them.
 use Rattle.std.proofs.Common.{◌≡◌, ◌<◌, ◌==◌, ◌+◌, ◌*◌, ◌/◌, ◌%◌, ℕ, zero, suc, List, [], ◌∷◌, Bool, true, false, Option, Some, None, inl, inr}
 use Rattle.std.proofs.Common.{length, get_or, slice_get, slice_set, option_map, if◌then◌else◌, refl, ap, sym, ◌∙◌, arith}
 use Rattle.std.specs.Prelude.{ltb}
@@ -21,12 +21,12 @@ open_nowhere openings fd false low high = rw high (get-empty nat_cmp fd)
 pub nothing_open : (openings : Openings) (fd : ℕ) → openings.low.items ≡ [] → openings.high ≡ empty → opened openings fd ≡ None
 nothing_open openings fd = open_nowhere openings fd (ltb fd 512)
 
--- a leaf in the place of another
-pub leaf_set : {X : Type 0} (of : X → Leaf) (xs : List X) (x : X) (index place : ℕ) → index < length xs
-    → in_leaf (option_map of (slice_get (slice_set xs index x) index)) place ≡ get_or (of x).openings place None
-leaf_set of [] x index place within = absurd (omega (arith, within))
-leaf_set of (first ∷ xs) x zero place within = refl
-leaf_set of (first ∷ xs) x (suc index) place within = leaf_set of xs x index place (omega (arith, within))
+-- a leaf in place of another
+pub leaf_set : {X : Type 0} (of : X → Leaf) (xs : List X) (x : X) (index slot : ℕ) → index < length xs
+    → in_leaf (option_map of (slice_get (slice_set xs index x) index)) slot ≡ get_or (of x).openings slot None
+leaf_set of [] x index slot within = absurd (omega (arith, within))
+leaf_set of (first ∷ xs) x zero slot within = refl
+leaf_set of (first ∷ xs) x (suc index) slot within = leaf_set of xs x index slot (omega (arith, within))
 
 -- the other leaves stay
 pub leaf_kept : {X : Type 0} (xs : List X) (x : X) (index other : ℕ) → (other ≡ index → ⊥) → slice_get (slice_set xs index x) other ≡ slice_get xs other
@@ -37,9 +37,9 @@ leaf_kept (first ∷ xs) x (suc index) zero ne = refl
 leaf_kept (first ∷ xs) x (suc index) (suc other) ne = leaf_kept xs x index other (λ same. ne (ap suc same))
 
 -- a leaf that is there
-pub leaf_there : {X : Type 0} (of : X → Leaf) (xs : List X) (old : X) (index place : ℕ) → slice_get xs index ≡ Some old
-    → in_leaf (option_map of (slice_get xs index)) place ≡ get_or (of old).openings place None
-leaf_there of xs old index place is = rw is refl
+pub leaf_there : {X : Type 0} (of : X → Leaf) (xs : List X) (old : X) (index slot : ℕ) → slice_get xs index ≡ Some old
+    → in_leaf (option_map of (slice_get xs index)) slot ≡ get_or (of old).openings slot None
+leaf_there of xs old index slot is = rw is refl
 
 -- two numbers with one quotient and one remainder by sixteen are one
 pub one_number : (m n : ℕ) → m / 16 ≡ n / 16 → m % 16 ≡ n % 16 → m ≡ n

@@ -1,6 +1,6 @@
 pub mod Leaves
 pub mod Trailing
-pub mod AtPlaces
+pub mod AtIndices
 pub mod Frozen
 pub mod SameObjections
 pub mod Crossing

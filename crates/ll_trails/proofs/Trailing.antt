@@ -33,7 +33,7 @@ trails_changed trails process trail sources o there are follows = record {
   ];
 }
 
--- each of some trails follows what the one at its place among others does
+-- each of some trails follows what the one at its index among others does
 pub record FollowAlike (trails others : List ProcessOrigins) (count : ℕ) : Type 0 where
   pub as_many : length others ≡ count
   pub each : (process : ℕ) (other : ProcessOrigins) → slice_get others process ≡ Some other → (trail : ProcessOrigins)
@@ -66,11 +66,11 @@ all_alike trails others sources alike are = record {
 }
 
 -- a call that starts no process
-pub sources_by_other : (place : ℕ) (op : Op) (process : ℕ) (answer : Answer) (sources : Sources) →
+pub sources_by_other : (index : ℕ) (op : Op) (process : ℕ) (answer : Answer) (sources : Sources) →
     ((x x' : Bool) → op ≡ calls.Start x x' → ⊥) → ((x : ℕ) → op ≡ calls.Fork x → ⊥) →
-    sources_by place op process answer sources
-    ≡ if_allowed answer (record sources { processes = with_origins sources.processes process (traced place op (sources.processes process)) }) sources
+    sources_by index op process answer sources
+    ≡ if_allowed answer (record sources { processes = with_origins sources.processes process (traced index op (sources.processes process)) }) sources
 unfolding sources_by
-sources_by_other place (calls.Start nnp admin) process answer sources not_start not_fork = absurd (not_start nnp admin refl)
-sources_by_other place (calls.Fork child) process answer sources not_start not_fork = absurd (not_fork child refl)
-sources_by_other place op process answer sources not_start not_fork = refl
+sources_by_other index (calls.Start nnp admin) process answer sources not_start not_fork = absurd (not_start nnp admin refl)
+sources_by_other index (calls.Fork child) process answer sources not_start not_fork = absurd (not_fork child refl)
+sources_by_other index op process answer sources not_start not_fork = refl

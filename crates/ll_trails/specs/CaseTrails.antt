@@ -23,30 +23,30 @@ use Rattle.ll_trails.specs.declared.trail.ProcessOrigins.{ProcessOrigins}
 use Rattle.ll_trails.specs.declared.trail.TraceOrigins.{TraceOrigins}
 use Rattle.ll_trails.specs.TraceOrigins.{Follows, AreTrails}
 
--- what is kept says where all that the processes of a case have before the record at a place comes from
+-- what is kept says where all that the processes of a case have before the record at an index comes from
 abbrev pub AreTrailsAt : CaseValue → ℕ → TraceOrigins → Type 0
-AreTrailsAt case place trails = AreTrails trails.trails.items (sources_at case.tree case.abi case.records place)
+AreTrailsAt case index trails = AreTrails trails.trails.items (sources_at case.tree case.abi case.records index)
 
 -- what is kept of no process is what is kept before the first record, whichever the case
 abbrev pub TrailsBegin : Type 0
 TrailsBegin = (case : CaseValue) (trails : TraceOrigins) → AreTrails trails.trails.items no_sources → AreTrailsAt case 0 trails
 
--- an answer is that to the record at a place
+-- an answer is that to the record at an index
 abbrev pub IsAnswerAt : CaseValue → ℕ → Answer → Type 0
-IsAnswerAt case place answer = slice_get (judged case.tree case.abi case.records) place ≡ Some answer
+IsAnswerAt case index answer = slice_get (judged case.tree case.abi case.records) index ≡ Some answer
 
--- layers of a case that are one by one the same as those of a process before the record at a place
-pub record IsDomainAt (case : CaseValue) (place process : ℕ) (ids : List LayerId) : Type 0 where
-  pub places : IsDomainOf case.layers ids
-  pub same : AllZip SameRules (all_in_tree case.tree (domain_of case.layers ids)) (domain_at case.tree case.abi case.records place process)
+-- layers of a case that are one by one the same as those of a process before the record at an index
+pub record IsDomainAt (case : CaseValue) (index process : ℕ) (ids : List LayerId) : Type 0 where
+  pub indices : IsDomainOf case.layers ids
+  pub same : AllZip SameRules (all_in_tree case.tree (domain_of case.layers ids)) (domain_at case.tree case.abi case.records index process)
 
--- the layer of a case by which the record at a place restricts its process, whichever process meets it; none if it restricts none
+-- the layer of a case by which the record at an index restricts its process, whichever process meets it; none if it restricts none
 abbrev pub IsLayerBy : CaseValue → ℕ → Option LayerId → Type 0
-IsLayerBy case place id = (process : ℕ) → IsFrozen (met_by case.tree case.abi case.layers (world_at case.tree case.abi case.records place) process) id (enforced_at case.tree case.abi case.records place)
+IsLayerBy case index id = (process : ℕ) → IsFrozen (met_by case.tree case.abi case.layers (world_at case.tree case.abi case.records index) process) id (enforced_at case.tree case.abi case.records index)
 
 -- layers of a case that are those of each process which a trail follows
 abbrev pub AreLayersBy : CaseValue → ProcessOrigins → List LayerId → Type 0
-AreLayersBy case trail ids = (place process : ℕ) → Follows trail (origins_at case.tree case.abi case.records place process) → IsDomainAt case place process ids
+AreLayersBy case trail ids = (index process : ℕ) → Follows trail (origins_at case.tree case.abi case.records index process) → IsDomainAt case index process ids
 
 -- two domains whose layers are one by one the same object to the same in each call
 abbrev pub ObjectToTheSame : Type 0

@@ -9,15 +9,15 @@ use ll_rules::LayerId;
 use ll_semantics::RulesetOutcome;
 use std::alloc::{AllocError, Global};
 
-/// The layer of a case that the record at a place restricts its process by, if it does.
-fn layer_by(case: &CaseView<'_>, place: u32) -> Option<LayerId>
-    ensures { IsLayerBy case.now place result }
+/// The layer of a case that the record at an index restricts its process by, if it does.
+fn layer_by(case: &CaseView<'_>, index: u32) -> Option<LayerId>
+    ensures { IsLayerBy case.now index result }
 {
-    let place = place as usize;
-    if place >= case.count() {
+    let index = index as usize;
+    if index >= case.count() {
         return None;
     }
-    match case.outcome(place) {
+    match case.outcome(index) {
         RulesetOutcome::Frozen(id) => Some(*id),
         RulesetOutcome::Answered(_) => None,
         RulesetOutcome::ByState => None,
@@ -34,8 +34,8 @@ pub fn domain_of(
     ensures { IfOk result (λ ids. AreLayersBy case.now trail.now ids.items) }
 {
     let mut ids = Vec::new(alloc);
-    for place in &trail.layers {
-        if let Some(id) = layer_by(case, *place) {
+    for index in &trail.layers {
+        if let Some(id) = layer_by(case, *index) {
             ids.push(id)?;
         }
     }

@@ -11,7 +11,7 @@ use std::sync::Arc;
 /// How many of the lowest descriptors are in leaves.
 const LOW: u64 = 512;
 
-/// By which record each open descriptor of a process was opened, by its place in the trace. The lowest descriptors are
+/// By which record each open descriptor of a process was opened, by its index in the trace. The lowest descriptors are
 /// in leaves, since a kernel gives the lowest that are free; the others are in a map. Processes share the leaves and
 /// the parts of the map that none of them has changed.
 #[derive(Drop)]
@@ -99,7 +99,7 @@ impl Openings {
             → opened self.new q ≡ (if fd == q then opening else opened self.old q)) }
     {
         match opening {
-            Some(place) => self.high.insert(fd, place)?,
+            Some(index) => self.high.insert(fd, index)?,
             None => self.high.remove(fd)?,
         };
         Ok(())

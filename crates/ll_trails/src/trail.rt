@@ -15,7 +15,7 @@ use ll_trace::{Op, ProcessId, changes_nothing};
 use std::alloc::{AllocError, Global};
 
 /// Where the layers, open descriptors and rulesets of one process come from: the records that made them, by their
-/// places in the trace. A child shares with its parent what neither of them changes.
+/// indices in the trace. A child shares with its parent what neither of them changes.
 #[derive(Drop)]
 pub struct ProcessOrigins {
     pub layers: Vec<u32>,
@@ -47,32 +47,32 @@ impl ProcessOrigins {
         })
     }
 
-    /// One layer more, which the record at a place makes.
-    fn restrict(&mut self, place: u32) -> Result<(), AllocError>
-        ensures layers { OnOk result (self.new.layers.items ≡ self.old.layers.items ++ place ∷ []) }
+    /// One layer more, which the record at an index makes.
+    fn restrict(&mut self, index: u32) -> Result<(), AllocError>
+        ensures layers { OnOk result (self.new.layers.items ≡ self.old.layers.items ++ index ∷ []) }
         ensures openings { OnOk result (self.new.openings ≡ self.old.openings) }
         ensures rulesets { OnOk result (self.new.rulesets ≡ self.old.rulesets) }
     {
-        self.layers.push(place)?;
+        self.layers.push(index)?;
         Ok(())
     }
 
-    /// Follows an allowed call, the record at a place of the trace.
+    /// Follows an allowed call, the record at an index of the trace.
     #[tactic(auto, unfolding(ll_reasons::specs::Origins::traced))]
-    fn follow(&mut self, place: u32, op: &Op) -> Result<(), NoMemory>
+    fn follow(&mut self, index: u32, op: &Op) -> Result<(), NoMemory>
         ensures { OnOk result ((o : Origins) → Follows self.old o
-            → Follows self.new (traced place op.now o)) }
+            → Follows self.new (traced index op.now o)) }
     {
         match op {
             Op::Create { rs, .. } | Op::CreateEmpty { rs } => {
-                self.rulesets.insert(*rs, place)?;
+                self.rulesets.insert(*rs, index)?;
             }
             Op::CloseRs { rs } => {
                 self.rulesets.remove(*rs)?;
             }
-            Op::Restrict { .. } => self.restrict(place)?,
+            Op::Restrict { .. } => self.restrict(index)?,
             Op::OpenFile { fd, .. } | Op::Adopt { fd, .. } => {
-                self.openings.put(*fd, Some(place))?;
+                self.openings.put(*fd, Some(index))?;
             }
             Op::Dup { fd, to } => {
                 let opening = self.openings.get(*fd);
@@ -136,30 +136,30 @@ impl TraceOrigins {
         &self.trails[process.0 as usize]
     }
 
-    /// Follows the record at a place of a case and its answer. Where memory runs out, what is kept is of no use.
+    /// Follows the record at an index of a case and its answer. Where memory runs out, what is kept is of no use.
     pub fn follow(
         &mut self,
         alloc: Global,
         case: &CaseView<'_>,
-        place: usize,
+        index: usize,
         answer: Answer,
     ) -> Result<(), NoMemory>
-        requires place { place < length case.now.records }
-        requires answer { IsAnswerAt case.now place answer }
-        requires trails { AreTrailsAt case.now place self.old }
-        ensures { OnOk result (AreTrailsAt case.now (place + 1) self.new) }
+        requires index { index < length case.now.records }
+        requires answer { IsAnswerAt case.now index answer }
+        requires trails { AreTrailsAt case.now index self.old }
+        ensures { OnOk result (AreTrailsAt case.now (index + 1) self.new) }
     {
-        let (op, process) = case.call(place);
-        self.follow_by(alloc, place as u32, op, process, answer)?;
+        let (op, process) = case.call(index);
+        self.follow_by(alloc, index as u32, op, process, answer)?;
         Ok(())
     }
 
-    /// Follows the call of a process by the record at a place, and its answer.
+    /// Follows the call of a process by the record at an index, and its answer.
     #[tactic(auto, unfolding(ll_reasons::specs::Origins::sources_by))]
     fn follow_by(
         &mut self,
         alloc: Global,
-        place: u32,
+        index: u32,
         op: &Op,
         process: ProcessId,
         answer: Answer,
@@ -167,7 +167,7 @@ impl TraceOrigins {
         requires { is_start op.now ≡ false → process.0 < length self.old.trails.items }
         ensures { OnOk result ((sources : Sources) → AreTrails self.old.trails.items sources
             → AreTrails self.new.trails.items
-            (sources_by place op.now process.0 answer sources)) }
+            (sources_by index op.now process.0 answer sources)) }
     {
         let number = process.0 as usize;
         match op {
@@ -177,7 +177,7 @@ impl TraceOrigins {
                 self.begin(child)?;
             }
             _ => match answer {
-                Answer::Allowed => self.trails[number].follow(place, op)?,
+                Answer::Allowed => self.trails[number].follow(index, op)?,
                 Answer::Moot | Answer::Refused(_, _) => {}
             },
         }
@@ -186,7 +186,7 @@ impl TraceOrigins {
 }
 
 /// What is kept of no process is what is kept before the first record, whichever the case.
-#[tactic(auto, using(crate::proofs::AtPlaces::begins_at))]
+#[tactic(auto, using(crate::proofs::AtIndices::begins_at))]
 pub fn trails_begin()
     ensures { TrailsBegin }
 {}

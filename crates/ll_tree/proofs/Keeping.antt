@@ -22,7 +22,7 @@ use Rattle.ll_rights.specs.declared.kind.Kind.TheVariants.{Dir}
 use Rattle.ll_tree.specs.declared.place.Place.TheVariants as places
 use Rattle.ll_lines.specs.declared.path.TheConstants.{LONGEST_PATH}
 use Rattle.ll_lines.specs.Paths.{Path, is_name, path_of, front, path_eq, after_slash, names_in, is_path, text_of}
-use Rattle.ll_tree.proofs.Positions.{path_in, at_position, position_of-some, position_of-kept, is_dir_in-from_place, node, is_root, parent_of-root}
+use Rattle.ll_tree.proofs.Positions.{path_in, at_position, position_of-some, position_of-kept, is_dir_in-from_index, node, is_root, parent_of-root}
 use Rattle.ll_tree.proofs.Positions.{parent_of-other, parent_found, empty_or_not, is_dir-Dir, spelt_is, place_is, node_at-position, position_of-push}
 use Rattle.ll_tree.proofs.Positions.{root_tree, path_eq-root}
 use Rattle.ll_lines.proofs.PathLaws.{is_path-path_of, text_of-path_of, bytes_eq-text_of}
@@ -38,10 +38,10 @@ pub length-entries_of : (objects : List Object) → length (entries_of objects) 
 unfolding entries_of
 length-entries_of objects = length-map objects entry_of
 
-pub get_or-entries_of : (objects : List Object) (place : ℕ) (other : Object) → place < length objects
-    → get_or (entries_of objects) place root ≡ entry_of (get_or objects place other)
+pub get_or-entries_of : (objects : List Object) (index : ℕ) (other : Object) → index < length objects
+    → get_or (entries_of objects) index root ≡ entry_of (get_or objects index other)
 unfolding entries_of
-get_or-entries_of objects place other within = get_or-map entry_of objects place other root within
+get_or-entries_of objects index other within = get_or-map entry_of objects index other root within
 
 pub entries_of-push : (objects : List Object) (object : Object) → entries_of (objects ++ object ∷ []) ≡ entries_of objects ++ entry_of object ∷ []
 unfolding entries_of
@@ -52,8 +52,8 @@ module _ (objects : List Object) (value : List Entry) (is : entries_of objects �
   pub length_is : length value ≡ length objects
   length_is = ap length (sym is) ∙ length-entries_of objects
 
-  pub within_is : (place : ℕ) → place < length value → place < length objects
-  within_is place within = let same = length_is in omega arith
+  pub within_is : (index : ℕ) → index < length value → index < length objects
+  within_is index within = let same = length_is in omega arith
 
   module _ (node : NodeId) (object : Object) (within : node.0 < length value) (found : object ≡ get_or objects node.0 object) where
     entry_is : entry_of object ≡ get_or value node.0 root
@@ -162,7 +162,7 @@ module _ (tree : List Entry) (new : Entry) (up : NodeId) (listed : IsTree tree) 
         above = λ here within later. each_push (λ n e. 0 < n → IsTrue (is_dir_in (take n both) (front e.path))) tree new root
             (λ n inside deeper. rw (take-append-le n tree (new ∷ []) (omega arith)) (listed.above (node n) inside deeper))
             (λ deeper. rw (take_at tree (new ∷ []) (length tree) refl)
-            (is_dir_in-from_place (front new.path) tree up.0 above_at.0 above_at.1 (ap (λ k. Rattle.ll_tree.specs.Trees.is_dir k) fits.is_dir)))
+            (is_dir_in-from_index (front new.path) tree up.0 above_at.0 above_at.1 (ap (λ k. Rattle.ll_tree.specs.Trees.is_dir k) fits.is_dir)))
             here.0 within later;
       }
 

@@ -34,47 +34,47 @@ same_path a b = (path_eq-Decides a b).0
 pub path_eq-same : (a b : Path) → a ≡ b → path_eq a b ≡ true
 path_eq-same a b = (path_eq-Decides a b).1
 
--- the path of the entry at a place
+-- the path of the entry at an index
 abbrev pub path_in : List Entry → ℕ → Path
-path_in entries place = (get_or entries place root).path
+path_in entries index = (get_or entries index root).path
 
--- what is at the place that is found
-pub at_position : (path : Path) (entries : List Entry) (place : ℕ) → position_of path entries ≡ Some place
-    → (place < length entries) × (path_in entries place ≡ path)
+-- what is at the index that is found
+pub at_position : (path : Path) (entries : List Entry) (index : ℕ) → position_of path entries ≡ Some index
+    → (index < length entries) × (path_in entries index ≡ path)
 unfolding position_of
-at_position path [] place is = absurd (none-some place is)
-at_position path (entry ∷ entries) place is =
-    elim (path_eq entry.path path) as (λ b. path_eq entry.path path ≡ b → cond b (Some 0) (option_map (λ n. suc n) (position_of path entries)) ≡ Some place
-    → (place < suc (length entries)) × (path_in (entry ∷ entries) place ≡ path)) [
-      | true ↦ λ same found. subst (λ n. (n < suc (length entries)) × (path_in (entry ∷ entries) n ≡ path)) (same_Some 0 place found)
+at_position path [] index is = absurd (none-some index is)
+at_position path (entry ∷ entries) index is =
+    elim (path_eq entry.path path) as (λ b. path_eq entry.path path ≡ b → cond b (Some 0) (option_map (λ n. suc n) (position_of path entries)) ≡ Some index
+    → (index < suc (length entries)) × (path_in (entry ∷ entries) index ≡ path)) [
+      | true ↦ λ same found. subst (λ n. (n < suc (length entries)) × (path_in (entry ∷ entries) n ≡ path)) (same_Some 0 index found)
           (omega arith, same_path entry.path path same)
       | false ↦ λ other found. later (position_of path entries) (at_position path entries) found
     ] refl is
   where
-    later : (rest : Option ℕ) → ((n : ℕ) → rest ≡ Some n → (n < length entries) × (path_in entries n ≡ path)) → option_map (λ n. suc n) rest ≡ Some place
-        → (place < suc (length entries)) × (path_in (entry ∷ entries) place ≡ path)
-    later None eq found = absurd (none-some place found)
+    later : (rest : Option ℕ) → ((n : ℕ) → rest ≡ Some n → (n < length entries) × (path_in entries n ≡ path)) → option_map (λ n. suc n) rest ≡ Some index
+        → (index < suc (length entries)) × (path_in (entry ∷ entries) index ≡ path)
+    later None eq found = absurd (none-some index found)
     later (Some before) eq found =
         let there = eq before refl in
-        subst (λ n. (n < suc (length entries)) × (path_in (entry ∷ entries) n ≡ path)) (same_Some (suc before) place found) (omega arith, there.1)
+        subst (λ n. (n < suc (length entries)) × (path_in (entry ∷ entries) n ≡ path)) (same_Some (suc before) index found) (omega arith, there.1)
 
 -- a path that is in the list is found, there or earlier
-pub position_of-some : (path : Path) (entries : List Entry) (place : ℕ) → place < length entries → path_in entries place ≡ path
-    → (first : ℕ) × (position_of path entries ≡ Some first) × (first ≤ place)
+pub position_of-some : (path : Path) (entries : List Entry) (index : ℕ) → index < length entries → path_in entries index ≡ path
+    → (first : ℕ) × (position_of path entries ≡ Some first) × (first ≤ index)
 unfolding position_of
-position_of-some path [] place within is = absurd (omega arith)
+position_of-some path [] index within is = absurd (omega arith)
 position_of-some path (entry ∷ entries) zero within is = (0, rw (path_eq-same entry.path path is) refl, omega arith)
-position_of-some path (entry ∷ entries) (suc place) within is =
-    let (first, found, early) = position_of-some path entries place (omega arith) is in
-    elim (path_eq entry.path path) as (λ b. (n : ℕ) × (cond b (Some 0) (option_map (λ n. suc n) (position_of path entries)) ≡ Some n) × (n ≤ suc place)) [
+position_of-some path (entry ∷ entries) (suc index) within is =
+    let (first, found, early) = position_of-some path entries index (omega arith) is in
+    elim (path_eq entry.path path) as (λ b. (n : ℕ) × (cond b (Some 0) (option_map (λ n. suc n) (position_of path entries)) ≡ Some n) × (n ≤ suc index)) [
       | true ↦ (0, refl, omega arith)
       | false ↦ (suc first, rw found refl, omega arith)
     ]
 
--- the place after one more entry: where the path was, or at the end
+-- the index after one more entry: where the path was, or at the end
 or_else : Option ℕ → Option ℕ → Option ℕ
 or_else None other = other
-or_else (Some place) other = Some place
+or_else (Some index) other = Some index
 
 position_of-more : (path : Path) (entries : List Entry) (new : Entry)
     → position_of path (entries ++ new ∷ []) ≡ or_else (position_of path entries) (cond (path_eq new.path path) (Some (length entries)) None)
@@ -84,18 +84,18 @@ position_of-more path (entry ∷ entries) new =
     rw (position_of-more path entries new) (by (path_eq entry.path path) (position_of path entries) (path_eq new.path path))
   where
     by : (here : Bool) (found : Option ℕ) (last : Bool)
-        → cond here (Some 0) (option_map (λ place. suc place) (or_else found (cond last (Some (length entries)) None)))
-        ≡ or_else (cond here (Some 0) (option_map (λ place. suc place) found)) (cond last (Some (suc (length entries))) None)
+        → cond here (Some 0) (option_map (λ index. suc index) (or_else found (cond last (Some (length entries)) None)))
+        ≡ or_else (cond here (Some 0) (option_map (λ index. suc index) found)) (cond last (Some (suc (length entries))) None)
     by true found last = refl
     by false (Some n) last = refl
     by false None true = refl
     by false None false = refl
 
 -- what is found stays found
-pub position_of-kept : (path : Path) (entries : List Entry) (new : Entry) (place : ℕ) → position_of path entries ≡ Some place
-    → position_of path (entries ++ new ∷ []) ≡ Some place
+pub position_of-kept : (path : Path) (entries : List Entry) (new : Entry) (index : ℕ) → position_of path entries ≡ Some index
+    → position_of path (entries ++ new ∷ []) ≡ Some index
 unfolding or_else
-position_of-kept path entries new place found = position_of-more path entries new ∙ rw found refl
+position_of-kept path entries new index found = position_of-more path entries new ∙ rw found refl
 
 -- a path that wasn't there is the new one's, or is found as before
 pub position_of-push : (path : Path) (entries : List Entry) (new : Entry) → position_of new.path entries ≡ None
@@ -103,12 +103,12 @@ pub position_of-push : (path : Path) (entries : List Entry) (new : Entry) → po
 unfolding or_else
 position_of-push path entries new fresh = position_of-more path entries new ∙ elim (cases_Bool (path_eq new.path path)) [
   | inl last ↦ rw (last, ← same_path new.path path last, fresh) refl
-  | inr other ↦ rw other (elim (position_of path entries) as (λ found. or_else found None ≡ found) [ None ↦ refl | Some place ↦ refl ])
+  | inr other ↦ rw other (elim (position_of path entries) as (λ found. or_else found None ≡ found) [ None ↦ refl | Some index ↦ refl ])
 ]
 
 -- a directory of the list is somewhere in it
 pub place_of_dir : (path : Path) (entries : List Entry) → is_dir_in entries path ≡ true
-    → (place : ℕ) × (place < length entries) × (path_in entries place ≡ path) × (is_dir (get_or entries place root).kind ≡ true)
+    → (index : ℕ) × (index < length entries) × (path_in entries index ≡ path) × (is_dir (get_or entries index root).kind ≡ true)
 unfolding is_dir_in
 place_of_dir path entries is =
     let some = Any-from_list_any (λ entry. path_eq entry.path path && is_dir entry.kind) entries is in
@@ -116,13 +116,13 @@ place_of_dir path entries is =
     let tests = and_parts (path_eq (get_or entries some.0 root).path path) (is_dir (get_or entries some.0 root).kind) (rw there at some.4) in
     (some.0, some.2, same_path (get_or entries some.0 root).path path tests.0, tests.1)
 
--- a directory that is at a place is one of the list
-pub is_dir_in-from_place : (path : Path) (entries : List Entry) (place : ℕ) → place < length entries → path_in entries place ≡ path
-    → is_dir (get_or entries place root).kind ≡ true → is_dir_in entries path ≡ true
+-- a directory that is at an index is one of the list
+pub is_dir_in-from_index : (path : Path) (entries : List Entry) (index : ℕ) → index < length entries → path_in entries index ≡ path
+    → is_dir (get_or entries index root).kind ≡ true → is_dir_in entries path ≡ true
 unfolding is_dir_in
-is_dir_in-from_place path entries place within is dir =
-    list_any_at (λ entry. path_eq entry.path path && is_dir entry.kind) entries place root within
-    (rw (path_eq-same (get_or entries place root).path path is, dir) refl)
+is_dir_in-from_index path entries index within is dir =
+    list_any_at (λ entry. path_eq entry.path path && is_dir entry.kind) entries index root within
+    (rw (path_eq-same (get_or entries index root).path path is, dir) refl)
 
 -- ---- what is above a node
 
@@ -145,13 +145,13 @@ unfolding parent_of
 parent_of-other tree [] other = absurd (other refl)
 parent_of-other tree (name ∷ names) other = refl
 
--- a path that is at a place of a tree is found there
-pub position_is : (tree : List Entry) (place : ℕ) → IsTree tree → place < length tree → position_of (path_in tree place) tree ≡ Some place
+-- a path that is at an index of a tree is found there
+pub position_is : (tree : List Entry) (index : ℕ) → IsTree tree → index < length tree → position_of (path_in tree index) tree ≡ Some index
 unfolding path_at
-position_is tree place listed within =
-    let found = position_of-some (path_in tree place) tree place within refl in
-    let there = at_position (path_in tree place) tree found.0 found.1 in
-    let same : found.0 ≡ place = ap (λ (n : NodeId). n.0) (listed.distinct (node found.0) (node place) there.0 within there.1) in
+position_is tree index listed within =
+    let found = position_of-some (path_in tree index) tree index within refl in
+    let there = at_position (path_in tree index) tree found.0 found.1 in
+    let same : found.0 ≡ index = ap (λ (n : NodeId). n.0) (listed.distinct (node found.0) (node index) there.0 within there.1) in
     found.1 ∙ ap (λ (n : ℕ). Some n) same
 
 pub is_dir-Dir : (kind : Kind) → is_dir kind ≡ true → kind ≡ Dir

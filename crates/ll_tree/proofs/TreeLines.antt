@@ -20,7 +20,7 @@ use Rattle.ll_lines.specs.Reading.{IsBad}
 use Rattle.ll_tree.specs.TreeReading.{is_listed, fault_in, tree_format, IsTreeOf}
 use Rattle.ll_tree.specs.Kept.{below_root, IsRooted}
 use Rattle.ll_lines.proofs.ReadingLemmas.{good_from_reading, bad_from_fault, in_one_way as format_in_one_way}
-use Rattle.ll_tree.proofs.Positions.{spelt_is, at_position, place_of_dir, is_dir_in-from_place, node, position_is}
+use Rattle.ll_tree.proofs.Positions.{spelt_is, at_position, place_of_dir, is_dir_in-from_index, node, position_is}
 
 -- a tree is the root and what is below it
 pub rooted : (tree : List Entry) → IsTree tree → root ∷ below_root tree ≡ tree
@@ -51,16 +51,16 @@ is_dir_in-found : (tree : List Entry) (path : Path) → IsTree tree → is_dir_i
 unfolding dir_found node_at kind_at
 is_dir_in-found tree path listed = elim (cases_Bool (is_dir_in tree path)) [
   | inl dir ↦
-      let (place, within, is, is_one) = place_of_dir path tree dir in
-      let found : position_of path tree ≡ Some place = ap (λ p. position_of p tree) (sym is) ∙ position_is tree place listed within in
+      let (index, within, is, is_one) = place_of_dir path tree dir in
+      let found : position_of path tree ≡ Some index = ap (λ p. position_of p tree) (sym is) ∙ position_is tree index listed within in
       dir ∙ rw found (sym is_one)
   | inr other ↦ other ∙ go (position_of path tree) refl other
 ]
   where
     go : (found : Option ℕ) → position_of path tree ≡ found → is_dir_in tree path ≡ false → false ≡ dir_found tree (option_map node found)
     go None eq other = refl
-    go (Some place) eq other = elim (cases_Bool (is_dir (get_or tree place root).kind)) [
-      | inl dir ↦ let there = at_position path tree place eq in absurd (false≢true (sym other ∙ is_dir_in-from_place path tree place there.0 there.1 dir))
+    go (Some index) eq other = elim (cases_Bool (is_dir (get_or tree index root).kind)) [
+      | inl dir ↦ let there = at_position path tree index eq in absurd (false≢true (sym other ∙ is_dir_in-from_index path tree index there.0 there.1 dir))
       | inr not ↦ sym not
     ]
 

@@ -19,7 +19,7 @@ pub record Entry : Type 0 where
 abbrev pub root : Entry
 root = record { path = []; kind = Dir }
 
--- A tree is the list of its entries, the root first, and a node is a place in this list.
+-- A tree is the list of its entries, the root first, and a node is an index in this list.
 abbrev pub IsNode : List Entry → NodeId → Type 0
 IsNode tree node = node.0 < length tree
 
@@ -40,11 +40,11 @@ is_dir_in tree path = list_any (λ entry. path_eq entry.path path && is_dir entr
 -- where a path is in the list
 unfoldable pub position_of : Path → List Entry → Option ℕ
 position_of path [] = None
-position_of path (entry ∷ entries) = if path_eq entry.path path then Some 0 else option_map (λ place. suc place) (position_of path entries)
+position_of path (entry ∷ entries) = if path_eq entry.path path then Some 0 else option_map (λ index. suc index) (position_of path entries)
 
 -- the node of a path
 unfoldable pub node_at : List Entry → Path → Option NodeId
-node_at tree path = option_map (λ place. record { 0 = place }) (position_of path tree)
+node_at tree path = option_map (λ index. record { 0 = index }) (position_of path tree)
 
 -- the directory that holds a path; nothing holds the root
 unfoldable pub parent_of : List Entry → Path → Option NodeId

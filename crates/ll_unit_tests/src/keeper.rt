@@ -62,21 +62,21 @@ impl<'c> Hand<'c> for Keeper<'c> {
     }
 }
 
-/// The place of the job of the greatest process number.
+/// The index of the job of the greatest process number.
 fn greatest(jobs: &[Job<'_>]) -> Option<usize>
     ensures none { IfNone result (jobs.now ≡ []) }
-    ensures there { IfSome result (λ place. place < length jobs.now) }
-    ensures greatest { IfSome result (λ place. (none : OneJob)
+    ensures there { IfSome result (λ index. index < length jobs.now) }
+    ensures greatest { IfSome result (λ index. (none : OneJob)
         → All (λ other. other.process.0
-        ≤ (slice_index_or jobs.now place none).process.0) jobs.now) }
+        ≤ (slice_index_or jobs.now index none).process.0) jobs.now) }
 {
     if jobs.is_empty() {
         return None;
     }
     let mut best = 0;
-    for place in 0..jobs.len() {
-        if jobs[best].process().0 < jobs[place].process().0 {
-            best = place;
+    for index in 0..jobs.len() {
+        if jobs[best].process().0 < jobs[index].process().0 {
+            best = index;
         }
     }
     Some(best)
@@ -92,7 +92,7 @@ impl<'c> Keeper<'c> {
             (λ job. All (λ other. other.process.0 ≤ job.process.0) self.old.jobs.items) }
         ensures wanted { self.new.wanted ≡ self.old.wanted }
     {
-        let place = greatest(&self.jobs)?;
-        Some(self.jobs.swap_remove(place))
+        let index = greatest(&self.jobs)?;
+        Some(self.jobs.swap_remove(index))
     }
 }

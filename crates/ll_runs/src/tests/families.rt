@@ -85,11 +85,11 @@ fn as_many_processes_as_a_trace_may_have(rt: HostRuntime) -> Result<(), Fail> {
 #[test]
 fn one_process_too_many(rt: HostRuntime) -> Result<(), Fail> {
     let trace = chain(rt.alloc(), 65_537)?;
-    let place = ReadFault {
+    let fault = ReadFault {
         line: 65_537,
         cause: Cause::TooMany,
     };
     let answer = audited(&rt, trace.as_slice(), 8, Cut::Grain(0));
-    assert_eq!(rt; answer.err(), Some(Fault::Trace(place)));
+    assert_eq!(rt; answer.err(), Some(Fault::Trace(fault)));
     Ok(())
 }

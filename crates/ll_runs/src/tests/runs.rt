@@ -120,9 +120,9 @@ fn numbers_of_workers(rt: HostRuntime) {
             assert_eq!(rt; fault_of(&rt, tree, TRACE, workers), Some(Fault::Workers));
         }
     }
-    let place = ReadFault {
+    let fault = ReadFault {
         line: 1,
         cause: Cause::Field,
     };
-    assert_eq!(rt; fault_of(&rt, TREE, "[]", 64), Some(Fault::Trace(place)));
+    assert_eq!(rt; fault_of(&rt, TREE, "[]", 64), Some(Fault::Trace(fault)));
 }

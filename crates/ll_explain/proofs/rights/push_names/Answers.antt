@@ -7,15 +7,15 @@ use Rattle.ll_explain.proofs.rights.push_names.Goals.{then-has, else-has}
 
 pub loop-right-preserved : goal.loop-right-preserved
 loop-right-preserved g c =
-    let place = c.loop-right.right-index in
+    let index = c.loop-right.right-index in
     elim c.if-has.branch [
       | then-has w ↦
-          rw (w.text-is, w.is_first-is) (written_with _ _ (codes ", ") c.loop-right.text _ _ c.loop-right.is_first _ place c.right-item.result
+          rw (w.text-is, w.is_first-is) (written_with _ _ (codes ", ") c.loop-right.text _ _ c.loop-right.is_first _ index c.right-item.result
           c.loop-right-test.true c.right-item.is (sym c.has.ensures ∙ w.if-has.true) c.loop-right.invariant
           (w.push_name.ensures ∙ ap (λ name. adding c.loop-right.text (cond c.loop-right.is_first name (behind (codes ", ") name)))
           (w.word_for.ensures ∙ ap word_for w.name.ensures)))
       | else-has w ↦
-          rw (w.text-is, w.is_first-is) (written_without _ _ (codes ", ") c.loop-right.text _ c.loop-right.is_first _ place c.right-item.result
+          rw (w.text-is, w.is_first-is) (written_without _ _ (codes ", ") c.loop-right.text _ c.loop-right.is_first _ index c.right-item.result
           c.loop-right-test.true c.right-item.is (sym c.has.ensures ∙ w.if-has.false) c.loop-right.invariant)
     ]
 

@@ -1,10 +1,10 @@
--- The changes cover the records before the place, and the trails are those before the record at the place.
+-- The changes cover the records before the index, and the trails are those before the record at the index.
 use Rattle.ll_trails.specs.CaseTrails.{AreTrailsAt}
 use Rattle.ll_explanations.specs.Stretches.{Covers}
 use Rattle.ll_explanations.proofs.comparing.compare_from.Given as goal
 
-abbrev pub invariant-loop-place : goal.invariant-loop-place
-invariant-loop-place l = record {
-  covers : Covers l.case l.base l.from l.place l.changes;
-  trails : AreTrailsAt l.case l.place l.trails;
+abbrev pub invariant-loop-index : goal.invariant-loop-index
+invariant-loop-index l = record {
+  covers : Covers l.case l.base l.from l.index l.changes;
+  trails : AreTrailsAt l.case l.index l.trails;
 }

@@ -4,7 +4,7 @@ use Rattle.ll_rights.specs.Rights as files
 use Rattle.ll_reasons.specs.Conditions.{only_for_directories, unhandled, directory_rights}
 use Rattle.ll_explanations.specs.Meanings.{condition_in, path_of_rule, rights_in}
 use Rattle.ll_explanations.proofs.Beyond.{all_within, beyond_is, some_beyond}
-use Rattle.ll_explanations.proofs.RightPlaces.{is_file, directory_beyond}
+use Rattle.ll_explanations.proofs.RightIndices.{is_file, directory_beyond}
 use Rattle.ll_explanations.proofs.condition.invalid_on_path.Goals as goal
 
 pub returns-then-is_empty : goal.returns-then-is_empty

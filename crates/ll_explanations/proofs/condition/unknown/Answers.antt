@@ -3,7 +3,7 @@ use Rattle.ll_rights.specs.Rights as files
 use Rattle.ll_reasons.specs.Conditions.{unknown}
 use Rattle.ll_explanations.specs.Meanings.{condition_in, rights_in}
 use Rattle.ll_explanations.proofs.Beyond.{beyond_is}
-use Rattle.ll_explanations.proofs.RightPlaces.{unknown_beyond}
+use Rattle.ll_explanations.proofs.RightIndices.{unknown_beyond}
 use Rattle.ll_explanations.proofs.condition.unknown.Goals as goal
 
 pub returns : goal.returns

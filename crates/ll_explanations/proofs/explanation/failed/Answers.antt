@@ -12,8 +12,8 @@ pub returns : goal.returns
 returns c r eq =
     let cv = c.args.case.now in
     let found = c.found_at.ensures.found in
-    let o = origins_at cv.tree cv.abi cv.records c.args.place found.r.process.0 in
-    fails cv.tree cv.abi cv.records c.args.place found.r r found.there eq c.args.error c.condition_of.result
+    let o = origins_at cv.tree cv.abi cv.records c.args.index found.r.process.0 in
+    fails cv.tree cv.abi cv.records c.args.index found.r r found.there eq c.args.error c.condition_of.result
     (ap (λ (op : Op). condition_in op c.condition_of.result) (sym found.call)
     ∙ c.condition_of.ensures o found.follows
     ∙ ap (λ (abi : Abi). condition abi cv.records o c.found_at.result.0.now c.args.error) c.abi.ensures

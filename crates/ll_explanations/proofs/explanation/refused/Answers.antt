@@ -21,10 +21,10 @@ use Rattle.ll_explanations.proofs.explanation.refused.Goals as goal
 pub invariant_of-ctx-clause-inside : goal.invariant_of-ctx-clause-inside
 invariant_of-ctx-clause-inside c =
     let found = c.found_at.ensures.found in
-    let is : IsDomainAt c.args.case.now c.args.place found.r.process.0 c.in_ok-domain.domain.items =
-    c.in_ok-domain.ensures c.args.place found.r.process.0 found.follows in
+    let is : IsDomainAt c.args.case.now c.args.index found.r.process.0 c.in_ok-domain.domain.items =
+    c.in_ok-domain.ensures c.args.index found.r.process.0 found.follows in
     subst (λ (ids : List LayerId). IsDomainOf c.layers.result.now ids) (sym c.deref.ensures.value)
-    (subst (λ layers. IsDomainOf layers c.in_ok-domain.domain.items) (sym c.layers.ensures) is.places)
+    (subst (λ layers. IsDomainOf layers c.in_ok-domain.domain.items) (sym c.layers.ensures) is.indices)
 
 pub invariant_of-ctx-clause-rules : goal.invariant_of-ctx-clause-rules
 invariant_of-ctx-clause-rules c =
@@ -33,7 +33,7 @@ invariant_of-ctx-clause-rules c =
 
 pub objections_to-requires : goal.objections_to-requires
 objections_to-requires c =
-    known_there c.args.case.now c.args.place c.tree.result.now c.found_at.result.0.now c.found_at.result.1.now c.found_at.ensures.found
+    known_there c.args.case.now c.args.index c.tree.result.now c.found_at.result.0.now c.found_at.result.1.now c.found_at.ensures.found
     c.known_place-known.result c.tree.ensures c.known_place-known.ensures
 
 pub returns : goal.returns
@@ -43,13 +43,13 @@ returns c =
     let found = c.found_at.ensures.found in
     let r : Record = found.r in
     let call : Op = c.found_at.result.0.now in
-    let o : Origins = origins_at cv.tree cv.abi cv.records c.args.place r.process.0 in
+    let o : Origins = origins_at cv.tree cv.abi cv.records c.args.index r.process.0 in
     let ids : List LayerId = c.in_ok-domain.domain.items in
     let all = c.in_ok-all.all.items in
-    let is : IsDomainAt c.args.case.now c.args.place r.process.0 ids = c.in_ok-domain.ensures c.args.place r.process.0 found.follows in
+    let is : IsDomainAt c.args.case.now c.args.index r.process.0 ids = c.in_ok-domain.ensures c.args.index r.process.0 found.follows in
     let said : List Entry → List (RulesOn ℕ) → List LayerId
     → List (ℕ × List Objection) = λ tree layers domain. objections_to tree (all_in_tree tree (domain_of layers domain)) o call c.args.error c.args.numbers in
-    explains cv c.args.place _ r _ found.there (record {
+    explains cv c.args.index _ r _ found.there (record {
       means =
           ap (λ (tree : List Entry). objections (by_layer tree all)) (sym c.tree.ensures)
           ∙ ap objections (c.in_ok-all.ensures.said
@@ -59,8 +59,8 @@ returns c =
           ∙ ap (λ (layers : List (RulesOn ℕ)). said cv.tree layers c.deref.result.now) c.layers.ensures
           ∙ ap (λ (domain : List LayerId). said cv.tree cv.layers domain) c.deref.ensures.value
           ∙ same_layers_object_to_the_same cv.tree (all_in_tree cv.tree (domain_of cv.layers ids))
-          (domain_at cv.tree cv.abi cv.records c.args.place r.process.0) is.same o call c.args.error c.args.numbers
-          ∙ ap (λ (op : Op). objections_to cv.tree (domain_at cv.tree cv.abi cv.records c.args.place r.process.0) o op c.args.error c.args.numbers) found.call)
-          ∙ refusing cv.tree cv.abi cv.records c.args.place r c.args.error c.args.numbers c.requires.some;
+          (domain_at cv.tree cv.abi cv.records c.args.index r.process.0) is.same o call c.args.error c.args.numbers
+          ∙ ap (λ (op : Op). objections_to cv.tree (domain_at cv.tree cv.abi cv.records c.args.index r.process.0) o op c.args.error c.args.numbers) found.call)
+          ∙ refusing cv.tree cv.abi cv.records c.args.index r c.args.error c.args.numbers c.requires.some;
       made = subst (λ (layers : List ℕ). All (IsMade layers) all) found.follows.layers c.in_ok-all.ensures.made;
     })

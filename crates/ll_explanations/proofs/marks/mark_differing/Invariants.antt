@@ -4,7 +4,7 @@ use Rattle.std.proofs.Common.{◌<◌, ℕ}
 use Rattle.ll_explanations.specs.Alike.{FindsAs, MarksUnless}
 use Rattle.ll_explanations.proofs.marks.mark_differing.Given as goal
 
-abbrev pub invariant-loop-place : goal.invariant-loop-place
-invariant-loop-place l =
-    let same : ℕ → Type 0 = λ at. at < l.place → FindsAs l.one at l.other in
+abbrev pub invariant-loop-index : goal.invariant-loop-index
+invariant-loop-index l =
+    let same : ℕ → Type 0 = λ at. at < l.index → FindsAs l.one at l.other in
     MarksUnless same l.fn.marks.items l.marks.items

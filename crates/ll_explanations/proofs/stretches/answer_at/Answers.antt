@@ -4,7 +4,7 @@ use Rattle.ll_explanations.proofs.stretches.answer_at.Goals as goal
 
 pub returns-clause-answer : goal.returns-clause-answer
 returns-clause-answer c =
-    given_at c.args.case.now c.args.answers.now c.args.place c.index-answers-place.result c.requires.judged c.requires.within c.index-answers-place.is
+    given_at c.args.case.now c.args.answers.now c.args.index c.index-answers-index.result c.requires.judged c.requires.within c.index-answers-index.is
 
-pub returns-clause-place : goal.returns-clause-place
-returns-clause-place c = among c.args.case.now c.args.answers.now c.args.place c.requires.judged c.requires.within
+pub returns-clause-index : goal.returns-clause-index
+returns-clause-index c = among c.args.case.now c.args.answers.now c.args.index c.requires.judged c.requires.within

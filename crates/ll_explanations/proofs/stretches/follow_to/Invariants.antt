@@ -1,6 +1,6 @@
--- the trails are those before the record at the place
+-- the trails are those before the record at the index
 use Rattle.ll_trails.specs.CaseTrails.{AreTrailsAt}
 use Rattle.ll_explanations.proofs.stretches.follow_to.Given as goal
 
-abbrev pub invariant-loop-place : goal.invariant-loop-place
-invariant-loop-place l = AreTrailsAt l.case l.place l.trails
+abbrev pub invariant-loop-index : goal.invariant-loop-index
+invariant-loop-index l = AreTrailsAt l.case l.index l.trails

@@ -7,7 +7,7 @@ use Rattle.ll_json.proofs.rows.push_line.Goals as goal
 
 pub push_line_as-requires-clause-comparable : goal.push_line_as-requires-clause-comparable
 push_line_as-requires-clause-comparable c =
-    subst (λ (explains : Bool). AreComparable answer_at c.args.scratch.now c.args.sayings.now.place (said_by (members_told explains) c.args.sayings.now))
+    subst (λ (explains : Bool). AreComparable answer_at c.args.scratch.now c.args.sayings.now.index (said_by (members_told explains) c.args.sayings.now))
     c.if-explains.true c.requires.comparable
 
 pub returns-then-explains-clause-text : goal.returns-then-explains-clause-text
@@ -18,7 +18,7 @@ returns-then-explains-clause-text c =
 
 pub push_line_as-requires-else-explains-clause-comparable : goal.push_line_as-requires-else-explains-clause-comparable
 push_line_as-requires-else-explains-clause-comparable c =
-    subst (λ (explains : Bool). AreComparable answer_at c.args.scratch.now c.args.sayings.now.place (said_by (members_told explains) c.args.sayings.now))
+    subst (λ (explains : Bool). AreComparable answer_at c.args.scratch.now c.args.sayings.now.index (said_by (members_told explains) c.args.sayings.now))
     c.if-explains.false c.requires.comparable
 
 pub returns-else-explains-clause-text : goal.returns-else-explains-clause-text

@@ -13,7 +13,7 @@ use Rattle.ll_json.proofs.spans.push_answers.Goals.{then-not-same, else-not-same
 pub push_common-requires-clause-same : goal.push_common-requires-clause-same
 push_common-requires-clause-same g c =
     let s = c.args.sayings.now in
-    agree_alike g.T.Telling.told g.met.T.Telling.by_value s.tree.now s.records.now s.place s.findings.now (c.is_apart.ensures c.if-not-is_apart.true)
+    agree_alike g.T.Telling.told g.met.T.Telling.by_value s.tree.now s.records.now s.index s.findings.now (c.is_apart.ensures c.if-not-is_apart.true)
 
 pub loop-version-preserved : goal.loop-version-preserved
 loop-version-preserved g c =

@@ -1,4 +1,4 @@
--- Each piece's answers go to their places.
+-- Each piece's answers go to their indices.
 use Rattle.std.proofs.Common.{◌≡◌, ◌<◌, ℕ, List, length, sym, ap, ◌∙◌, subst, arith}
 use Rattle.std.specs.Prelude.{All, vec_len, Some}
 use Rattle.std.proofs.lemmas.List.{take_all}
@@ -9,7 +9,7 @@ use Rattle.ll_process.specs.declared.piece.Piece.{Piece}
 use Rattle.ll_pool.specs.Gathered.{placed, answers_of_pieces}
 use Rattle.ll_pool.proofs.Counts.{piece_at}
 use Rattle.ll_pool.proofs.Placing.{placed-nil, answers_of_pieces-nil, assembled_more}
-use Rattle.ll_pool.proofs.Answering.{all_places, all_answered}
+use Rattle.ll_pool.proofs.Answering.{all_indices, all_answered}
 use Rattle.ll_pool.proofs.gather.assemble.Goals as goal
 
 pub loop-piece-init : goal.loop-piece-init
@@ -23,24 +23,24 @@ loop-piece-init c =
           sym (ap (λ (ps : List (ℕ × Answer)). placed ps c.in_ok-answers.answers.items) answers_of_pieces-nil ∙ placed-nil c.in_ok-answers.answers.items);
     }
 
-pub place-requires : goal.place-requires
-place-requires c =
+pub put_answers-requires : goal.put_answers-requires
+put_answers-requires c =
     subst (λ (ps : List (ℕ × Answer)). All (λ (part : ℕ × Answer). part.0 < vec_len c.loop-piece.answers) ps) (sym c.answers.ensures)
-    (all_places c.args.case.now c.piece-item.result (vec_len c.loop-piece.answers)
+    (all_indices c.args.case.now c.piece-item.result (vec_len c.loop-piece.answers)
     (piece_at c.args.case.now c.args.pieces.now c.loop-piece.piece-index c.piece-item.result c.requires.of_case c.piece-item.is c.loop-piece-test.true)
     (omega (arith, c.loop-piece.invariant.len)))
 
 pub loop-piece-preserved : goal.loop-piece-preserved
 loop-piece-preserved c = record {
-  len = c.place.ensures.len ∙ c.loop-piece.invariant.len;
+  len = c.put_answers.ensures.len ∙ c.loop-piece.invariant.len;
   same = c.loop-piece.invariant.same;
   placed_so_far =
       assembled_more c.args.pieces.now c.loop-piece.piece-index c.piece-item.result c.in_ok-answers.answers.items c.loop-piece.answers.items
-      c.place.new.answers.items
+      c.put_answers.new.answers.items
       (slice_get-get_or c.args.pieces.now c.loop-piece.piece-index c.piece-item.result c.loop-piece-test.true
       ∙ ap (λ (x : Piece). Some x) (sym c.piece-item.is))
       c.loop-piece.invariant.placed_so_far
-      (c.place.ensures.placed ∙ ap (λ (ps : List (ℕ × Answer)). placed ps c.loop-piece.answers.items) c.answers.ensures);
+      (c.put_answers.ensures.placed ∙ ap (λ (ps : List (ℕ × Answer)). placed ps c.loop-piece.answers.items) c.answers.ensures);
 }
 
 pub returns : goal.returns

@@ -1,5 +1,5 @@
 -- What the caller does until all roots are handed out: each step keeps the pool, and the account of the roots is whole.
-use Rattle.std.proofs.Common.{◌≡◌, ◌∙◌, ap, arith}
+use Rattle.std.proofs.Common.{◌∙◌, ap, arith}
 use Rattle.crossbeam_queue.specs.Passes.{view}
 use Rattle.ll_process.specs.Jobs.{processes_of}
 use Rattle.ll_pool.specs.declared.queue.Ledger.{Ledger}

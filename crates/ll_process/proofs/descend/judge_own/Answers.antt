@@ -2,29 +2,29 @@
 use Rattle.std.proofs.Common.{◌∙◌, get_or, subst, refl}
 use Rattle.ll_process.specs.{Cases.CaseValue, Cases.BeginsAs, Judging.answer_at}
 use Rattle.ll_process.proofs.Descents.{keeps_on, keeps_same}
-use Rattle.ll_process.proofs.Walked.{walked_none, walked_more, place_now, own_now, handed_all, less_to_do}
+use Rattle.ll_process.proofs.Walked.{walked_none, walked_more, index_now, own_now, handed_all, less_to_do}
 use Rattle.ll_process.proofs.descend.judge_own.Goals as goal
 
 pub loop-at-init : goal.loop-at-init
 loop-at-init g c = record {
   walked = walked_none c.args.case.now c.args.job.process.0 c.args.job.own c.args.answers.now.items
-      (g.H.Hand.kept c.args.hand.now) c.args.todo.now.items c.own_records-places.ensures.case
+      (g.H.Hand.kept c.args.hand.now) c.args.todo.now.items c.own_records-indices.ensures.case
       (rw c.requires.its at c.args.job.there) (subst (λ (cv : CaseValue). BeginsAs cv c.args.job.process.0 c.args.job.own) c.requires.its c.args.job.begins)
       c.requires.of_case;
   keeps = keeps_same c.args.case.now.records (g.H.Hand.kept c.args.hand.now) (g.H.Hand.kept c.args.hand.now) refl;
   suits = c.requires.suits;
   ahead = c.new-ahead.ensures.case;
-  its = c.new-ahead.ensures.places ∙ c.own_records-places.ensures.places;
+  its = c.new-ahead.ensures.indices ∙ c.own_records-indices.ensures.indices;
   stays = λ before same. same;
 }
 
 pub judge_record-requires : goal.judge_record-requires
 judge_record-requires g c κs =
     let now =
-    place_now c.args.case.now c.args.job.process.0 c.loop-at.at c.own_records-places.result.now c.own_records-places.ensures.places c.loop-at-test.true in (
+    index_now c.args.case.now c.args.job.process.0 c.loop-at.at c.own_records-indices.result.now c.own_records-indices.ensures.indices c.loop-at-test.true in (
       (refl, tt),
       (
-        own_now c.args.case.now c.args.job.process.0 c.loop-at.at c.own_records-places.result.now c.own_records-places.ensures.places c.loop-at-test.true,
+        own_now c.args.case.now c.args.job.process.0 c.loop-at.at c.own_records-indices.result.now c.own_records-indices.ensures.indices c.loop-at-test.true,
         (
           c.loop-at.invariant.walked.meets _ now,
           (
@@ -38,32 +38,32 @@ judge_record-requires g c κs =
 pub loop-at-preserved : goal.loop-at-preserved
 loop-at-preserved g c = record {
   walked = rw c.in_ok-judge_record.ensures.answered
-      (walked_more c.args.case.now c.args.job.process.0 c.loop-at.at c.own_records-places.result.now c.own_records-places.ensures.places
-      (answer_at c.args.case.now.tree c.args.case.now.abi c.args.case.now.records (get_or c.own_records-places.result.now c.loop-at.at 0))
+      (walked_more c.args.case.now c.args.job.process.0 c.loop-at.at c.own_records-indices.result.now c.own_records-indices.ensures.indices
+      (answer_at c.args.case.now.tree c.args.case.now.abi c.args.case.now.records (get_or c.own_records-indices.result.now c.loop-at.at 0))
       c.loop-at.own c.judge_record.new.own
       c.args.answers.now.items c.loop-at.answers.items (g.H.Hand.kept c.args.hand.now) (g.H.Hand.kept c.loop-at.hand)
       (g.H.Hand.kept c.judge_record.new.hand) c.args.todo.now.items c.loop-at.todo.items c.judge_record.new.todo.items
-      c.own_records-places.ensures.case c.loop-at-test.true c.loop-at.invariant.walked refl c.in_ok-judge_record.ensures.leaves
+      c.own_records-indices.ensures.case c.loop-at-test.true c.loop-at.invariant.walked refl c.in_ok-judge_record.ensures.leaves
       c.in_ok-judge_record.ensures.handed c.in_ok-judge_record.ensures.of_case);
   keeps = keeps_on c.args.case.now.records (g.H.Hand.kept c.args.hand.now) (g.H.Hand.kept c.loop-at.hand)
       (g.H.Hand.kept c.judge_record.new.hand) c.loop-at.invariant.keeps c.in_ok-judge_record.ensures.keeps;
   suits = c.in_ok-judge_record.ensures.suits;
   ahead = c.may_fork-forks.ensures.case ∙ c.loop-at.invariant.ahead;
-  its = c.may_fork-forks.ensures.places ∙ c.loop-at.invariant.its;
+  its = c.may_fork-forks.ensures.indices ∙ c.loop-at.invariant.its;
   stays = λ before same. c.in_ok-judge_record.ensures.stays before (c.loop-at.invariant.stays before same);
 }
 
 pub returns-clause-less : goal.returns-clause-less
 returns-clause-less g c =
-    less_to_do c.args.case.now c.args.job.process.0 (g.H.Hand.kept c.args.hand.now) (g.H.Hand.kept c.loop-at.hand) _ _ c.own_records-places.ensures.case
-    (handed_all c.args.case.now c.args.job.process.0 c.loop-at.at c.own_records-places.result.now c.own_records-places.ensures.places
+    less_to_do c.args.case.now c.args.job.process.0 (g.H.Hand.kept c.args.hand.now) (g.H.Hand.kept c.loop-at.hand) _ _ c.own_records-indices.ensures.case
+    (handed_all c.args.case.now c.args.job.process.0 c.loop-at.at c.own_records-indices.result.now c.own_records-indices.ensures.indices
     c.loop-at.own c.args.answers.now.items c.loop-at.answers.items
     (g.H.Hand.kept c.args.hand.now) (g.H.Hand.kept c.loop-at.hand) c.args.todo.now.items c.loop-at.todo.items c.loop-at-test.false
     c.loop-at.invariant.walked) c.loop-at.invariant.keeps
 
 pub returns-clause-handed : goal.returns-clause-handed
 returns-clause-handed g c =
-    handed_all c.args.case.now c.args.job.process.0 c.loop-at.at c.own_records-places.result.now c.own_records-places.ensures.places
+    handed_all c.args.case.now c.args.job.process.0 c.loop-at.at c.own_records-indices.result.now c.own_records-indices.ensures.indices
     c.loop-at.own c.args.answers.now.items c.loop-at.answers.items
     (g.H.Hand.kept c.args.hand.now) (g.H.Hand.kept c.loop-at.hand) c.args.todo.now.items c.loop-at.todo.items c.loop-at-test.false
     c.loop-at.invariant.walked

@@ -11,6 +11,6 @@ invariant-loop-at g l = record {
   keeps : KeepsMore l.case.records (g.H.Hand.kept l.initial.hand) (g.H.Hand.kept l.hand);
   suits : g.H.Hand.suits l.hand l.case;
   ahead : l.ahead.case.now ≡ l.case;
-  its : l.ahead.places.now ≡ own_records l.case.records l.process.0;
+  its : l.ahead.indices.now ≡ own_records l.case.records l.process.0;
   stays : (before : _) → g.H.Hand.stays before l.initial.hand → g.H.Hand.stays before l.hand;
 }

@@ -1,5 +1,5 @@
 use Rattle.ll_process.proofs.RightCalls.{AreKept}
 use Rattle.ll_process.proofs.past.calls_of_rights.Given as goal
 
-abbrev pub invariant-loop-place : goal.invariant-loop-place
-invariant-loop-place l = AreKept l.trace l.place-items l.calls l.place-index
+abbrev pub invariant-loop-index : goal.invariant-loop-index
+invariant-loop-index l = AreKept l.trace l.index-items l.calls l.index-index

@@ -6,24 +6,24 @@ use Rattle.ll_report.proofs.paged.holds_rest.Goals as goal
 
 pub is_room_for-requires : goal.is_room_for-requires
 is_room_for-requires g c =
-    let part : List ℕ = part_at (g.R.Rows.made_of c.args.rows.now) c.args.place in
+    let part : List ℕ = part_at (g.R.Rows.made_of c.args.rows.now) c.args.index in
     let seen = shows c.args.page.now.room c.args.skip part c.restart.new.self c.push_part.new.text (omega (arith, c.ranges.skip.fits)) c.restart.ensures
     c.push_part.ensures.part in
     omega (arith, seen.count, c.count.ensures, c.requires, c.ranges.skip.fits)
 
 pub returns-clause-room : goal.returns-clause-room
 returns-clause-room g c =
-    (shows c.args.page.now.room c.args.skip (part_at (g.R.Rows.made_of c.args.rows.now) c.args.place) c.restart.new.self c.push_part.new.text
+    (shows c.args.page.now.room c.args.skip (part_at (g.R.Rows.made_of c.args.rows.now) c.args.index) c.restart.new.self c.push_part.new.text
     (omega (arith, c.ranges.skip.fits)) c.restart.ensures c.push_part.ensures.part).same_room
 
 pub returns-clause-held : goal.returns-clause-held
 returns-clause-held g c =
-    (shows c.args.page.now.room c.args.skip (part_at (g.R.Rows.made_of c.args.rows.now) c.args.place) c.restart.new.self c.push_part.new.text
+    (shows c.args.page.now.room c.args.skip (part_at (g.R.Rows.made_of c.args.rows.now) c.args.index) c.restart.new.self c.push_part.new.text
     (omega (arith, c.ranges.skip.fits)) c.restart.ensures c.push_part.ensures.part).held
 
 pub returns-clause-all : goal.returns-clause-all
 returns-clause-all g c =
-    let part : List ℕ = part_at (g.R.Rows.made_of c.args.rows.now) c.args.place in
+    let part : List ℕ = part_at (g.R.Rows.made_of c.args.rows.now) c.args.index in
     let seen = shows c.args.page.now.room c.args.skip part c.restart.new.self c.push_part.new.text (omega (arith, c.ranges.skip.fits)) c.restart.ensures
     c.push_part.ensures.part in
     OnTrue_from c.is_room_for.result (length part ≤ c.args.skip + c.args.page.now.room)
@@ -32,7 +32,7 @@ returns-clause-all g c =
 
 pub returns-clause-more : goal.returns-clause-more
 returns-clause-more g c =
-    let part : List ℕ = part_at (g.R.Rows.made_of c.args.rows.now) c.args.place in
+    let part : List ℕ = part_at (g.R.Rows.made_of c.args.rows.now) c.args.index in
     let seen = shows c.args.page.now.room c.args.skip part c.restart.new.self c.push_part.new.text (omega (arith, c.ranges.skip.fits)) c.restart.ensures
     c.push_part.ensures.part in
     OnFalse_from c.is_room_for.result (c.args.skip + c.args.page.now.room < 2 ^ 64 → c.args.skip + c.args.page.now.room ≤ length part)

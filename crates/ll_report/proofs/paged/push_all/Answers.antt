@@ -5,13 +5,13 @@ use Rattle.ll_report.specs.Made.{Made, row_at}
 use Rattle.ll_report.proofs.Making.{left, left_next}
 use Rattle.ll_report.proofs.paged.push_all.Goals as goal
 
-pub loop-place-preserved : goal.loop-place-preserved
-loop-place-preserved g c =
+pub loop-index-preserved : goal.loop-index-preserved
+loop-index-preserved g c =
     let made : Made = g.R.Rows.made_of c.args.rows.now in
-    let same = c.loop-place.invariant.0 in
-    let below : c.loop-place.place < length made.shown = search rules in (
+    let same = c.loop-index.invariant.0 in
+    let below : c.loop-index.index < length made.shown = search rules in (
       c.push_row.ensures.made ∙ same,
-      goes_on c.loop-place.text c.push_row.new.text _ (row_at made c.loop-place.place) (left made (c.loop-place.place + 1))
-          (ap (adding c.loop-place.text) (sym (left_next made c.loop-place.place below)) ∙ c.loop-place.invariant.1)
-          (c.push_row.ensures.row ∙ ap (λ (m : Made). adding c.loop-place.text (row_at m c.loop-place.place)) same),
+      goes_on c.loop-index.text c.push_row.new.text _ (row_at made c.loop-index.index) (left made (c.loop-index.index + 1))
+          (ap (adding c.loop-index.text) (sym (left_next made c.loop-index.index below)) ∙ c.loop-index.invariant.1)
+          (c.push_row.ensures.row ∙ ap (λ (m : Made). adding c.loop-index.text (row_at m c.loop-index.index)) same),
     )

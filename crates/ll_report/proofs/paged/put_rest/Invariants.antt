@@ -7,7 +7,7 @@ use Rattle.ll_report.proofs.paged.put_rest.Given as goal
 abbrev pub invariant-loop-out : goal.invariant-loop-out
 invariant-loop-out g l =
     (g.R.Rows.made_of l.rows ≡ g.R.Rows.made_of l.fn.rows) × (0 < l.page.room) ×
-    IsMidway (g.O.Write.contents l.fn.out) (g.O.Write.contents l.out) (part_at (g.R.Rows.made_of l.fn.rows) l.place) l.fn.skip l.written
+    IsMidway (g.O.Write.contents l.fn.out) (g.O.Write.contents l.out) (part_at (g.R.Rows.made_of l.fn.rows) l.index) l.fn.skip l.written
 
 abbrev pub decreases-loop-out : goal.decreases-loop-out
 decreases-loop-out g l = 2 ^ 64 - l.written

@@ -8,5 +8,5 @@ use Rattle.ll_report.proofs.rows.is_alike_left_out.Goals as goal
 pub returns-in-Some : goal.returns-in-Some
 returns-in-Some c =
     c.is_hidden.ensures ∙ ap (λ (a : Answer). is_left_out c.args.shown (verdict_of a)) c.answer.ensures
-    ∙ alike_out c.args.shown c.args.sayings.now.findings.now c.args.sayings.now.place c.in-Some.first.now _
+    ∙ alike_out c.args.shown c.args.sayings.now.findings.now c.args.sayings.now.index c.in-Some.first.now _
     (sym c.as_slice.ensures ∙ c.in-Some.ensures.cases.0) c.requires

@@ -6,17 +6,17 @@ use Rattle.ll_report.proofs.rows.is_apart_left_out.Goals as goal
 pub returns-then-is_passed_over-clause-out : goal.returns-then-is_passed_over-clause-out
 returns-then-is_passed_over-clause-out c =
     let s = c.args.sayings.now in
-    passed_over c.args.shown s.findings.now s.place s.tree.now s.records.now (sym c.is_passed_over.ensures ∙ c.if-is_passed_over.true)
+    passed_over c.args.shown s.findings.now s.index s.tree.now s.records.now (sym c.is_passed_over.ensures ∙ c.if-is_passed_over.true)
 
 pub returns-then-not-shown-clause-out : goal.returns-then-not-shown-clause-out
 returns-then-not-shown-clause-out c =
     let s = c.args.sayings.now in
-    kept_in c.args.shown s.findings.now s.place s.tree.now s.records.now (sym c.is_passed_over.ensures ∙ c.if-is_passed_over.false)
+    kept_in c.args.shown s.findings.now s.index s.tree.now s.records.now (sym c.is_passed_over.ensures ∙ c.if-is_passed_over.false)
     (not-true c.args.shown.differing_alone c.if-not-shown.true)
 
 pub returns-clause-out : goal.returns-clause-out
 returns-clause-out c =
     let s = c.args.sayings.now in
     c.agree.ensures.agree
-    ∙ as_agreed c.args.shown s.findings.now s.place s.tree.now s.records.now (sym c.is_passed_over.ensures ∙ c.if-is_passed_over.false)
+    ∙ as_agreed c.args.shown s.findings.now s.index s.tree.now s.records.now (sym c.is_passed_over.ensures ∙ c.if-is_passed_over.false)
     (not-false c.args.shown.differing_alone c.if-not-shown.false)

@@ -9,5 +9,5 @@ use Rattle.ll_report.proofs.rows.is_refused_under_some.Goals as goal
 pub returns-in-Some : goal.returns-in-Some
 returns-in-Some c =
     c.is_refused.ensures ∙ ap (λ (answer : Answer). is_refused (verdict_of answer)) c.answer.ensures
-    ∙ newest_refuses c.args.place c.in-Some.newest.now _ c.args.findings.now (sym c.as_slice-2.ensures ∙ c.in-Some.ensures.cases.0)
+    ∙ newest_refuses c.args.index c.in-Some.newest.now _ c.args.findings.now (sym c.as_slice-2.ensures ∙ c.in-Some.ensures.cases.0)
     (c.is_apart.ensures c.if-is_apart.false)

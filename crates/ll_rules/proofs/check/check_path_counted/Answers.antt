@@ -16,11 +16,11 @@ returns-clause-answer c =
     c.filled.ensures
     ∙ refusing_lanes c.args.tree.now c.args.layers.now c.layers-ids.result.now
     (path_at c.args.tree.now c.args.node) c.args.wanted c.climb-look_ups.new.lanes few
-    (λ place right.
-    c.climb-look_ups.ensures.left place right
+    (λ index right.
+    c.climb-look_ups.ensures.left index right
     ∙ ap (λ (b : Bool). b && not
-    (granted (in_tree c.args.tree.now (layer_in (domain_of c.args.layers.now c.layers-ids.result.now) place)) (path_at c.args.tree.now c.args.node) right))
-    (c.asked_in-lacking.ensures place right))
+    (granted (in_tree c.args.tree.now (layer_in (domain_of c.args.layers.now c.layers-ids.result.now) index)) (path_at c.args.tree.now c.args.node) right))
+    (c.asked_in-lacking.ensures index right))
     ∙ ap (λ (ids : List LayerId). refusing (all_in_tree c.args.tree.now (domain_of c.args.layers.now ids)) (path_at c.args.tree.now c.args.node) c.args.wanted)
     c.layers-ids.ensures.value
 

@@ -11,17 +11,17 @@ returns-clause-numbered c = are_numbered
 
 pub returns-clause-each : goal.returns-clause-each
 returns-clause-each c = λ records process below.
-    let (place, one) = start_of records process below in
-    (place, started_at-from records place one.of one.at one.kind ∙ ap (λ n. Some n) (sym one.number))
+    let (index, one) = start_of records process below in
+    (index, started_at-from records index one.of one.at one.kind ∙ ap (λ n. Some n) (sym one.number))
 
 pub returns-clause-once : goal.returns-clause-once
-returns-clause-once c = λ records place other process one two.
-    started_once records place other process (started_at-is records place process one) (started_at-is records other process two)
+returns-clause-once c = λ records index other process one two.
+    started_once records index other process (started_at-is records index process one) (started_at-is records other process two)
 
 pub returns-clause-forked : goal.returns-clause-forked
-returns-clause-forked c = λ records place process said eq starts.
-    let one = started_at-is records place process starts in
-    ap only (parent_at records place process one) ∙ ap (λ (r : Record). forked_by r.op r.process) (same_Some one.of said (sym one.at ∙ eq))
+returns-clause-forked c = λ records index process said eq starts.
+    let one = started_at-is records index process starts in
+    ap only (parent_at records index process one) ∙ ap (λ (r : Record). forked_by r.op r.process) (same_Some one.of said (sym one.at ∙ eq))
 
 pub returns-clause-parent : goal.returns-clause-parent
 returns-clause-parent c = parent_below

@@ -40,11 +40,11 @@ const TRACE: &str = "\
 
 const ANSWERS: &str = "a a a a a a a a a a E1 a a P1 m";
 
-/// The processes that a hand with even numbers leaves to whoever judges process 1, and the places of
+/// The processes that a hand with even numbers leaves to whoever judges process 1, and the indices of
 /// their records.
 const JUDGED: [ProcessId; 3] = [ProcessId(1), ProcessId(3), ProcessId(5)];
 
-const PLACES: [u32; 11] = [1, 2, 3, 4, 5, 6, 7, 8, 9, 11, 13];
+const INDICES: [u32; 11] = [1, 2, 3, 4, 5, 6, 7, 8, 9, 11, 13];
 
 /// The processes that this hand holds then, where it held process 0 before.
 const KEPT: [ProcessId; 3] = [ProcessId(0), ProcessId(2), ProcessId(4)];
@@ -101,9 +101,9 @@ fn pieces_again(alloc: Global, case: &Case) -> Result<Vec<Piece<'_>>, Fail>
     }
 }
 
-/// Whether the answer at a place is the one told.
-fn is_answer(place: usize, answer: &Answer) -> bool {
-    match ANSWERS.split_ascii_whitespace().nth(place) {
+/// Whether the answer at an index is the one told.
+fn is_answer(index: usize, answer: &Answer) -> bool {
+    match ANSWERS.split_ascii_whitespace().nth(index) {
         Some(word) => is_told(answer, word),
         None => false,
     }
@@ -166,8 +166,8 @@ fn job_again(alloc: Global, case: &Case) -> Result<(Job<'_>, Keeper<'_>), Fail>
 /// The answers of a piece are those told, and its first process is this one.
 fn expect_piece(rt: &impl Abort, piece: &Piece<'_>, process: ProcessId) {
     assert_eq!(rt; piece.processes().first().copied(), Some(process));
-    for (place, answer) in piece.answers() {
-        assert!(rt; is_answer(*place as usize, answer), "{answer:?} at {place}");
+    for (index, answer) in piece.answers() {
+        assert!(rt; is_answer(*index as usize, answer), "{answer:?} at {index}");
     }
 }
 
@@ -217,15 +217,15 @@ fn judged_again<'c>(
     }
 }
 
-/// Whether a piece has the processes that the hand leaves, and answers at the places of their records.
+/// Whether a piece has the processes that the hand leaves, and answers at the indices of their records.
 fn are_judged(piece: &Piece<'_>) -> bool {
     piece.processes() == JUDGED.as_slice()
-        && piece.answers().len() == PLACES.len()
+        && piece.answers().len() == INDICES.len()
         && piece
             .answers()
             .iter()
-            .zip(PLACES)
-            .all(|(answer, place)| answer.0 == place)
+            .zip(INDICES)
+            .all(|(answer, index)| answer.0 == index)
 }
 
 /// The processes are shared out between the piece and the hand as the hand wants.

@@ -59,8 +59,8 @@ fn is_listed(
 fn the_worked_tree(rt: HostRuntime) -> Result<(), Fail> {
     let tree = Tree::read(rt.alloc(), TREE.as_bytes())?;
     assert_eq!(rt; tree.nodes(), 8);
-    for (place, object) in OBJECTS.iter().enumerate() {
-        assert!(rt; is_listed(&tree, place + 1, *object)?, "{place}");
+    for (index, object) in OBJECTS.iter().enumerate() {
+        assert!(rt; is_listed(&tree, index + 1, *object)?, "{index}");
     }
     Ok(())
 }

@@ -88,8 +88,8 @@ fn picked(
 ) -> Result<NodeId, Fail>
     ensures { IfOk result (IsNode tree.now) }
 {
-    let place = numbers.next() as usize % first.max(1);
-    let path = paths.get(place.max(1)).ok_or("there is a path")?;
+    let index = numbers.next() as usize % first.max(1);
+    let path = paths.get(index.max(1)).ok_or("there is a path")?;
     node_named(tree, path)
 }
 
@@ -167,12 +167,12 @@ fn stack(
 }
 
 /// The numbers of a set of layers, as a plain answer has them.
-fn places_of(set: LayerSet) -> Refusing {
-    let mut places = [false; 16];
-    for place in 0..16u32 {
-        places[place as usize] = set.has(place + 1);
+fn marks_of(set: LayerSet) -> Refusing {
+    let mut marks = [false; 16];
+    for index in 0..16u32 {
+        marks[index as usize] = set.has(index + 1);
     }
-    places
+    marks
 }
 
 /// How many layers refuse.
@@ -201,7 +201,7 @@ fn paths_agree(both: &Both<'_>, node: NodeId, wanted: Fs) -> bool
         wanted,
     );
     let nodes = u64::from(lanes.tree.depth(node)) + 1;
-    places_of(set) == refusing(lanes.tree, &both.plain, node, wanted)
+    marks_of(set) == refusing(lanes.tree, &both.plain, node, wanted)
         && counted == set
         && look_ups <= nodes.saturating_mul(lanes.domain.layers().len() as u64)
         && look_ups >= nodes.saturating_mul(count_of(set))
@@ -237,7 +237,7 @@ fn plainly(verdict: Verdict) -> (Option<(Errno, Refusing)>, u64) {
             } else {
                 0
             };
-            (Some((error, places_of(set))), denying)
+            (Some((error, marks_of(set))), denying)
         }
     }
 }

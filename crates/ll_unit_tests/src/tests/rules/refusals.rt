@@ -137,8 +137,8 @@ fn is_bound(layers: &[Layer], port: u16) -> Result<bool, Fail> {
 /// Which of the ports layers let be bound to.
 fn bound_by(layers: &[Layer]) -> Result<[bool; 4], Fail> {
     let mut bound = [false; 4];
-    for (place, port) in PORTS.iter().enumerate() {
-        bound[place] = is_bound(layers, *port)?;
+    for (index, port) in PORTS.iter().enumerate() {
+        bound[index] = is_bound(layers, *port)?;
     }
     Ok(bound)
 }

@@ -13,7 +13,7 @@ returns-then-is_about_all-clause-finds g c =
     let finds : FindingValue → Bool → Type 0 = λ (finding : FindingValue) (explains : Bool). Finds explains case.tree case.abi case.records finding in
     let changes = c.in_ok-changes.changes in
     let base : FindingValue = c.self.inside.base.value in
-    let over : FindingValue = with_changes base changes.places changes.found in
+    let over : FindingValue = with_changes base changes.indices changes.found in
     subst (finds c.in_ok-over.field-0) (sym c.if-explains.true)
     (subst (λ (finding : FindingValue). finds finding true) (sym {b = over} c.in_ok-over.ensures)
     (by_changes_finds case base changes c.args.answers.items c.requires (search rules) (search rules)))
@@ -23,15 +23,15 @@ returns-then-is_about_all-clause-marks g c =
     let newer = c.self.inside in
     let changes = c.in_ok-changes.changes in
     let base : FindingValue = newer.base.value in
-    let over : FindingValue = with_changes base changes.places changes.found in
+    let over : FindingValue = with_changes base changes.indices changes.found in
     let marks : FindingValue → FindingValue → Type 0 = λ (finding : FindingValue) (other : FindingValue).
     MarksUnless (λ at. FindsAs finding at other) c.args.marks.now.items c.mark_all-then-is_about_all.new.marks.items in
-    let unlisted : List Bool → List Bool → List ℕ → Type 0 = λ (before : List Bool) (after : List Bool) (places : List ℕ).
-    MarksUnless (λ at. All (λ (place : ℕ). place ≢ at) places) before after in
+    let unlisted : List Bool → List Bool → List ℕ → Type 0 = λ (before : List Bool) (after : List Bool) (indices : List ℕ).
+    MarksUnless (λ at. All (λ (index : ℕ). index ≢ at) indices) before after in
     subst (marks c.in_ok-over.field-0) c.self.view_is
-    (subst (λ (finding : FindingValue). marks finding (with_changes base newer.places newer.changes)) (sym {b = over} c.in_ok-over.ensures)
-    (both_marked base changes.found newer.changes changes.places newer.places c.args.marks.now.items c.mark_all.new.marks.items
+    (subst (λ (finding : FindingValue). marks finding (with_changes base newer.indices newer.changes)) (sym {b = over} c.in_ok-over.ensures)
+    (both_marked base changes.found newer.changes changes.indices newer.indices c.args.marks.now.items c.mark_all.new.marks.items
     c.mark_all-then-is_about_all.new.marks.items
-    (subst (unlisted c.args.marks.now.items c.mark_all.new.marks.items) (ap (λ (all : ChangesValue). all.places) c.changes.view_is)
+    (subst (unlisted c.args.marks.now.items c.mark_all.new.marks.items) (ap (λ (all : ChangesValue). all.indices) c.changes.view_is)
     (subst (unlisted c.args.marks.now.items c.mark_all.new.marks.items) c.deref-then-is_about_all-3.ensures.value c.mark_all.ensures))
     (subst (unlisted c.mark_all.new.marks.items c.mark_all-then-is_about_all.new.marks.items) c.as_slice.ensures c.mark_all-then-is_about_all.ensures)))

@@ -1,7 +1,7 @@
 use Rattle.std.proofs.Common.{◌≡◌, ◌∙◌, ◌<◌, ◌≤◌, List, ℕ, ap, arith, false, length, map, subst, sym, true}
 use Rattle.ll_trace.specs.declared.reader.TheConstants.{MOST_RECORDS}
 use Rattle.ll_trace.specs.declared.op.Record.{Record}
-use Rattle.ll_trails.proofs.AtPlaces.{read_there}
+use Rattle.ll_trails.proofs.AtIndices.{read_there}
 use Rattle.ll_explain.specs.Buffers.{adding}
 use Rattle.ll_report.specs.Scratches.{AreComparable, ScratchValue, told_under, verdict_told}
 use Rattle.ll_report.specs.Rows.{is_row_left_out}
@@ -11,64 +11,64 @@ use Rattle.ll_json.specs.Telling.{answer_at, members_told}
 use Rattle.ll_json.proofs.RowsMade.{among, as_many, line_added, nothing_added}
 use Rattle.ll_json.proofs.report.JsonRowsRows.push_row.Goals as goal
 
-pub bounds-records-place : goal.bounds-records-place
-bounds-records-place c =
+pub bounds-records-index : goal.bounds-records-index
+bounds-records-index c =
     let rows = c.self.inside in
-    subst (λ (n : ℕ). c.args.place < n)
+    subst (λ (n : ℕ). c.args.index < n)
     (as_many rows.shown rows.oldest rows.located.tree rows.located.trace rows.findings rows.program.now c.args.self.now c.self.view_is
     ∙ ap (λ (rs : List Record). length rs) (sym c.records-records.ensures.value)) c.requires
 
-pub offset_bounds-records-place : goal.offset_bounds-records-place
-offset_bounds-records-place c =
+pub offset_bounds-records-index : goal.offset_bounds-records-index
+offset_bounds-records-index c =
     let rows = c.self.inside in
     let few : length rows.located.trace ≤ MOST_RECORDS = c.records-records.ensures.few in
     let below = among rows.shown rows.oldest rows.located.tree rows.located.trace rows.findings rows.program.now c.args.self.now c.self.view_is
-    c.args.place c.requires in
+    c.args.index c.requires in
     omega (arith, few, below)
 
 pub is_left_out-requires : goal.is_left_out-requires
 is_left_out-requires c =
     let rows = c.self.inside in
     let below = among rows.shown rows.oldest rows.located.tree rows.located.trace rows.findings rows.program.now c.args.self.now c.self.view_is
-    c.args.place c.requires in
-    subst (λ (texts : List (List ℕ)). AreComparable 0 rows.scratch c.args.place texts)
-    (ap (λ (records : List Record). told_under verdict_told rows.located.tree records rows.findings c.args.place) (sym c.records-records.ensures.value))
-    (c.self.invariant.1.verdicts c.args.place below)
+    c.args.index c.requires in
+    subst (λ (texts : List (List ℕ)). AreComparable 0 rows.scratch c.args.index texts)
+    (ap (λ (records : List Record). told_under verdict_told rows.located.tree records rows.findings c.args.index) (sym c.records-records.ensures.value))
+    (c.self.invariant.1.verdicts c.args.index below)
 
 pub returns-then-is_left_out-clause-row : goal.returns-then-is_left_out-clause-row
 returns-then-is_left_out-clause-row c =
     let rows = c.self.inside in
     let below = among rows.shown rows.oldest rows.located.tree rows.located.trace rows.findings rows.program.now c.args.self.now c.self.view_is
-    c.args.place c.requires in
-    let there = read_there rows.located.trace c.records-records.result.now c.args.place c.index-records-place.result
-    c.records-records.ensures.value below c.index-records-place.is in
-    let out : is_row_left_out rows.shown (answers_in rows.findings) c.args.place ≡ true =
+    c.args.index c.requires in
+    let there = read_there rows.located.trace c.records-records.result.now c.args.index c.index-records-index.result
+    c.records-records.ensures.value below c.index-records-index.is in
+    let out : is_row_left_out rows.shown (answers_in rows.findings) c.args.index ≡ true =
     sym c.is_left_out.ensures.out ∙ c.if-is_left_out.true in
     nothing_added rows.shown rows.oldest rows.located.tree rows.located.trace rows.findings rows.program.now c.args.self.now c.self.view_is
-    c.args.place c.index-records-place.result there c.args.text.now out
+    c.args.index c.index-records-index.result there c.args.text.now out
 
 pub push_line-requires-clause-comparable : goal.push_line-requires-clause-comparable
 push_line-requires-clause-comparable c =
     let rows = c.self.inside in
     let below = among rows.shown rows.oldest rows.located.tree rows.located.trace rows.findings rows.program.now c.args.self.now c.self.view_is
-    c.args.place c.requires in
+    c.args.index c.requires in
     let told : List Record → List (List ℕ) =
-    λ (records : List Record). told_under (members_told rows.shown.explanations) rows.located.tree records rows.findings c.args.place in
-    subst (λ (scratch : ScratchValue). AreComparable answer_at scratch c.args.place (told c.records-records.result.now)) (sym c.is_left_out.ensures.scratch)
-    (subst (λ (texts : List (List ℕ)). AreComparable answer_at rows.scratch c.args.place texts) (ap told (sym c.records-records.ensures.value))
-    (c.self.invariant.1.texts c.args.place below))
+    λ (records : List Record). told_under (members_told rows.shown.explanations) rows.located.tree records rows.findings c.args.index in
+    subst (λ (scratch : ScratchValue). AreComparable answer_at scratch c.args.index (told c.records-records.result.now)) (sym c.is_left_out.ensures.scratch)
+    (subst (λ (texts : List (List ℕ)). AreComparable answer_at rows.scratch c.args.index texts) (ap told (sym c.records-records.ensures.value))
+    (c.self.invariant.1.texts c.args.index below))
 
 pub returns-clause-row : goal.returns-clause-row
 returns-clause-row c =
     let rows = c.self.inside in
     let below = among rows.shown rows.oldest rows.located.tree rows.located.trace rows.findings rows.program.now c.args.self.now c.self.view_is
-    c.args.place c.requires in
-    let r = c.index-records-place.result in
-    let there = read_there rows.located.trace c.records-records.result.now c.args.place r c.records-records.ensures.value below c.index-records-place.is in
-    let out : is_row_left_out rows.shown (answers_in rows.findings) c.args.place ≡ false =
+    c.args.index c.requires in
+    let r = c.index-records-index.result in
+    let there = read_there rows.located.trace c.records-records.result.now c.args.index r c.records-records.ensures.value below c.index-records-index.is in
+    let out : is_row_left_out rows.shown (answers_in rows.findings) c.args.index ≡ false =
     sym c.is_left_out.ensures.out ∙ c.if-is_left_out.false in
     line_added rows.shown rows.oldest rows.located.tree rows.located.trace rows.findings rows.program.now c.args.self.now c.self.view_is
-    c.args.place r there c.args.text.now _ out
+    c.args.index r there c.args.text.now _ out
     (c.push_line.ensures.text ∙ ap (λ (records : List Record).
-    adding c.args.text.now (line_of rows.oldest r (map (said_of rows.shown.explanations rows.located.tree records c.args.place) rows.findings)))
+    adding c.args.text.now (line_of rows.oldest r (map (said_of rows.shown.explanations rows.located.tree records c.args.index) rows.findings)))
     c.records-records.ensures.value)

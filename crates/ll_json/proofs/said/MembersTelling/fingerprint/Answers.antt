@@ -10,4 +10,4 @@ pub returns : goal.returns
 returns c =
     let s = c.args.saying.now in
     c.verdict_fingerprint.ensures ∙ ap (λ (answer : Answer). fingerprint_of 0 (verdict_text (verdict_of answer))) c.answer.ensures
-    ∙ told_by_answer true s.tree.now s.records.now s.finding.now s.place
+    ∙ told_by_answer true s.tree.now s.records.now s.finding.now s.index

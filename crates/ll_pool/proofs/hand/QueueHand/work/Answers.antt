@@ -1,5 +1,5 @@
 -- A worker's account is whole before and after each job that it takes.
-use Rattle.std.proofs.Common.{◌≡◌, [], ◌∙◌, refl, sym, ap, subst, arith, rules}
+use Rattle.std.proofs.Common.{[], ◌∙◌, refl, sym, ap, subst, rules}
 use Rattle.crossbeam_queue.specs.Passes.{view}
 use Rattle.ll_pool.specs.declared.queue.Ledger.{Ledger}
 use Rattle.ll_pool.specs.Accounts.{IsAccount}

@@ -16,6 +16,6 @@ in_range xs from end at x low high there =
     ∙ get_or-drop from xs (at - from) x ∙ ap (λ (k : ℕ). get_or xs k x) back ∙ get_or_from_slice_get xs at x x there))
 
 pub invariant_of-result-clause-calm : goal.invariant_of-result-clause-calm
-invariant_of-result-clause-calm c = λ calm at place low high there.
-    c.forks_among.ensures calm (at - c.args.from) place
-    (in_range c.args.self.places.now c.args.from (c.min.result + c.args.from) at place low high there)
+invariant_of-result-clause-calm c = λ calm at index low high there.
+    c.forks_among.ensures calm (at - c.args.from) index
+    (in_range c.args.self.indices.now c.args.from (c.min.result + c.args.from) at index low high there)

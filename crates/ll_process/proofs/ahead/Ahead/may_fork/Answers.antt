@@ -8,5 +8,5 @@ returns-clause-known c = search rules
 pub returns-clause-case : goal.returns-clause-case
 returns-clause-case c = search rules
 
-pub returns-clause-places : goal.returns-clause-places
-returns-clause-places c = search rules
+pub returns-clause-indices : goal.returns-clause-indices
+returns-clause-indices c = search rules

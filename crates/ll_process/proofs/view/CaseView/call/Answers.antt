@@ -6,43 +6,43 @@ use Rattle.ll_process.proofs.PastCases.{as_many_viewed, few_before, process_view
 use Rattle.ll_process.proofs.view.CaseView.call.Goals.{in-Some, in-None}
 use Rattle.ll_process.proofs.view.CaseView.call.Goals as goal
 
-pub offset_bounds-records-place : goal.offset_bounds-records-place
-offset_bounds-records-place c =
-    let small = few_before c.self.inside.case.now _ _ c.self.view_is c.self.inside.records.now c.args.place in
+pub offset_bounds-records-index : goal.offset_bounds-records-index
+offset_bounds-records-index c =
+    let small = few_before c.self.inside.case.now _ _ c.self.view_is c.self.inside.records.now c.args.index in
     omega (arith, small c.self.inside.at_hand c.self.inside.few c.requires)
 
-pub bounds-records-place : goal.bounds-records-place
-bounds-records-place c =
+pub bounds-records-index : goal.bounds-records-index
+bounds-records-index c =
     omega (arith, c.requires, as_many_viewed c.self.inside.case.now _ _ c.self.view_is, ap (λ records. length records) c.self.inside.at_hand)
 
-pub overflow_cast-place : goal.overflow_cast-place
-overflow_cast-place c =
-    let small = few_before c.self.inside.case.now _ _ c.self.view_is c.self.inside.records.now c.args.place in
+pub overflow_cast-index : goal.overflow_cast-index
+overflow_cast-index c =
+    let small = few_before c.self.inside.case.now _ _ c.self.view_is c.self.inside.records.now c.args.index in
     omega (arith, small c.self.inside.at_hand c.self.inside.few c.requires)
 
 pub returns-clause-op : goal.returns-clause-op
 returns-clause-op c = λ r there.
     let case : CaseValue = c.self.inside.case.now in
-    let l : Record = c.index-records-place.result in
-    let at = read_at case _ _ c.self.view_is c.self.inside.records.now c.args.place l c.self.inside.at_hand c.requires c.index-records-place.is in
-    let same = same_viewed case _ _ c.self.view_is c.args.place l r at there in
+    let l : Record = c.index-records-index.result in
+    let at = read_at case _ _ c.self.view_is c.self.inside.records.now c.args.index l c.self.inside.at_hand c.requires c.index-records-index.is in
+    let same = same_viewed case _ _ c.self.view_is c.args.index l r at there in
     elim c.match-self.branch [
       | in-Some w ↦
           ap (λ op. op.now) w.op-is ∙ w.call-op.ensures
           ∙ ap (λ (one : Record). one.op)
-          (subst (λ past. viewed_record past c.args.place l ≡ r) (ap (λ past. option_map (λ p. p.now) past) w.in-Some.is) same)
+          (subst (λ past. viewed_record past c.args.index l ≡ r) (ap (λ past. option_map (λ p. p.now) past) w.in-Some.is) same)
       | in-None w ↦
           ap (λ op. op.now) w.op-is
           ∙ ap (λ (one : Record). one.op)
-          (subst (λ past. viewed_record past c.args.place l ≡ r) (ap (λ past. option_map (λ p. p.now) past) w.in-None.is) same)
+          (subst (λ past. viewed_record past c.args.index l ≡ r) (ap (λ past. option_map (λ p. p.now) past) w.in-None.is) same)
     ]
 
 pub returns-clause-process : goal.returns-clause-process
 returns-clause-process c = λ r there.
     let case : CaseValue = c.self.inside.case.now in
-    let l : Record = c.index-records-place.result in
-    let at = read_at case _ _ c.self.view_is c.self.inside.records.now c.args.place l c.self.inside.at_hand c.requires c.index-records-place.is in
-    process_viewed case _ _ c.self.view_is c.args.place l r at there
+    let l : Record = c.index-records-index.result in
+    let at = read_at case _ _ c.self.view_is c.self.inside.records.now c.args.index l c.self.inside.at_hand c.requires c.index-records-index.is in
+    process_viewed case _ _ c.self.view_is c.args.index l r at there
 
 pub returns-clause-few : goal.returns-clause-few
 returns-clause-few c =

@@ -7,20 +7,20 @@ use Rattle.ll_report.specs.Report as words
 use Rattle.ll_report.proofs.LinesLeft.{one_more_counted}
 use Rattle.ll_report.proofs.report.Totals.of.Goals as goal
 
-pub loop-place-preserved : goal.loop-place-preserved
-loop-place-preserved c =
+pub loop-index-preserved : goal.loop-index-preserved
+loop-index-preserved c =
     let answers = c.args.finding.now.answers in
-    let place = c.loop-place.place in
-    let within : place < length answers = omega (arith, c.loop-place-test.true, c.loop-place.auto.place-end, c.count-place-end.ensures) in
-    let next : (test : Answer → Bool) (count : ℕ) (is : Bool) (more : ℕ) → count ≡ count_by test (take place answers) → is ≡ test c.answer-answer.result
-    → more ≡ cond is 1 0 → count + more ≡ count_by test (take (place + 1) answers) =
-    λ test count is more counted. one_more_counted test answers place Moot c.answer-answer.result count is more within counted c.answer-answer.ensures in
+    let index = c.loop-index.index in
+    let within : index < length answers = omega (arith, c.loop-index-test.true, c.loop-index.auto.index-end, c.count-index-end.ensures) in
+    let next : (test : Answer → Bool) (count : ℕ) (is : Bool) (more : ℕ) → count ≡ count_by test (take index answers) → is ≡ test c.answer-answer.result
+    → more ≡ cond is 1 0 → count + more ≡ count_by test (take (index + 1) answers) =
+    λ test count is more counted. one_more_counted test answers index Moot c.answer-answer.result count is more within counted c.answer-answer.ensures in
     record {
-      all = ap (λ n. n + 1) c.loop-place.invariant.all;
-      allowed = next (λ answer. words.is_allowed (verdict_of answer)) c.loop-place.totals.allowed c.is_allowed.result c.one_if.result
-          c.loop-place.invariant.allowed c.is_allowed.ensures c.one_if.ensures;
-      refused = next (λ answer. words.is_refused (verdict_of answer)) c.loop-place.totals.refused c.is_refused.result c.one_if-in-loop-place.result
-          c.loop-place.invariant.refused c.is_refused.ensures c.one_if-in-loop-place.ensures;
-      moot = next (λ answer. words.is_moot (verdict_of answer)) c.loop-place.totals.moot c.is_moot.result c.one_if-in-loop-place-2.result
-          c.loop-place.invariant.moot c.is_moot.ensures c.one_if-in-loop-place-2.ensures;
+      all = ap (λ n. n + 1) c.loop-index.invariant.all;
+      allowed = next (λ answer. words.is_allowed (verdict_of answer)) c.loop-index.totals.allowed c.is_allowed.result c.one_if.result
+          c.loop-index.invariant.allowed c.is_allowed.ensures c.one_if.ensures;
+      refused = next (λ answer. words.is_refused (verdict_of answer)) c.loop-index.totals.refused c.is_refused.result c.one_if-in-loop-index.result
+          c.loop-index.invariant.refused c.is_refused.ensures c.one_if-in-loop-index.ensures;
+      moot = next (λ answer. words.is_moot (verdict_of answer)) c.loop-index.totals.moot c.is_moot.result c.one_if-in-loop-index-2.result
+          c.loop-index.invariant.moot c.is_moot.ensures c.one_if-in-loop-index-2.ensures;
     }

@@ -16,32 +16,32 @@ returns-then-is_apart_left_out-clause-text c =
     let row = c.args.self.now in
     let s = row.sayings in
     adding_nothing c.args.text.now
-    ∙ ap (adding c.args.text.now) (apart_out row.shown row.oldest s.tree.now s.records.now s.findings.now s.place row.record.now
+    ∙ ap (adding c.args.text.now) (apart_out row.shown row.oldest s.tree.now s.records.now s.findings.now s.index row.record.now
     (sym c.is_apart_left_out.ensures.out ∙ c.if-is_apart_left_out.true))
 
 pub returns-then-self-clause-text : goal.returns-then-self-clause-text
 returns-then-self-clause-text c =
     let row = c.args.self.now in
     let s = row.sayings in
-    let answers : List ℕ = versions_text Answers row.oldest (told_under verdict_told s.tree.now s.records.now s.findings.now s.place) in
-    let texts : List ℕ = versions_text Explanations row.oldest (told_under text_told s.tree.now s.records.now s.findings.now s.place) in
+    let answers : List ℕ = versions_text Answers row.oldest (told_under verdict_told s.tree.now s.records.now s.findings.now s.index) in
+    let texts : List ℕ = versions_text Explanations row.oldest (told_under text_told s.tree.now s.records.now s.findings.now s.index) in
     appended_4 c.args.text.now c.push_record.new.text c.push_versions.new.text c.push_words.new.text c.push_versions-then-self.new.text
     (told_of row.record.now) answers (codes "\n") texts
     (c.push_record.ensures ∙ ap (λ (op : List ℕ). adding c.args.text.now (record_text row.record.now.line row.record.now.pid op)) c.name.ensures)
     c.push_versions.ensures.text c.push_words.ensures c.push_versions-then-self.ensures.text
-    ∙ ap (adding c.args.text.now) (apart_shown row.shown row.oldest s.tree.now s.records.now s.findings.now s.place row.record.now texts
+    ∙ ap (adding c.args.text.now) (apart_shown row.shown row.oldest s.tree.now s.records.now s.findings.now s.index row.record.now texts
     (sym c.is_apart_left_out.ensures.out ∙ c.if-is_apart_left_out.false)
-    (behind_told row.shown.explanations row.oldest s.tree.now s.records.now s.findings.now s.place c.if-self.true))
+    (behind_told row.shown.explanations row.oldest s.tree.now s.records.now s.findings.now s.index c.if-self.true))
 
 pub returns-else-self-clause-text : goal.returns-else-self-clause-text
 returns-else-self-clause-text c =
     let row = c.args.self.now in
     let s = row.sayings in
-    let answers : List ℕ = versions_text Answers row.oldest (told_under verdict_told s.tree.now s.records.now s.findings.now s.place) in
+    let answers : List ℕ = versions_text Answers row.oldest (told_under verdict_told s.tree.now s.records.now s.findings.now s.index) in
     appended_4 c.args.text.now c.push_record.new.text c.push_versions.new.text c.push_words.new.text c.push_words.new.text
     (told_of row.record.now) answers (codes "\n") []
     (c.push_record.ensures ∙ ap (λ (op : List ℕ). adding c.args.text.now (record_text row.record.now.line row.record.now.pid op)) c.name.ensures)
     c.push_versions.ensures.text c.push_words.ensures (adding_nothing c.push_words.new.text)
-    ∙ ap (adding c.args.text.now) (apart_shown row.shown row.oldest s.tree.now s.records.now s.findings.now s.place row.record.now []
+    ∙ ap (adding c.args.text.now) (apart_shown row.shown row.oldest s.tree.now s.records.now s.findings.now s.index row.record.now []
     (sym c.is_apart_left_out.ensures.out ∙ c.if-is_apart_left_out.false)
     (behind_none row.shown.explanations _ c.if-self.false))

@@ -11,6 +11,6 @@ returns c =
     let rows = c.self.inside in
     let records : List Record = rows.located.trace in
     ap (λ (rs : List Record). length rs) c.records.ensures.value
-    ∙ sym (length-rows (λ place r. row_text rows.shown rows.oldest
-    (founds_in rows.shown.explanations rows.located.tree records rows.findings) place (told_of r)) 0 records)
+    ∙ sym (length-rows (λ index r. row_text rows.shown rows.oldest
+    (founds_in rows.shown.explanations rows.located.tree records rows.findings) index (told_of r)) 0 records)
     ∙ ap (λ (m : Made). length m.shown) c.self.view_is

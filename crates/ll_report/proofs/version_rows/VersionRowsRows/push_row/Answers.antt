@@ -14,22 +14,22 @@ returns-in-Some-clause-row c =
     let rows = c.self.inside in
     let records : List Record = rows.located.trace in
     let founds : List Found = founds_in rows.shown.explanations rows.located.tree records rows.findings in
-    let row = found_row (λ k r. row_text rows.shown rows.oldest founds k (told_of r)) c.args.place records c.records-records.result.now
+    let row = found_row (λ k r. row_text rows.shown rows.oldest founds k (told_of r)) c.args.index records c.records-records.result.now
     (totals_from rows.oldest founds) c.in-Some.record.now c.records-records.ensures.value
     c.in-Some.ensures.lookup.0 c.in-Some.ensures.lookup.1 in
     c.push_to.ensures.text
     ∙ ap (λ (rs : List Record). adding c.args.text.now (row_text rows.shown rows.oldest
-    (founds_in rows.shown.explanations rows.located.tree rs rows.findings) c.args.place (told_of c.in-Some.record.now))) c.records-records.ensures.value
+    (founds_in rows.shown.explanations rows.located.tree rs rows.findings) c.args.index (told_of c.in-Some.record.now))) c.records-records.ensures.value
     ∙ ap (adding c.args.text.now) (sym row)
-    ∙ ap (λ (m : Made). adding c.args.text.now (row_at m c.args.place)) c.self.view_is
+    ∙ ap (λ (m : Made). adding c.args.text.now (row_at m c.args.index)) c.self.view_is
 
 pub returns-in_default-clause-row : goal.returns-in_default-clause-row
 returns-in_default-clause-row c =
     let rows = c.self.inside in
     let records : List Record = rows.located.trace in
     let founds : List Found = founds_in rows.shown.explanations rows.located.tree records rows.findings in
-    let none = no_row (λ k r. row_text rows.shown rows.oldest founds k (told_of r)) c.args.place records c.records-records.result.now
+    let none = no_row (λ k r. row_text rows.shown rows.oldest founds k (told_of r)) c.args.index records c.records-records.result.now
     (totals_from rows.oldest founds) c.records-records.ensures.value c.in_default.ensures.lookup.0 in
     adding_nothing c.args.text.now
     ∙ ap (adding c.args.text.now) (sym none)
-    ∙ ap (λ (m : Made). adding c.args.text.now (row_at m c.args.place)) c.self.view_is
+    ∙ ap (λ (m : Made). adding c.args.text.now (row_at m c.args.index)) c.self.view_is

@@ -13,7 +13,7 @@ pub returns : goal.returns
 returns c = IfOk-weaker c.added.result _ _ (λ outcome is.
     settles_rule c.args.process _ c.args.self.now c.requires.sound c.args.rs _ _
     (path_adds c.args.self.now.tree.now c.args.self.now.abi c.args.rs c.args.path.now c.args.fs)
-    c.in-Some.place (sym c.in-Some.ensures) c.add_path.new.self _ c.add_path.result outcome
+    c.in-Some.index (sym c.in-Some.ensures) c.add_path.new.self _ c.add_path.result outcome
     (rw (c.place_of-spot.ensures.place, c.as_str.ensures.text) at c.add_path.ensures) is
     (λ one next was. path_stays c.args.self.now.tree.now one next _ c.args.fs))
     c.added.ensures

@@ -15,7 +15,7 @@ pub returns : goal.returns
 returns c = IfOk-weaker c.added.result _ _ (λ outcome is.
     settles_rule c.args.process _ c.args.self.now c.requires.sound c.args.rs _ _
     (port_adds c.args.self.now.tree.now c.args.self.now.abi c.args.rs c.args.port c.args.net)
-    c.in-Some.place (sym c.in-Some.ensures) c.add_port.new.self _ c.add_port.result outcome c.add_port.ensures is (λ one next was added.
+    c.in-Some.index (sym c.in-Some.ensures) c.add_port.new.self _ c.add_port.result outcome c.add_port.ensures is (λ one next was added.
     port_stays c.args.self.now.tree.now one next c.args.port c.args.net added
-    (all_there (AreInTree c.args.self.now.tree.now) c.args.self.now.store.rulesets c.in-Some.place one c.requires.sound.rulesets was)))
+    (all_there (AreInTree c.args.self.now.tree.now) c.args.self.now.store.rulesets c.in-Some.index one c.requires.sound.rulesets was)))
     c.added.ensures

@@ -20,8 +20,8 @@ pub returns : goal.returns
 unfolding is_on_rulesets answer effect OutcomeFits answer_to
 returns c =
     settles_tables c.args.process (calls.CloseRs c.args.rs) c.args.self.now c.requires.sound c.hold.new.self _ _ _ (Answered Allowed) c.in_ok-hold.ensures
-    (λ q place is. held_there c.args.rs _ q place None (held_by c.args.self.now.tables.held.items c.args.process) is (λ none. cc)
-    (c.requires.sound.places c.args.process q place))
+    (λ q index is. held_there c.args.rs _ q index None (held_by c.args.self.now.tables.held.items c.args.process) is (λ none. cc)
+    (c.requires.sound.indices c.args.process q index))
     (λ w agrees. (refl, sym (rw (sym (agrees.held c.args.process c.args.rs) ∙ sym c.in-Some.ensures) refl)))
     (λ w agrees. rw (sym (agrees.held c.args.process c.args.rs) ∙ sym c.in-Some.ensures) refl)
     (λ w agrees. (

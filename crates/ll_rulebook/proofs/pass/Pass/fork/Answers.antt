@@ -11,5 +11,5 @@ pub returns : goal.returns
 unfolding is_on_rulesets enforced answer effect OutcomeFits
 returns c = λ child.
     settles_tables c.args.process (calls.Fork child) c.args.self.now c.requires.sound c.fork.new.self _ _ _ ByState c.in_ok-fork.ensures
-    (c.requires.sound.places c.args.process) (λ w agrees. (refl, refl)) (λ w agrees. refl)
+    (c.requires.sound.indices c.args.process) (λ w agrees. (refl, refl)) (λ w agrees. refl)
     (λ w agrees. (w.processes c.args.process, w.count + 1, w.count, ap (λ (n : ℕ). n + 1) agrees.count, agrees.count, agrees.held c.args.process, refl))

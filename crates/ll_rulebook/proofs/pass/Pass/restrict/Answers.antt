@@ -17,6 +17,6 @@ returns-in-None c =
 pub returns-in_ok-freeze-in-Some : goal.returns-in_ok-freeze-in-Some
 unfolding enforced effect
 returns-in_ok-freeze-in-Some c =
-    settles_frozen c.args.process (calls.Restrict c.args.rs) c.args.self.now c.requires.sound c.freeze.new.self c.in-Some.place _ (λ rulesets s. refl)
-    (c.requires.sound.places c.args.process c.args.rs c.in-Some.place (sym c.in-Some.ensures)) c.in_ok-freeze-in-Some.ensures
+    settles_frozen c.args.process (calls.Restrict c.args.rs) c.args.self.now c.requires.sound c.freeze.new.self c.in-Some.index _ (λ rulesets s. refl)
+    (c.requires.sound.indices c.args.process c.args.rs c.in-Some.index (sym c.in-Some.ensures)) c.in_ok-freeze-in-Some.ensures
     (λ w agrees. rw (sym (agrees.held c.args.process c.args.rs) ∙ sym c.in-Some.ensures) refl)

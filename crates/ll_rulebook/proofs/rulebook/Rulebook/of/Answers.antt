@@ -17,7 +17,7 @@ settled_none tree abi records pass of_tree of_abi rulesets layers tables = recor
   of_tree = of_tree;
   of_abi = of_abi;
   sound = record {
-    places = λ p q eq is. absurd (let none : held_by pass.tables.held.items p q ≡ None = rw tables refl in cc);
+    indices = λ p q eq is. absurd (let none : held_by pass.tables.held.items p q ≡ None = rw tables refl in cc);
     rulesets = rw rulesets (λ k default within. absurd (omega arith));
     layers = rw layers (λ k default within. absurd (omega arith));
   };

@@ -6,12 +6,12 @@ use Rattle.ll_rules.specs.Lanes.{lane, stacked}
 use Rattle.ll_rules.proofs.domain.Stack.ask_on.Given as goal
 
 -- the layers so far were asked, and the other lanes are as they were
-abbrev pub invariant-loop-place : goal.invariant-loop-place
-invariant-loop-place l = record {
+abbrev pub invariant-loop-index : goal.invariant-loop-index
+invariant-loop-index l = record {
   long : length l.lanes ≡ MOST_LAYERS;
-  so_far : (place : ℕ) → place < l.place → (right : FsRight)
-      → has (lane l.lanes place) right ≡ (has (lane l.fn.lanes place) right && not (granted_on_node (stacked l.self place) l.node right));
-  rest : (place : ℕ) → l.place ≤ place → get_or l.lanes place 0 ≡ get_or l.fn.lanes place 0;
-  none : (place : ℕ) → place < l.place → l.all ≡ 0 → get_or l.lanes place 0 ≡ 0;
-  count : l.look_ups ≤ l.place;
+  so_far : (index : ℕ) → index < l.index → (right : FsRight)
+      → has (lane l.lanes index) right ≡ (has (lane l.fn.lanes index) right && not (granted_on_node (stacked l.self index) l.node right));
+  rest : (index : ℕ) → l.index ≤ index → get_or l.lanes index 0 ≡ get_or l.fn.lanes index 0;
+  none : (index : ℕ) → index < l.index → l.all ≡ 0 → get_or l.lanes index 0 ≡ 0;
+  count : l.look_ups ≤ l.index;
 }

@@ -6,10 +6,10 @@ use Rattle.ll_rules.specs.Lanes.{set_of, stacked}
 use Rattle.ll_rules.proofs.domain.Stack.asked_in.Given as goal
 
 -- the lanes so far hold what their layers handle of what is wanted, and the others nothing
-abbrev pub invariant-loop-place : goal.invariant-loop-place
-invariant-loop-place l = record {
+abbrev pub invariant-loop-index : goal.invariant-loop-index
+invariant-loop-index l = record {
   long : length l.row ≡ MOST_LAYERS;
-  so_far : (place : ℕ) → place < l.place → (right : FsRight)
-      → has (set_of (get_or l.row place 0)) right ≡ (handles (stacked l.self place) right && has l.wanted right);
-  rest : (place : ℕ) → l.place ≤ place → get_or l.row place 0 ≡ 0;
+  so_far : (index : ℕ) → index < l.index → (right : FsRight)
+      → has (set_of (get_or l.row index 0)) right ≡ (handles (stacked l.self index) right && has l.wanted right);
+  rest : (index : ℕ) → l.index ≤ index → get_or l.row index 0 ≡ 0;
 }

@@ -13,40 +13,40 @@ use Rattle.ll_rules.proofs.domain.Stack.climb.Goals as goal
 
 -- of empty lanes nothing is left
 pub returns-then-not-is_any_filled-clause-left : goal.returns-then-not-is_any_filled-clause-left
-returns-then-not-is_any_filled-clause-left c = λ place right.
-    let rules = stacked c.args.self.now place in
-    let held = has (lane c.args.lanes.now place) right in
+returns-then-not-is_any_filled-clause-left c = λ index right.
+    let rules = stacked c.args.self.now index in
+    let held = has (lane c.args.lanes.now index) right in
     let begins = left_begins c.args.self.now.tree.now rules c.args.node right held in
-    elim (cases_lt place (length c.args.self.now.ids.now)) [
+    elim (cases_lt index (length c.args.self.now.ids.now)) [
       | inl inside ↦ left_nothing c.args.self.now.tree.now rules (Some c.args.node) right held _
-          (c.is_any_filled.ensures.none c.if-not-is_any_filled.true place inside right) begins
+          (c.is_any_filled.ensures.none c.if-not-is_any_filled.true index inside right) begins
       | inr past ↦ left_unasked c.args.self.now.tree.now rules (Some c.args.node) right held _
-          (layer_in-past c.args.self.now.layers.now c.args.self.now.ids.now place past) begins
+          (layer_in-past c.args.self.now.layers.now c.args.self.now.ids.now index past) begins
     ]
 
 pub loop-here-init : goal.loop-here-init
 loop-here-init c = record {
   inside = c.requires;
-  so_far = λ place right. left_begins c.args.self.now.tree.now (stacked c.args.self.now place) c.args.node right _;
+  so_far = λ index right. left_begins c.args.self.now.tree.now (stacked c.args.self.now index) c.args.node right _;
   count = omega (arith, count_begins c.args.self.now.tree.now c.args.node (length c.args.self.now.ids.now) 0);
 }
 
 -- once nothing is left, all that the lanes had is granted
 pub returns-then-not-is_any_left-clause-left : goal.returns-then-not-is_any_left-clause-left
-returns-then-not-is_any_left-clause-left c = λ place right.
+returns-then-not-is_any_left-clause-left c = λ index right.
     let here : IfSome (Some c.in-Some.here) (IsNode c.args.self.now.tree.now) = rw c.in-Some.is at c.next_marked.ensures.inside in
-    let rules = stacked c.args.self.now place in
-    let passed = left_passed c.args.self.now.tree.now rules c.loop-here.cursor c.next_marked.result right (has (lane c.loop-here.lanes place) right) _
-    (c.next_marked.ensures.passed place right) (c.loop-here.invariant.so_far place right) in
-    let so_far = left_goes_on c.args.self.now.tree.now rules c.in-Some.here c.parent-cursor.result right (has (lane c.loop-here.lanes place) right)
-    (has (lane c.ask_on-is_any_left.new.lanes place) right) _
-    c.parent-cursor.ensures.tree here (stacked-within c.args.self.now place) c.parent-cursor.ensures.root c.parent-cursor.ensures.front
-    (c.ask_on-is_any_left.ensures.left place right) (rw c.in-Some.is at passed) in
-    elim (cases_lt place (length c.args.self.now.ids.now)) [
-      | inl inside ↦ left_nothing c.args.self.now.tree.now rules c.parent-cursor.result right (has (lane c.ask_on-is_any_left.new.lanes place) right) _
-          (c.ask_on-is_any_left.ensures.none c.if-not-is_any_left.true place inside right) so_far
-      | inr past ↦ left_unasked c.args.self.now.tree.now rules c.parent-cursor.result right (has (lane c.ask_on-is_any_left.new.lanes place) right) _
-          (layer_in-past c.args.self.now.layers.now c.args.self.now.ids.now place past) so_far
+    let rules = stacked c.args.self.now index in
+    let passed = left_passed c.args.self.now.tree.now rules c.loop-here.cursor c.next_marked.result right (has (lane c.loop-here.lanes index) right) _
+    (c.next_marked.ensures.passed index right) (c.loop-here.invariant.so_far index right) in
+    let so_far = left_goes_on c.args.self.now.tree.now rules c.in-Some.here c.parent-cursor.result right (has (lane c.loop-here.lanes index) right)
+    (has (lane c.ask_on-is_any_left.new.lanes index) right) _
+    c.parent-cursor.ensures.tree here (stacked-within c.args.self.now index) c.parent-cursor.ensures.root c.parent-cursor.ensures.front
+    (c.ask_on-is_any_left.ensures.left index right) (rw c.in-Some.is at passed) in
+    elim (cases_lt index (length c.args.self.now.ids.now)) [
+      | inl inside ↦ left_nothing c.args.self.now.tree.now rules c.parent-cursor.result right (has (lane c.ask_on-is_any_left.new.lanes index) right) _
+          (c.ask_on-is_any_left.ensures.none c.if-not-is_any_left.true index inside right) so_far
+      | inr past ↦ left_unasked c.args.self.now.tree.now rules c.parent-cursor.result right (has (lane c.ask_on-is_any_left.new.lanes index) right) _
+          (layer_in-past c.args.self.now.layers.now c.args.self.now.ids.now index past) so_far
     ]
 
 pub returns-then-not-is_any_left-clause-count : goal.returns-then-not-is_any_left-clause-count
@@ -69,14 +69,14 @@ loop-here-preserved c =
     omega (arith, c.next_marked.ensures.count, c.loop-here.invariant.count) in
     record {
       inside = nodes_above c.args.self.now.tree.now c.in-Some.here c.parent-cursor.result c.parent-cursor.ensures.front;
-      so_far = λ place right.
-          let rules = stacked c.args.self.now place in
-          let passed = left_passed c.args.self.now.tree.now rules c.loop-here.cursor c.next_marked.result right (has (lane c.loop-here.lanes place) right) _
-          (c.next_marked.ensures.passed place right) (c.loop-here.invariant.so_far place right) in
-          left_goes_on c.args.self.now.tree.now rules c.in-Some.here c.parent-cursor.result right (has (lane c.loop-here.lanes place) right)
-          (has (lane c.ask_on-is_any_left.new.lanes place) right) _
-          c.parent-cursor.ensures.tree here (stacked-within c.args.self.now place) c.parent-cursor.ensures.root c.parent-cursor.ensures.front
-          (c.ask_on-is_any_left.ensures.left place right) (rw c.in-Some.is at passed);
+      so_far = λ index right.
+          let rules = stacked c.args.self.now index in
+          let passed = left_passed c.args.self.now.tree.now rules c.loop-here.cursor c.next_marked.result right (has (lane c.loop-here.lanes index) right) _
+          (c.next_marked.ensures.passed index right) (c.loop-here.invariant.so_far index right) in
+          left_goes_on c.args.self.now.tree.now rules c.in-Some.here c.parent-cursor.result right (has (lane c.loop-here.lanes index) right)
+          (has (lane c.ask_on-is_any_left.new.lanes index) right) _
+          c.parent-cursor.ensures.tree here (stacked-within c.args.self.now index) c.parent-cursor.ensures.root c.parent-cursor.ensures.front
+          (c.ask_on-is_any_left.ensures.left index right) (rw c.in-Some.is at passed);
       count =
           count_goes_on c.args.self.now.tree.now c.in-Some.here c.parent-cursor.result (length c.args.self.now.ids.now) c.next_marked.new.look_ups
           (c.next_marked.new.look_ups + c.ask_on-is_any_left.result.1) _
@@ -89,11 +89,11 @@ loop-here-smaller c =
     c.parent-cursor.ensures.exact c.parent-cursor.ensures.front (rw c.in-Some.is at c.next_marked.ensures.above)
 
 pub returns-clause-left : goal.returns-clause-left
-returns-clause-left c = λ place right.
-    let rules = stacked c.args.self.now place in
-    let passed = left_passed c.args.self.now.tree.now rules c.loop-here.cursor c.next_marked.result right (has (lane c.loop-here.lanes place) right) _
-    (c.next_marked.ensures.passed place right) (c.loop-here.invariant.so_far place right) in
-    left_ends c.args.self.now.tree.now rules right (has (lane c.loop-here.lanes place) right) _ (rw c.in_default.is at passed)
+returns-clause-left c = λ index right.
+    let rules = stacked c.args.self.now index in
+    let passed = left_passed c.args.self.now.tree.now rules c.loop-here.cursor c.next_marked.result right (has (lane c.loop-here.lanes index) right) _
+    (c.next_marked.ensures.passed index right) (c.loop-here.invariant.so_far index right) in
+    left_ends c.args.self.now.tree.now rules right (has (lane c.loop-here.lanes index) right) _ (rw c.in_default.is at passed)
 
 pub returns-clause-count : goal.returns-clause-count
 returns-clause-count c = omega (arith, c.loop-here.invariant.count, c.next_marked.ensures.count)

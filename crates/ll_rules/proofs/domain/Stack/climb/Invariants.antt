@@ -13,8 +13,8 @@ use Rattle.ll_rules.proofs.domain.Stack.climb.Given as goal
 abbrev pub invariant-loop-here : goal.invariant-loop-here
 invariant-loop-here l = record {
   inside : IfSome l.cursor (IsNode l.self.tree.now);
-  so_far : (place : ℕ) (right : FsRight) → left_above l.self.tree.now (stacked l.self place) l.cursor right (has (lane l.lanes place) right)
-      ≡ (has (lane l.fn.lanes place) right && not (granted (in_tree l.self.tree.now (stacked l.self place)) (path_at l.self.tree.now l.fn.node) right));
+  so_far : (index : ℕ) (right : FsRight) → left_above l.self.tree.now (stacked l.self index) l.cursor right (has (lane l.lanes index) right)
+      ≡ (has (lane l.fn.lanes index) right && not (granted (in_tree l.self.tree.now (stacked l.self index)) (path_at l.self.tree.now l.fn.node) right));
   count : l.look_ups + length l.self.ids.now * nodes_up l.self.tree.now l.cursor ≤ length l.self.ids.now * (depth_at l.self.tree.now l.fn.node + 1);
 }
 

@@ -8,8 +8,8 @@ use Rattle.ll_rules.proofs.domain.Stack.marked_of.Given as goal
 -- where a node has no mark so far, no layer so far has a rule on it
 abbrev pub invariant-loop-id : goal.invariant-loop-id
 invariant-loop-id l = record {
-  lower : (place : ℕ) → place < l.id-index → eqb (bit_at l.at_lower (l.lower.0 % 64)) 1 ≡ false → (right : FsRight)
-      → granted_on_node (stacked l.self place) l.lower right ≡ false;
-  upper : (place : ℕ) → place < l.id-index → eqb (bit_at l.at_upper (l.upper.0 % 64)) 1 ≡ false → (right : FsRight)
-      → granted_on_node (stacked l.self place) l.upper right ≡ false;
+  lower : (index : ℕ) → index < l.id-index → eqb (bit_at l.at_lower (l.lower.0 % 64)) 1 ≡ false → (right : FsRight)
+      → granted_on_node (stacked l.self index) l.lower right ≡ false;
+  upper : (index : ℕ) → index < l.id-index → eqb (bit_at l.at_upper (l.upper.0 % 64)) 1 ≡ false → (right : FsRight)
+      → granted_on_node (stacked l.self index) l.upper right ≡ false;
 }

@@ -36,13 +36,13 @@ returns-then-up_is-clause-above c =
     omega (arith, rw c.in-Some-parent.is at step, rw c.in-Some.is at c.loop-cursor.invariant.above)
 
 pub returns-then-up_is-clause-passed : goal.returns-then-up_is-clause-passed
-returns-then-up_is-clause-passed c = λ place right.
+returns-then-up_is-clause-passed c = λ index right.
     let here : IfSome (Some c.in-Some.here) (IsNode c.args.self.now.tree.now) = rw c.in-Some.is at c.loop-cursor.invariant.inside in
-    let within = stacked-within c.args.self.now place in
+    let within = stacked-within c.args.self.now index in
     let lower =
-    passed c.args.self.now.tree.now (stacked c.args.self.now place) c.in-Some.here c.parent.result right c.parent.ensures.tree here within
-    c.parent.ensures.root c.parent.ensures.front (c.marked_of-here_is.ensures.lower c.if-here_is.false place right) in
-    (rw c.in-Some-parent.is at lower) ∙ rw c.in-Some.is at c.loop-cursor.invariant.passed place right
+    passed c.args.self.now.tree.now (stacked c.args.self.now index) c.in-Some.here c.parent.result right c.parent.ensures.tree here within
+    c.parent.ensures.root c.parent.ensures.front (c.marked_of-here_is.ensures.lower c.if-here_is.false index right) in
+    (rw c.in-Some-parent.is at lower) ∙ rw c.in-Some.is at c.loop-cursor.invariant.passed index right
 
 pub returns-then-up_is-clause-count : goal.returns-then-up_is-clause-count
 returns-then-up_is-clause-count c =
@@ -72,17 +72,17 @@ loop-cursor-preserved c =
     record {
       inside = nodes_above c.args.self.now.tree.now c.in-Some-parent.up c.parent-cursor.result c.parent-cursor.ensures.front;
       above = omega (arith, rw c.in-Some-parent.is at lower_step, upper_step, rw c.in-Some.is at c.loop-cursor.invariant.above);
-      passed = λ place right.
-          let rules = stacked c.args.self.now place in
-          let within = stacked-within c.args.self.now place in
+      passed = λ index right.
+          let rules = stacked c.args.self.now index in
+          let within = stacked-within c.args.self.now index in
           let lower =
           passed c.args.self.now.tree.now rules c.in-Some.here c.parent.result right c.parent.ensures.tree here within c.parent.ensures.root
-          c.parent.ensures.front (c.marked_of-here_is.ensures.lower c.if-here_is.false place right) in
+          c.parent.ensures.front (c.marked_of-here_is.ensures.lower c.if-here_is.false index right) in
           passed c.args.self.now.tree.now rules c.in-Some-parent.up c.parent-cursor.result right
           c.parent-cursor.ensures.tree up within c.parent-cursor.ensures.root c.parent-cursor.ensures.front
-          (c.marked_of-here_is.ensures.upper c.if-up_is.false place right)
+          (c.marked_of-here_is.ensures.upper c.if-up_is.false index right)
           ∙ rw c.in-Some-parent.is at lower
-          ∙ rw c.in-Some.is at c.loop-cursor.invariant.passed place right;
+          ∙ rw c.in-Some.is at c.loop-cursor.invariant.passed index right;
       count =
           count_goes_on c.args.self.now.tree.now c.in-Some-parent.up c.parent-cursor.result (length c.args.self.now.ids.now)
           (c.loop-cursor.look_ups + c.count_filled-asked.result) (c.loop-cursor.look_ups + c.count_filled-asked.result + c.count_filled-asked.result) _

@@ -12,8 +12,8 @@ abbrev pub invariant-loop-cursor : goal.invariant-loop-cursor
 invariant-loop-cursor l = record {
   inside : IfSome l.cursor (IsNode l.self.tree.now);
   above : nodes_up l.self.tree.now l.cursor ≤ nodes_up l.self.tree.now l.fn.from;
-  passed : (place : ℕ) (right : FsRight)
-      → granted_above l.self.tree.now (stacked l.self place) l.cursor right ≡ granted_above l.self.tree.now (stacked l.self place) l.fn.from right;
+  passed : (index : ℕ) (right : FsRight)
+      → granted_above l.self.tree.now (stacked l.self index) l.cursor right ≡ granted_above l.self.tree.now (stacked l.self index) l.fn.from right;
   count : l.look_ups + length l.self.ids.now * nodes_up l.self.tree.now l.cursor ≤ l.fn.look_ups + length l.self.ids.now * nodes_up l.self.tree.now l.fn.from;
 }
 

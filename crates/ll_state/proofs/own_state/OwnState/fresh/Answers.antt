@@ -9,7 +9,7 @@ unfolding fresh
 returns c = λ tree layers. record {
   no_new_privs = refl;
   admin = refl;
-  places = rw c.new.ensures (λ k d below. absurd (omega arith));
+  indices = rw c.new.ensures (λ k d below. absurd (omega arith));
   domain = rw c.new.ensures tt;
   descriptors = λ fd. rw c.new-2.ensures (get-empty nat_cmp fd);
 }

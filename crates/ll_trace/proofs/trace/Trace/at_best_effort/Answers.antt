@@ -8,24 +8,24 @@ use Rattle.ll_trace.proofs.BestEffort.{are_records-kept, indexes-kept}
 use Rattle.ll_trace.proofs.Dropping.{all_left, one_less, none_left}
 use Rattle.ll_trace.proofs.trace.Trace.at_best_effort.Goals as goal
 
-pub loop-place-init : goal.loop-place-init
-loop-place-init c =
-    all_left c.args.abi c.self.inside.records.items c.deref-place-items.result.now
-    (subst (λ (places : List ℕ). HaveRights places c.self.inside.records.items) (sym c.deref-place-items.ensures.value) c.self.invariant.tables.rights)
+pub loop-index-init : goal.loop-index-init
+loop-index-init c =
+    all_left c.args.abi c.self.inside.records.items c.deref-index-items.result.now
+    (subst (λ (indices : List ℕ). HaveRights indices c.self.inside.records.items) (sym c.deref-index-items.ensures.value) c.self.invariant.tables.rights)
 
-pub loop-place-preserved : goal.loop-place-preserved
-loop-place-preserved c =
-    let places : List ℕ = c.deref-place-items.result.now in
-    let place : ℕ = get_or places c.loop-place.place-index 0 in
-    one_less c.args.abi c.self.inside.records.items c.loop-place.records.items c.drop_at.new.records.items places c.loop-place.place-index place
-    c.loop-place.invariant (slice_get-get_or places c.loop-place.place-index 0 c.loop-place-test.true)
+pub loop-index-preserved : goal.loop-index-preserved
+loop-index-preserved c =
+    let indices : List ℕ = c.deref-index-items.result.now in
+    let index : ℕ = get_or indices c.loop-index.index-index 0 in
+    one_less c.args.abi c.self.inside.records.items c.loop-index.records.items c.drop_at.new.records.items indices c.loop-index.index-index index
+    c.loop-index.invariant (slice_get-get_or indices c.loop-index.index-index 0 c.loop-index-test.true)
     c.drop_at.ensures
 
 pub invariant_of-result : goal.invariant_of-result
 invariant_of-result c =
-    let done : c.loop-place.records.items ≡ records_at_best_effort c.args.abi c.self.inside.records.items =
-    none_left c.args.abi c.self.inside.records.items c.loop-place.records.items c.deref-place-items.result.now c.loop-place.place-index
-    c.loop-place.invariant c.loop-place-test.false in
+    let done : c.loop-index.records.items ≡ records_at_best_effort c.args.abi c.self.inside.records.items =
+    none_left c.args.abi c.self.inside.records.items c.loop-index.records.items c.deref-index-items.result.now c.loop-index.index-index
+    c.loop-index.invariant c.loop-index-test.false in
     record {
       records = subst (λ (rs : List Record). AreRecords rs) (sym done) (are_records-kept c.args.abi c.self.inside.records.items c.self.invariant.records);
       tables = subst (λ (rs : List Record). Indexes c.self.inside.tables rs) (sym done)
@@ -34,6 +34,6 @@ invariant_of-result c =
 
 pub returns : goal.returns
 returns c =
-    none_left c.args.abi c.self.inside.records.items c.loop-place.records.items c.deref-place-items.result.now c.loop-place.place-index
-    c.loop-place.invariant c.loop-place-test.false
+    none_left c.args.abi c.self.inside.records.items c.loop-index.records.items c.deref-index-items.result.now c.loop-index.index-index
+    c.loop-index.invariant c.loop-index-test.false
     ∙ ap (records_at_best_effort c.args.abi) c.self.view_is

@@ -1,4 +1,4 @@
--- The places that are kept are those of all calls that name rights,
+-- The indices that are kept are those of all calls that name rights,
 -- and perhaps of other calls.
 use Rattle.std.proofs.Common.{◌≡◌, List, ℕ}
 use Rattle.ll_trace.proofs.trace.Trace.rights.Goals as goal

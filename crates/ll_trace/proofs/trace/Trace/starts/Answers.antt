@@ -15,11 +15,11 @@ overflow_cast-result c = omega (
 pub returns-in-Ok : goal.returns-in-Ok
 returns-in-Ok c =
     rw (← c.self.view_is)
-    (sym (start_found c.self.inside.tables.starts.items c.self.inside.records.items c.args.place (Ok c.in-Ok.process) c.self.invariant.tables.by_start
+    (sym (start_found c.self.inside.tables.starts.items c.self.inside.records.items c.args.index (Ok c.in-Ok.process) c.self.invariant.tables.by_start
     (rw c.deref.ensures.value at c.in-Ok.ensures.position)).1)
 
 pub returns-in-Err : goal.returns-in-Err
 returns-in-Err c =
     rw (← c.self.view_is)
-    (sym (start_found c.self.inside.tables.starts.items c.self.inside.records.items c.args.place (Err c.in-Err.field-0) c.self.invariant.tables.by_start
+    (sym (start_found c.self.inside.tables.starts.items c.self.inside.records.items c.args.index (Err c.in-Err.field-0) c.self.invariant.tables.by_start
     (rw c.deref.ensures.value at c.in-Err.ensures.position)))

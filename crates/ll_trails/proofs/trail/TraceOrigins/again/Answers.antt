@@ -1,6 +1,6 @@
 use Rattle.std.proofs.Common.{◌≡◌, ◌∙◌, ◌∷◌, ◌++◌, [], List, Some, ap, arith, length, slice_get, subst}
 use Rattle.ll_trails.specs.declared.trail.ProcessOrigins.{ProcessOrigins}
-use Rattle.ll_trails.proofs.AtPlaces.{read_there}
+use Rattle.ll_trails.proofs.AtIndices.{read_there}
 use Rattle.ll_trails.proofs.Trailing.{FollowAlike, all_alike, trail_alike}
 use Rattle.ll_trails.proofs.trail.TraceOrigins.again.Goals as goal
 

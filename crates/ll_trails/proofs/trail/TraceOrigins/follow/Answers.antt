@@ -2,15 +2,15 @@ use Rattle.std.proofs.Common.{◌∙◌, arith, sym, ap}
 use Rattle.ll_trace.specs.Entries.{is_start}
 use Rattle.ll_process.specs.Cases.{CaseValue}
 use Rattle.ll_reasons.specs.Origins.{sources_at}
-use Rattle.ll_trails.proofs.AtPlaces.{process_there, record_there, sources_at-next}
+use Rattle.ll_trails.proofs.AtIndices.{process_there, record_there, sources_at-next}
 use Rattle.ll_trails.proofs.trail.TraceOrigins.follow.Goals as goal
 
 -- src/trail.rt:167:9
 pub follow_by-requires : goal.follow_by-requires
 follow_by-requires c = λ goes.
     let cv : CaseValue = c.args.case.now in
-    let found = record_there cv.records c.args.place c.requires.place in
-    let there = process_there cv.tree cv.abi cv.records c.args.place found.0 c.call.ensures.case.numbered (omega (arith, c.requires.place)) found.1
+    let found = record_there cv.records c.args.index c.requires.index in
+    let there = process_there cv.tree cv.abi cv.records c.args.index found.0 c.call.ensures.case.numbered (omega (arith, c.requires.index)) found.1
     (ap is_start (sym (c.call.ensures.op found.0 found.1)) ∙ goes) in
     omega (arith, c.requires.trails.count, there, ap (λ process. process.0) (c.call.ensures.process found.0 found.1))
 
@@ -18,10 +18,10 @@ follow_by-requires c = λ goes.
 pub returns : goal.returns
 returns c =
     let cv : CaseValue = c.args.case.now in
-    let found = record_there cv.records c.args.place c.requires.place in
+    let found = record_there cv.records c.args.index c.requires.index in
     rw (
-      sources_at-next cv.tree cv.abi cv.records c.args.place found.0 c.args.answer found.1 c.requires.answer,
+      sources_at-next cv.tree cv.abi cv.records c.args.index found.0 c.args.answer found.1 c.requires.answer,
       ← c.call.ensures.op found.0 found.1,
       ← c.call.ensures.process found.0 found.1,
     )
-    (c.in_ok-follow_by.ensures (sources_at cv.tree cv.abi cv.records c.args.place) c.requires.trails)
+    (c.in_ok-follow_by.ensures (sources_at cv.tree cv.abi cv.records c.args.index) c.requires.trails)

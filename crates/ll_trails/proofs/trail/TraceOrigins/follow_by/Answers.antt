@@ -36,9 +36,9 @@ pub returns-in_ok-follow-in-Allowed : goal.returns-in_ok-follow-in-Allowed
 returns-in_ok-follow-in-Allowed c = λ sources are.
     let there : c.args.process.0 < length c.args.self.now.trails.items = c.requires (is_start-not c.args.op.now c.in_default.not-Start) in
     let own : Origins = sources.processes c.args.process.0 in
-    let other = sources_by_other c.args.place c.args.op.now c.args.process.0 c.args.answer sources c.in_default.not-Start in
+    let other = sources_by_other c.args.index c.args.op.now c.args.process.0 c.args.answer sources c.in_default.not-Start in
     rw (other c.in_default.not-Fork, c.in-Allowed.is)
-    (trails_changed c.args.self.now.trails.items c.args.process.0 c.follow.new.self sources (traced c.args.place c.args.op.now own) there are
+    (trails_changed c.args.self.now.trails.items c.args.process.0 c.follow.new.self sources (traced c.args.index c.args.op.now own) there are
     (c.in_ok-follow-in-Allowed.ensures own
     (are.each c.args.process.0 c.index_mut.result.now
     (slice_get_read c.args.self.now.trails.items _ c.args.process.0 c.index_mut.result.now refl there

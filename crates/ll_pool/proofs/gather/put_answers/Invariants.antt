@@ -1,6 +1,6 @@
 use Rattle.std.proofs.Common.{◌≡◌, length, drop}
 use Rattle.ll_pool.specs.Gathered.{placed}
-use Rattle.ll_pool.proofs.gather.place.Given as goal
+use Rattle.ll_pool.proofs.gather.put_answers.Given as goal
 
 -- the parts that are left, put in their places, give what all parts give
 abbrev pub invariant-loop-part : goal.invariant-loop-part

@@ -1,4 +1,4 @@
--- The sources of a case, place after place: how many processes they have, and what the next record makes of them.
+-- The sources of a case, index after index: how many processes they have, and what the next record makes of them.
 use Rattle.std.proofs.Common.{◌≡◌, ◌<◌, ◌≤◌, ℕ, zero, suc, ◌+◌, List, length, take, get_or, Some, false, refl, sym, ap, ◌∙◌, inl, inr, arith}
 use Rattle.std.specs.Prelude.{slice_get}
 use Rattle.std.proofs.lemmas.Option.{same_Some, slice_get_cases, slice_get_read}
@@ -19,13 +19,13 @@ use Rattle.ll_trails.specs.declared.trail.TraceOrigins.{TraceOrigins}
 use Rattle.ll_trails.specs.CaseTrails.{AreTrailsAt}
 use Rattle.ll_trails.specs.TraceOrigins.{AreTrails}
 
--- what is read at a place of the same list is there
+-- what is read at an index of the same list is there
 pub read_there : {X : Type 0} (xs read : List X) (k : ℕ) (x : X) → read ≡ xs → k < length xs → x ≡ get_or read k x → slice_get xs k ≡ Some x
 read_there {X = X} xs read k x same within is = slice_get_read xs (length xs) k x refl within (is ∙ ap (λ (ys : List X). get_or ys k x) same)
 
--- there is a record at a place below their number
-pub record_there : (records : List Record) (place : ℕ) → place < length records → (r : Record) × (slice_get records place ≡ Some r)
-record_there records place within = elim ((slice_get_cases records place).1) [
+-- there is a record at an index below their number
+pub record_there : (records : List Record) (index : ℕ) → index < length records → (r : Record) × (slice_get records index ≡ Some r)
+record_there records index within = elim ((slice_get_cases records index).1) [
   | inl there ↦ (there.0, there.2)
   | inr past ↦ absurd (omega (arith, within, past.0))
 ]

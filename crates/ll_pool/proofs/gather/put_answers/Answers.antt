@@ -1,10 +1,10 @@
--- What is left of the parts goes to its places.
+-- What is left of the parts goes to its indices.
 use Rattle.std.proofs.Common.{◌+◌, ◌∷◌, ℕ, List, drop, sym, ap, ◌∙◌}
 use Rattle.std.proofs.lemmas.List.{length-set, drop_more, drop_all}
 use Rattle.ll_semantics.specs.declared.answer.Answer.{Answer}
 use Rattle.ll_pool.specs.Gathered.{placed}
 use Rattle.ll_pool.proofs.Placing.{placed-nil, placed-cons}
-use Rattle.ll_pool.proofs.gather.place.Goals as goal
+use Rattle.ll_pool.proofs.gather.put_answers.Goals as goal
 
 pub loop-part-preserved : goal.loop-part-preserved
 loop-part-preserved c = record {

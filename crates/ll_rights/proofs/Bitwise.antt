@@ -1,4 +1,4 @@
--- Members of a set of bits, place by place: what `|`, `&` and `!` make of them.
+-- Members of a set of bits, bit by bit: what `|`, `&` and `!` make of them.
 use Rattle.std.proofs.Common.{◌≡◌, ◌≢◌, ℕ, zero, suc, ◌+◌, ◌-◌, ◌%◌, ◌^◌, ◌<◌, ◌≤◌, min, max, Bool, true, false, not, ◌&&◌, ◌||◌, eqb, leb, List, [], ◌∷◌}
 use Rattle.std.proofs.Common.{length, get_or, refl, sym, ap, subst, ◌∙◌, arith, inl, inr, bit_and, bit_or, bit_xor}
 use Rattle.std.specs.Int.{bit_at, w32, bit_not}
@@ -10,7 +10,7 @@ use Rattle.std.proofs.lemmas.Nat.Bits.{bit_at_or, bit_at_and, bit_at_xor, bit_at
 use Rattle.std.proofs.lemmas.Nat.Bits.{same_from_bits_below}
 use Rattle.std.proofs.lemmas.List.FromFn.{get_or-range_with_len, length-range_with_len}
 use Rattle.std.proofs.lemmas.List.Folds.{list_any-from_Any}
-use Rattle.ll_rights.specs.Sets.{has_place}
+use Rattle.ll_rights.specs.Sets.{has_bit}
 use Rattle.ll_rights.specs.Supported.{bits_without}
 
 -- of two bits, the larger is 1 where either is, and the smaller where both are
@@ -27,29 +27,29 @@ one_of_not zero p = refl
 one_of_not (suc zero) p = refl
 one_of_not (suc (suc x)) p = absurd (omega arith)
 
--- ---- each place
+-- ---- each bit
 
-pub has_place-named : (named bits place : ℕ) → place < named → has_place named bits place ≡ eqb (bit_at bits place) 1
-has_place-named named bits place lt = rw (lt-ltb place named lt) refl
+pub has_bit-named : (named bits bit : ℕ) → bit < named → has_bit named bits bit ≡ eqb (bit_at bits bit) 1
+has_bit-named named bits bit lt = rw (lt-ltb bit named lt) refl
 
-pub has_place-other : (named bits place : ℕ) → named ≤ place → has_place named bits place ≡ leb (2 ^ named) bits
-has_place-other named bits place le = rw (le-ltb place named le) refl
+pub has_bit-other : (named bits bit : ℕ) → named ≤ bit → has_bit named bits bit ≡ leb (2 ^ named) bits
+has_bit-other named bits bit le = rw (le-ltb bit named le) refl
 
--- a single bit is that place's alone
-pub has_place-power : (named one place : ℕ) → one ≤ named → place ≤ named → has_place named (2 ^ one) place ≡ eqb place one
-has_place-power named one place one_in place_in = elim (cases_lt place named) [
+-- a word of one bit has that bit alone
+pub has_bit-power : (named one bit : ℕ) → one ≤ named → bit ≤ named → has_bit named (2 ^ one) bit ≡ eqb bit one
+has_bit-power named one bit one_in bit_in = elim (cases_lt bit named) [
   | inl lt ↦
-      rw (has_place-named named (2 ^ one) place lt)
-      (elim (cases_eq place one) [
+      rw (has_bit-named named (2 ^ one) bit lt)
+      (elim (cases_eq bit one) [
         | inl same ↦ rw (same, bit_at-pow_same one) (sym (eq-eqb one one refl))
-        | inr differs ↦ rw (bit_at-pow_other one place differs, ne_eqb place one differs) refl
+        | inr differs ↦ rw (bit_at-pow_other one bit differs, ne_eqb bit one differs) refl
       ])
   | inr le ↦
-      let last : place ≡ named = omega arith in
-      rw (has_place-other named (2 ^ one) place le)
-      (elim (cases_eq place one) [
-        | inl same ↦ rw (eq-eqb place one same) (le-leb (2 ^ named) (2 ^ one) (rw (← same, last) (omega arith)))
-        | inr differs ↦ rw (ne_eqb place one differs) (lt-leb (2 ^ named) (2 ^ one) (pow_below one named (omega arith)))
+      let last : bit ≡ named = omega arith in
+      rw (has_bit-other named (2 ^ one) bit le)
+      (elim (cases_eq bit one) [
+        | inl same ↦ rw (eq-eqb bit one same) (le-leb (2 ^ named) (2 ^ one) (rw (← same, last) (omega arith)))
+        | inr differs ↦ rw (ne_eqb bit one differs) (lt-leb (2 ^ named) (2 ^ one) (pow_below one named (omega arith)))
       ])
 ]
 
@@ -62,57 +62,57 @@ or_above named a b = elim (cases_lt a (2 ^ named)) [
   | inr high_a ↦ rw (le-leb (2 ^ named) (bit_or a b) (omega (arith, le_or_l a b)), le-leb (2 ^ named) a high_a) refl
 ]
 
-pub has_place-or : (named a b place : ℕ) → has_place named (bit_or a b) place ≡ (has_place named a place || has_place named b place)
-has_place-or named a b place = elim (cases_lt place named) [
-  | inl lt ↦ rw (has_place-named named (bit_or a b) place lt, has_place-named named a place lt, has_place-named named b place lt, bit_at_or a b place)
-      ((one_of_bits (bit_at a place) (bit_at b place) (bit_at-lt a place) (bit_at-lt b place)).0)
-  | inr le ↦ rw (has_place-other named (bit_or a b) place le, has_place-other named a place le, has_place-other named b place le) (or_above named a b)
+pub has_bit-or : (named a b bit : ℕ) → has_bit named (bit_or a b) bit ≡ (has_bit named a bit || has_bit named b bit)
+has_bit-or named a b bit = elim (cases_lt bit named) [
+  | inl lt ↦ rw (has_bit-named named (bit_or a b) bit lt, has_bit-named named a bit lt, has_bit-named named b bit lt, bit_at_or a b bit)
+      ((one_of_bits (bit_at a bit) (bit_at b bit) (bit_at-lt a bit) (bit_at-lt b bit)).0)
+  | inr le ↦ rw (has_bit-other named (bit_or a b) bit le, has_bit-other named a bit le, has_bit-other named b bit le) (or_above named a b)
 ]
 
--- what is known has no bit from the first unnamed place on
-pub known_below : (named bits : ℕ) → has_place named bits named ≡ false → bits < 2 ^ named
-known_below named bits e = leb-false (2 ^ named) bits (sym (has_place-other named bits named (omega arith)) ∙ e)
+-- what is known has no bit from the first unnamed one on
+pub known_below : (named bits : ℕ) → has_bit named bits named ≡ false → bits < 2 ^ named
+known_below named bits e = leb-false (2 ^ named) bits (sym (has_bit-other named bits named (omega arith)) ∙ e)
 
 and_false : (x y : Bool) → y ≡ false → (x && y) ≡ false
 and_false true y e = e
 and_false false y e = refl
 
-pub has_place-lacking : (named wanted handled granted place : ℕ) → named ≤ 32 → granted < 2 ^ 32 → handled < 2 ^ named
-    → has_place named (bit_and (bit_and wanted handled) (bit_not w32 granted)) place
-    ≡ (has_place named wanted place && has_place named handled place && not (has_place named granted place))
-has_place-lacking named wanted handled granted place narrow fits known = elim (cases_lt place named) [
+pub has_bit-lacking : (named wanted handled granted bit : ℕ) → named ≤ 32 → granted < 2 ^ 32 → handled < 2 ^ named
+    → has_bit named (bit_and (bit_and wanted handled) (bit_not w32 granted)) bit
+    ≡ (has_bit named wanted bit && has_bit named handled bit && not (has_bit named granted bit))
+has_bit-lacking named wanted handled granted bit narrow fits known = elim (cases_lt bit named) [
   | inl lt ↦
-      let within : place < 32 = omega arith in
+      let within : bit < 32 = omega arith in
       rw (
-        has_place-named named (bit_and (bit_and wanted handled) (bit_not w32 granted)) place lt,
-        has_place-named named wanted place lt,
-        has_place-named named handled place lt,
-        has_place-named named granted place lt,
-        bit_at_and (bit_and wanted handled) (bit_not w32 granted) place,
-        bit_at_and wanted handled place,
-        bit_at_not w32 granted place fits within,
+        has_bit-named named (bit_and (bit_and wanted handled) (bit_not w32 granted)) bit lt,
+        has_bit-named named wanted bit lt,
+        has_bit-named named handled bit lt,
+        has_bit-named named granted bit lt,
+        bit_at_and (bit_and wanted handled) (bit_not w32 granted) bit,
+        bit_at_and wanted handled bit,
+        bit_at_not w32 granted bit fits within,
       )
-      ((one_of_bits (min (bit_at wanted place) (bit_at handled place)) (1 - bit_at granted place) (omega (arith, bit_at-lt wanted place)) (omega arith)).1
-      ∙ ap (λ (b : Bool). b && eqb (1 - bit_at granted place) 1)
-      ((one_of_bits (bit_at wanted place) (bit_at handled place) (bit_at-lt wanted place) (bit_at-lt handled place)).1)
-      ∙ ap (λ (b : Bool). (eqb (bit_at wanted place) 1 && eqb (bit_at handled place) 1) && b) (one_of_not (bit_at granted place) (bit_at-lt granted place)))
+      ((one_of_bits (min (bit_at wanted bit) (bit_at handled bit)) (1 - bit_at granted bit) (omega (arith, bit_at-lt wanted bit)) (omega arith)).1
+      ∙ ap (λ (b : Bool). b && eqb (1 - bit_at granted bit) 1)
+      ((one_of_bits (bit_at wanted bit) (bit_at handled bit) (bit_at-lt wanted bit) (bit_at-lt handled bit)).1)
+      ∙ ap (λ (b : Bool). (eqb (bit_at wanted bit) 1 && eqb (bit_at handled bit) 1) && b) (one_of_not (bit_at granted bit) (bit_at-lt granted bit)))
   | inr le ↦
       let low : bit_and (bit_and wanted handled) (bit_not w32 granted) < 2 ^ named =
       omega (arith, and_le_l (bit_and wanted handled) (bit_not w32 granted), and_le_r wanted handled) in
-      let nothing : has_place named handled place ≡ false = has_place-other named handled place le ∙ lt-leb (2 ^ named) handled known in
-      has_place-other named (bit_and (bit_and wanted handled) (bit_not w32 granted)) place le
+      let nothing : has_bit named handled bit ≡ false = has_bit-other named handled bit le ∙ lt-leb (2 ^ named) handled known in
+      has_bit-other named (bit_and (bit_and wanted handled) (bit_not w32 granted)) bit le
       ∙ lt-leb (2 ^ named) (bit_and (bit_and wanted handled) (bit_not w32 granted)) low
-      ∙ sym (ap (λ (b : Bool). b && not (has_place named granted place)) (and_false (has_place named wanted place) (has_place named handled place) nothing))
+      ∙ sym (ap (λ (b : Bool). b && not (has_bit named granted bit)) (and_false (has_bit named wanted bit) (has_bit named handled bit) nothing))
 ]
 
--- ---- all places
+-- ---- all bits
 
--- a test that no place passes, place by place
-pub any_false : (f : ℕ → Bool) (n place : ℕ) → list_any f (range_with_len 0 n) ≡ false → place < n → f place ≡ false
-any_false f n place none lt = elim (cases_Bool (f place)) [
+-- a test that no bit passes, bit by bit
+pub any_false : (f : ℕ → Bool) (n bit : ℕ) → list_any f (range_with_len 0 n) ≡ false → bit < n → f bit ≡ false
+any_false f n bit none lt = elim (cases_Bool (f bit)) [
   | inl holds ↦
-      let eq : get_or (range_with_len 0 n) place place ≡ place = get_or-range_with_len 0 n place place lt ∙ omega arith in
-      let some = list_any-from_Any f (range_with_len 0 n) (place, place, omega (arith, length-range_with_len 0 n), eq, holds) in
+      let eq : get_or (range_with_len 0 n) bit bit ≡ bit = get_or-range_with_len 0 n bit bit lt ∙ omega arith in
+      let some = list_any-from_Any f (range_with_len 0 n) (bit, bit, omega (arith, length-range_with_len 0 n), eq, holds) in
       absurd (false≢true (sym none ∙ some))
   | inr fails ↦ fails
 ]
@@ -122,11 +122,11 @@ all_true f [] k e lt = absurd (omega arith)
 all_true f (x ∷ xs) zero e lt = (and_parts (f x) (list_all f xs) e).0
 all_true f (x ∷ xs) (suc k) e lt = all_true f xs k (and_parts (f x) (list_all f xs) e).1 (omega arith)
 
--- a test that all places pass, place by place
-pub all_at : (f : ℕ → Bool) (n place : ℕ) → list_all f (range_with_len 0 n) ≡ true → place < n → f place ≡ true
-all_at f n place e lt =
-    let eq : get_or (range_with_len 0 n) place 0 ≡ place = get_or-range_with_len 0 n place 0 lt ∙ omega arith in
-    subst (λ (k : ℕ). f k ≡ true) eq (all_true f (range_with_len 0 n) place e (omega (arith, length-range_with_len 0 n)))
+-- a test that all bits pass, bit by bit
+pub all_at : (f : ℕ → Bool) (n bit : ℕ) → list_all f (range_with_len 0 n) ≡ true → bit < n → f bit ≡ true
+all_at f n bit e lt =
+    let eq : get_or (range_with_len 0 n) bit 0 ≡ bit = get_or-range_with_len 0 n bit 0 lt ∙ omega arith in
+    subst (λ (k : ℕ). f k ≡ true) eq (all_true f (range_with_len 0 n) bit e (omega (arith, length-range_with_len 0 n)))
 
 pub all_each : {X : Type 0} (test : X → Bool) → ((x : X) → test x ≡ true) → (xs : List X) → list_all test xs ≡ true
 all_each test each [] = refl
@@ -141,48 +141,48 @@ not_not true = refl
 not_not false = refl
 
 -- a set without a member has no bit
-pub nothing_from_places : (named bits : ℕ) → list_any (has_place named bits) (range_with_len 0 (named + 1)) ≡ false → bits ≡ 0
-nothing_from_places named bits none =
-    let low : bits < 2 ^ named = known_below named bits (any_false (has_place named bits) (named + 1) named none (omega arith)) in
+pub nothing_from_bits : (named bits : ℕ) → list_any (has_bit named bits) (range_with_len 0 (named + 1)) ≡ false → bits ≡ 0
+nothing_from_bits named bits none =
+    let low : bits < 2 ^ named = known_below named bits (any_false (has_bit named bits) (named + 1) named none (omega arith)) in
     same_from_bits_below named bits 0 low (omega arith)
     (λ i lt.
-    let off : eqb (bit_at bits i) 1 ≡ false = sym (has_place-named named bits i lt) ∙ any_false (has_place named bits) (named + 1) i none (omega arith) in
+    let off : eqb (bit_at bits i) 1 ≡ false = sym (has_bit-named named bits i lt) ∙ any_false (has_bit named bits) (named + 1) i none (omega arith) in
     let small : bit_at bits i < 2 = bit_at-lt bits i in
     let not_one : bit_at bits i ≢ 1 = eqb-false (bit_at bits i) 1 off in
     rw bit_at-zero (omega arith))
 
-pub zero_place : (named place : ℕ) → has_place named 0 place ≡ false
-zero_place named place = elim (cases_lt place named) [
-  | inl lt ↦ has_place-named named 0 place lt ∙ ap (λ (k : ℕ). eqb k 1) (bit_at-zero place)
-  | inr le ↦ has_place-other named 0 place le ∙ lt-leb (2 ^ named) 0 (pow_pos named)
+pub zero_bit : (named bit : ℕ) → has_bit named 0 bit ≡ false
+zero_bit named bit = elim (cases_lt bit named) [
+  | inl lt ↦ has_bit-named named 0 bit lt ∙ ap (λ (k : ℕ). eqb k 1) (bit_at-zero bit)
+  | inr le ↦ has_bit-other named 0 bit le ∙ lt-leb (2 ^ named) 0 (pow_pos named)
 ]
 
 pub any_none : {X : Type 0} (test : X → Bool) → ((x : X) → test x ≡ false) → (xs : List X) → list_any test xs ≡ false
 any_none test none [] = refl
 any_none test none (x ∷ xs) = rw (none x) (any_none test none xs)
 
--- a number is 0 exactly if no place of it is a member
-pub is_zero_by_places : (named bits : ℕ) → eqb bits 0 ≡ not (list_any (has_place named bits) (range_with_len 0 (named + 1)))
-is_zero_by_places named bits = elim (cases_eq bits 0) [
-  | inl zero_is ↦ rw zero_is (sym (ap not (any_none (has_place named 0) (zero_place named) (range_with_len 0 (named + 1)))))
+-- a number is 0 exactly if no bit of it is a member
+pub is_zero_by_bits : (named bits : ℕ) → eqb bits 0 ≡ not (list_any (has_bit named bits) (range_with_len 0 (named + 1)))
+is_zero_by_bits named bits = elim (cases_eq bits 0) [
+  | inl zero_is ↦ rw zero_is (sym (ap not (any_none (has_bit named 0) (zero_bit named) (range_with_len 0 (named + 1)))))
   | inr some ↦
       rw (ne_eqb bits 0 some)
-      (elim (cases_Bool (list_any (has_place named bits) (range_with_len 0 (named + 1)))) [
+      (elim (cases_Bool (list_any (has_bit named bits) (range_with_len 0 (named + 1)))) [
         | inl found ↦ sym (ap not found)
-        | inr none ↦ absurd (some (nothing_from_places named bits none))
+        | inr none ↦ absurd (some (nothing_from_bits named bits none))
       ])
 ]
 
--- what is wanted and handled and not granted is nothing exactly if no place of the three says so
-pub is_lacking_by_places : (named wanted handled granted : ℕ) → named ≤ 32 → granted < 2 ^ 32 → has_place named handled named ≡ false
+-- what is wanted and handled and not granted is nothing exactly if no bit of the three says so
+pub is_lacking_by_bits : (named wanted handled granted : ℕ) → named ≤ 32 → granted < 2 ^ 32 → has_bit named handled named ≡ false
     → not (eqb (bit_and (bit_and wanted handled) (bit_not w32 granted)) 0)
-    ≡ list_any (λ place. has_place named wanted place && has_place named handled place && not (has_place named granted place)) (range_with_len 0 (named + 1))
-is_lacking_by_places named wanted handled granted narrow fits known =
+    ≡ list_any (λ bit. has_bit named wanted bit && has_bit named handled bit && not (has_bit named granted bit)) (range_with_len 0 (named + 1))
+is_lacking_by_bits named wanted handled granted narrow fits known =
     let left = bit_and (bit_and wanted handled) (bit_not w32 granted) in
-    ap not (is_zero_by_places named left)
-    ∙ not_not (list_any (has_place named left) (range_with_len 0 (named + 1)))
-    ∙ any_same (has_place named left) (λ place. has_place named wanted place && has_place named handled place && not (has_place named granted place))
-    (λ place. has_place-lacking named wanted handled granted place narrow fits (known_below named handled known)) (range_with_len 0 (named + 1))
+    ap not (is_zero_by_bits named left)
+    ∙ not_not (list_any (has_bit named left) (range_with_len 0 (named + 1)))
+    ∙ any_same (has_bit named left) (λ bit. has_bit named wanted bit && has_bit named handled bit && not (has_bit named granted bit))
+    (λ bit. has_bit-lacking named wanted handled granted bit narrow fits (known_below named handled known)) (range_with_len 0 (named + 1))
 
 implied : (x y : ℕ) → x < 2 → y < 2 → min x y ≡ x → (not (eqb x 1) || eqb y 1) ≡ true
 implied zero y p q e = refl
@@ -203,24 +203,24 @@ or_from_false true true f e = absurd cc
 or_from_false true false f e = absurd cc
 or_from_false false y f e = refl
 
--- a set is within known ones exactly if each place of it is a place of theirs
-pub is_within_by_places : (named set whole : ℕ) → has_place named whole named ≡ false
-    → eqb (bit_and set whole) set ≡ list_all (λ place. not (has_place named set place) || has_place named whole place) (range_with_len 0 (named + 1))
-is_within_by_places named set whole known =
+-- a set is within known ones exactly if each bit of it is a bit of theirs
+pub is_within_by_bits : (named set whole : ℕ) → has_bit named whole named ≡ false
+    → eqb (bit_and set whole) set ≡ list_all (λ bit. not (has_bit named set bit) || has_bit named whole bit) (range_with_len 0 (named + 1))
+is_within_by_bits named set whole known =
     let low : whole < 2 ^ named = known_below named whole known in
-    let test : ℕ → Bool = λ place. not (has_place named set place) || has_place named whole place in
+    let test : ℕ → Bool = λ bit. not (has_bit named set bit) || has_bit named whole bit in
     elim (cases_eq (bit_and set whole) set) [
       | inl same ↦
           let set_low : set < 2 ^ named = omega (arith, and_le_r set whole) in
           rw (eq-eqb (bit_and set whole) set same)
           (sym (all_each test
-          (λ place.
-          elim (cases_lt place named) [
+          (λ bit.
+          elim (cases_lt bit named) [
             | inl lt ↦
-                rw (has_place-named named set place lt, has_place-named named whole place lt)
-                (implied (bit_at set place) (bit_at whole place) (bit_at-lt set place) (bit_at-lt whole place)
-                (sym (bit_at_and set whole place) ∙ ap (λ (k : ℕ). bit_at k place) same))
-            | inr le ↦ rw (has_place-other named set place le, lt-leb (2 ^ named) set set_low) refl
+                rw (has_bit-named named set bit lt, has_bit-named named whole bit lt)
+                (implied (bit_at set bit) (bit_at whole bit) (bit_at-lt set bit) (bit_at-lt whole bit)
+                (sym (bit_at_and set whole bit) ∙ ap (λ (k : ℕ). bit_at k bit) same))
+            | inr le ↦ rw (has_bit-other named set bit le, lt-leb (2 ^ named) set set_low) refl
           ])
           (range_with_len 0 (named + 1))))
       | inr differs ↦
@@ -229,12 +229,12 @@ is_within_by_places named set whole known =
             | inl all ↦
                 let set_low : set < 2 ^ named =
                 known_below named set
-                (or_from_false (has_place named set named) (has_place named whole named) known (all_at test (named + 1) named all (omega arith))) in
+                (or_from_false (has_bit named set named) (has_bit named whole named) known (all_at test (named + 1) named all (omega arith))) in
                 absurd (differs (same_from_bits_below named (bit_and set whole) set (omega (arith, and_le_l set whole)) set_low
                 (λ i lt.
-                let here : (not (has_place named set i) || has_place named whole i) ≡ true = all_at test (named + 1) i all (omega arith) in
+                let here : (not (has_bit named set i) || has_bit named whole i) ≡ true = all_at test (named + 1) i all (omega arith) in
                 let bits : (not (eqb (bit_at set i) 1) || eqb (bit_at whole i) 1) ≡ true =
-                rw (← has_place-named named set i lt, ← has_place-named named whole i lt) here in
+                rw (← has_bit-named named set i lt, ← has_bit-named named whole i lt) here in
                 bit_at_and set whole i ∙ min_from_implied (bit_at set i) (bit_at whole i) (bit_at-lt set i) (bit_at-lt whole i) bits)))
             | inr not_all ↦ sym not_all
           ])
@@ -311,32 +311,32 @@ and_true : (b c : Bool) → c ≡ false → b ≡ (b && not c)
 and_true true c e = sym (ap not e)
 and_true false c e = refl
 
--- what is left has all places but those that are taken
-pub has_place-without : (named a taken place : ℕ) → taken < 2 ^ named
-    → has_place named (bits_without a taken) place ≡ (has_place named a place && not (has_place named taken place))
-has_place-without named a taken place low = elim (cases_lt place named) [
+-- what is left has all bits but those that are taken
+pub has_bit-without : (named a taken bit : ℕ) → taken < 2 ^ named
+    → has_bit named (bits_without a taken) bit ≡ (has_bit named a bit && not (has_bit named taken bit))
+has_bit-without named a taken bit low = elim (cases_lt bit named) [
   | inl lt ↦
       rw (
-        has_place-named named (bits_without a taken) place lt,
-        has_place-named named a place lt,
-        has_place-named named taken place lt,
-        bit_at-without a taken place,
+        has_bit-named named (bits_without a taken) bit lt,
+        has_bit-named named a bit lt,
+        has_bit-named named taken bit lt,
+        bit_at-without a taken bit,
       )
-      (one_left (bit_at a place) (bit_at taken place) (bit_at-lt a place) (bit_at-lt taken place))
+      (one_left (bit_at a bit) (bit_at taken bit) (bit_at-lt a bit) (bit_at-lt taken bit))
   | inr le ↦
-      rw (has_place-other named (bits_without a taken) place le, has_place-other named a place le, without-xor a taken)
+      rw (has_bit-other named (bits_without a taken) bit le, has_bit-other named a bit le, without-xor a taken)
       (xor_above named a (bit_and a taken) (omega (arith, and_le_r a taken))
-      ∙ and_true (leb (2 ^ named) a) (has_place named taken place) (has_place-other named taken place le ∙ lt-leb (2 ^ named) taken low))
+      ∙ and_true (leb (2 ^ named) a) (has_bit named taken bit) (has_bit-other named taken bit le ∙ lt-leb (2 ^ named) taken low))
 ]
 
--- what two numbers share, the second of named places alone
-pub has_place-and : (named a b place : ℕ) → b < 2 ^ named → has_place named (bit_and a b) place ≡ (has_place named a place && has_place named b place)
-has_place-and named a b place low = elim (cases_lt place named) [
+-- what two numbers share, the second of named bits alone
+pub has_bit-and : (named a b bit : ℕ) → b < 2 ^ named → has_bit named (bit_and a b) bit ≡ (has_bit named a bit && has_bit named b bit)
+has_bit-and named a b bit low = elim (cases_lt bit named) [
   | inl lt ↦
-      rw (has_place-named named (bit_and a b) place lt, has_place-named named a place lt, has_place-named named b place lt, bit_at_and a b place)
-      ((one_of_bits (bit_at a place) (bit_at b place) (bit_at-lt a place) (bit_at-lt b place)).1)
+      rw (has_bit-named named (bit_and a b) bit lt, has_bit-named named a bit lt, has_bit-named named b bit lt, bit_at_and a b bit)
+      ((one_of_bits (bit_at a bit) (bit_at b bit) (bit_at-lt a bit) (bit_at-lt b bit)).1)
   | inr le ↦
       let less : bit_and a b < 2 ^ named = omega (arith, and_le_r a b) in
-      has_place-other named (bit_and a b) place le ∙ lt-leb (2 ^ named) (bit_and a b) less
-      ∙ sym (and_false (has_place named a place) (has_place named b place) (has_place-other named b place le ∙ lt-leb (2 ^ named) b low))
+      has_bit-other named (bit_and a b) bit le ∙ lt-leb (2 ^ named) (bit_and a b) less
+      ∙ sym (and_false (has_bit named a bit) (has_bit named b bit) (has_bit-other named b bit le ∙ lt-leb (2 ^ named) b low))
 ]
