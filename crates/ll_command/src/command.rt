@@ -102,13 +102,13 @@ depend on it.",
 };
 
 const EFFORT_HELP: Help = Help {
-    short: "Drop the rights that the ABI lacks, as a program does that asks its kernel",
+    short: "Judge a program that drops the rights which the ABI does not have",
     whole: "\
-Judge rulesets as a program makes them that asks its kernel for the
-ABI and drops the rights that this ABI lacks. Without this option
-rulesets are judged as recorded, and a right that the ABI lacks is an
-error. Give it to judge such a program at ABIs older than the one at
-which it was recorded.",
+Judge the rulesets of a program that asks its kernel for the ABI and
+drops the rights which this ABI does not have. Without this option,
+rulesets are judged as recorded, and a right that the ABI does not
+have is an error. Give it to judge such a program at ABIs older than
+the one at which it was recorded.",
 };
 
 const REFUSED_HELP: Help = Help {
@@ -126,19 +126,19 @@ range. The totals count all records.",
 };
 
 const EXPLAIN_HELP: Help = Help {
-    short: "Print below each refused or moot record why it is so",
+    short: "Print why records are refused or moot",
     whole: "\
-Print below each refused or moot record why it is so: each layer that
-refuses it, the line of the restrict that made the layer, and what is
-missing on which path or port; or the condition of its error; or why
-the policy is not asked.",
+Print below each record that is refused or moot why this is so: each
+layer that refuses it, the line of the restrict that made the layer,
+and what is missing on which path or port; or the condition of its
+error; or why the policy is not asked.",
 };
 
 const JSON_HELP: Help = Help {
     short: "Print the report as JSON Lines",
     whole: "\
-Print the report as JSON Lines: one object for each record, and last
-one with the totals. It says what the lines of the other form say.",
+Print the report as JSON Lines: one object for each record, then one
+with the totals. It has the same content as the text.",
 };
 
 const MORE_HELP: &str = "\
