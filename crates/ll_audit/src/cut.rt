@@ -12,7 +12,7 @@ use std::alloc::{AllocError, Global};
 pub enum Cut {
     /// Where the child has at least this many records.
     Grain(u64),
-    /// Where the list has `true` at the child's number. Past its end it is `false`.
+    /// Where the list has `true` at the child's number. A number past its end counts as `false`.
     List(Vec<bool>),
 }
 
