@@ -11,7 +11,7 @@ use Rattle.ll_process.specs.Cases.{CaseValue}
 use Rattle.ll_process.specs.PastCases.{as_it_was}
 use Rattle.ll_process.specs.TakenLater.{AreTakenLater}
 use Rattle.ll_process.specs.declared.past.PastCase.{PastCase}
-use Rattle.ll_explanations.specs.Findings.{FindingValue, Finds}
+use Rattle.ll_findings.specs.Findings.{FindingValue, Finds}
 use Rattle.ll_report.specs.declared.options.Options.{Options}
 use Rattle.ll_audit.specs.Ranging.{GoesOn, taken_if_asked}
 use Rattle.ll_audit.specs.ShownReports.{taken}

@@ -24,7 +24,7 @@ use Rattle.ll_report.specs.declared.options.Options.{Options}
 use Rattle.ll_trace.specs.declared.located.Located.{Located}
 use Rattle.ll_audit.specs.declared.ranging.Progress.{Progress}
 use Rattle.ll_audit.specs.declared.ranging.Progress.TheVariants as progress
-use Rattle.ll_explanations.specs.Findings.{FindingValue, Finds}
+use Rattle.ll_findings.specs.Findings.{FindingValue, Finds}
 use Rattle.ll_process.specs.TakenLater.{AreTakenLater}
 use Rattle.ll_process.proofs.TakenLater.{taken_as_they_are, taken_again, taken_at_best_effort}
 use Rattle.ll_json.specs.Judged.{AreFound, Version}

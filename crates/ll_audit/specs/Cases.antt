@@ -4,7 +4,7 @@ use Rattle.std.specs.Prelude.{Bool, List}
 use Rattle.ll_semantics.specs.declared.answer.Answer.{Answer}
 use Rattle.ll_semantics.specs.Worlds.{judged}
 use Rattle.ll_process.specs.Cases.{CaseValue}
-use Rattle.ll_explanations.specs.Findings.{FindingValue, StandsInFront}
+use Rattle.ll_findings.specs.Findings.{FindingValue, StandsInFront}
 
 -- the answers to its records
 abbrev pub judged_in : CaseValue → List Answer

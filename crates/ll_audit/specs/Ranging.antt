@@ -5,7 +5,7 @@ use Rattle.ll_rights.specs.declared.abi.Abi.{Abi}
 use Rattle.ll_rights.specs.AbiRanges.{is_in}
 use Rattle.ll_tree.specs.Trees.{Entry}
 use Rattle.ll_trace.specs.declared.op.Record.{Record}
-use Rattle.ll_explanations.specs.Findings.{FindingValue, StandsInFront}
+use Rattle.ll_findings.specs.Findings.{FindingValue, StandsInFront}
 use Rattle.ll_json.specs.Judged.{AreFound}
 use Rattle.ll_json.specs.Records.{about}
 use Rattle.ll_report.specs.declared.options.Options.{Options}

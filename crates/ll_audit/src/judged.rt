@@ -12,7 +12,7 @@ ghost use Rattle.ll_audit.specs.Cases.{AddsFinding, judged_in};
 use crate::fault::Fault;
 use crate::ranging::{Audit, Audited, case_under};
 use crate::workers::{Workers, answers_by};
-use ll_explanations::Findings;
+use ll_findings::Findings;
 use ll_pool::Gate;
 use ll_process::{Answer, Case, CaseView, PastCase};
 use ll_rights::Abi;

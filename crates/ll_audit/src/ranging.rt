@@ -16,7 +16,7 @@ use crate::fault::Fault;
 use crate::judged::Judged;
 use crate::workers::Workers;
 use ll_command::VERSION;
-use ll_explanations::Findings;
+use ll_findings::Findings;
 use ll_json::{JsonRows, json_report};
 use ll_pool::Gate;
 use ll_process::Case;

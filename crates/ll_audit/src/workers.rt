@@ -2,13 +2,13 @@
 
 ghost use Rattle.std.specs.Prelude.{◌≡◌, IfOk, IfErr};
 ghost use Rattle.ll_semantics.specs.Worlds.{judged};
-ghost use Rattle.ll_explanations.specs.Findings.{Finds};
+ghost use Rattle.ll_findings.specs.Findings.{Finds};
 ghost use Rattle.ll_audit.specs.Causes.{IsWant};
 ghost use Rattle.ll_audit.specs.Audits.{IsCrew};
 ghost use Rattle.ll_audit.specs.Cases.{judged_in};
 
 use crate::fault::Fault;
-use ll_explanations::Finding;
+use ll_findings::Finding;
 use ll_pool::{Gate, collect_whole, run};
 use ll_process::{Answer, Case, CaseView};
 use ll_rules::NoMemory;

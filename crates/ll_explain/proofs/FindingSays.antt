@@ -13,13 +13,13 @@ use Rattle.ll_semantics.specs.Worlds.{judged}
 use Rattle.ll_semantics.proofs.Steps.{length-judged}
 use Rattle.ll_reasons.specs.Explanations.{origins_at}
 use Rattle.ll_explanations.specs.Explained.{IsExplanationOf}
-use Rattle.ll_explanations.specs.Findings.{FindingValue, Finds, Tells, kept_at, said_by, said_in}
-use Rattle.ll_explanations.specs.Kept.{if_said}
+use Rattle.ll_findings.specs.Findings.{FindingValue, Finds, Tells, kept_at, said_by, said_in}
+use Rattle.ll_findings.specs.Kept.{if_said}
 use Rattle.ll_explanations.specs.Meanings.{AreMade, explanation_in}
 use Rattle.ll_process.specs.TakenLater.{AreTakenLater, IsTakenLater}
 use Rattle.ll_explanations.specs.declared.explanation.Explanation.{Explanation}
 use Rattle.ll_explanations.specs.declared.explanation.Explanation.TheVariants.{Nothing, Objections, Failure, Mootness}
-use Rattle.ll_explanations.proofs.FindingTells.{tells, tells_nothing}
+use Rattle.ll_findings.proofs.FindingTells.{tells, tells_nothing}
 use Rattle.ll_explain.specs.Explained.{text_at, text_of_both}
 use Rattle.ll_explain.specs.Told.{said_text, text_told, value_text}
 use Rattle.ll_explain.specs.Words.{explanation_text}

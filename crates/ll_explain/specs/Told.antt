@@ -5,7 +5,7 @@ use Rattle.ll_tree.specs.Trees.{Entry}
 use Rattle.ll_trace.specs.declared.op.Op.{Op}
 use Rattle.ll_trace.specs.declared.op.Record.{Record}
 use Rattle.ll_reasons.specs.Meant.{reason_in}
-use Rattle.ll_explanations.specs.Findings.{FindingValue, said_in}
+use Rattle.ll_findings.specs.Findings.{FindingValue, said_in}
 use Rattle.ll_explanations.specs.Meanings.{condition_in}
 use Rattle.ll_explanations.specs.declared.explanation.Explanation.{Explanation}
 use Rattle.ll_explanations.specs.declared.explanation.Explanation.TheVariants.{Nothing, Objections, Failure, Mootness}

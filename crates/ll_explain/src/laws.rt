@@ -14,7 +14,7 @@ ghost use Rattle.ll_reasons.specs.Explanations.{failure, mootness, nothing, obje
 ghost use Rattle.ll_reasons.specs.Objections.{closed, gained, kept, missing};
 ghost use Rattle.ll_reasons.specs.Reasons.{absent, unsupported, unenforced};
 ghost use Rattle.ll_process.specs.TakenLater.{AreTakenLater};
-ghost use Rattle.ll_explanations.specs.Findings.{FindingValue, Finds};
+ghost use Rattle.ll_findings.specs.Findings.{FindingValue, Finds};
 ghost use Rattle.ll_explain.specs.{Explained.text_at, Told.text_told, Words.explanation_text};
 
 /// A finding says of each record what the definitions say, also by the records as an older version takes them. One

@@ -9,12 +9,4 @@ pub mod Following
 pub mod Beyond
 pub mod Wanting
 pub mod Explaining
-pub mod FindingTells
-pub mod Rising
-pub mod Overlaying
-pub mod Marking
-pub mod Covering
-pub mod KeepingAll
 pub mod Grouping
-pub mod Stretching
-pub mod Crossing

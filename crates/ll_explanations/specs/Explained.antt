@@ -1,6 +1,6 @@
 -- The explanation of a record of a case, as a value.
 -- Source: docs/FORMATS.md, "Explanations".
-use Rattle.std.specs.Prelude.{◌≡◌, ℕ, List, Some, slice_get}
+use Rattle.std.specs.Prelude.{◌≡◌, ℕ, Bool, true, false, List, Some, None, slice_get}
 use Rattle.ll_rights.specs.declared.abi.Abi.{Abi}
 use Rattle.ll_tree.specs.Trees.{Entry}
 use Rattle.ll_trace.specs.declared.op.Op.{Op}
@@ -12,6 +12,15 @@ use Rattle.ll_trails.specs.TraceOrigins.{Follows}
 use Rattle.ll_trails.specs.declared.trail.ProcessOrigins.{ProcessOrigins}
 use Rattle.ll_explanations.specs.Meanings.{AreMade, explanation_in}
 use Rattle.ll_explanations.specs.declared.explanation.Explanation.{Explanation}
+use Rattle.ll_explanations.specs.declared.explanation.Explanation.TheVariants.{Nothing, Objections, Failure, Mootness}
+
+-- there is nothing to explain: a call is allowed, or moot without a reason
+abbrev pub is_silent : Explanation → Bool
+is_silent Nothing = true
+is_silent (Objections all) = false
+is_silent (Failure condition) = false
+is_silent (Mootness None) = true
+is_silent (Mootness (Some reason)) = false
 
 -- a value means the explanation of the record at an index of a trace, which is answered so, and names the records that made the layers
 pub record IsExplanationOf (tree : List Entry) (abi : Abi) (records : List Record) (index : ℕ) (answer : Answer) (r : Record) (e : Explanation) : Type 0 where

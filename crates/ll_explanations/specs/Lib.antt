@@ -5,8 +5,3 @@ pub mod Adding
 pub mod MoveRequests
 pub mod Asking
 pub mod Explained
-pub mod Kept
-pub mod Overlays
-pub mod Findings
-pub mod Alike
-pub mod Stretches

@@ -4,7 +4,7 @@ ghost use Rattle.std.specs.Prelude.{◌≡◌, ◌≢◌, [], IfOk};
 ghost use Rattle.ll_semantics.specs.declared.answer.Answer.TheVariants.{Allowed, Moot, Refused};
 ghost use Rattle.ll_process.specs.Cases.{IsCase};
 ghost use Rattle.ll_trails.specs.CaseTrails.{AreTrailsAt, IsAnswerAt};
-ghost use Rattle.ll_explanations.specs.{Explained.Explains, Explained.IsFoundAt, Kept.is_silent};
+ghost use Rattle.ll_explanations.specs.Explained.{Explains, IsFoundAt, is_silent};
 
 use crate::call::objections_to;
 use crate::condition::{Condition, condition_of};

@@ -43,21 +43,23 @@ fn are_same_objections(all: &[LayerObjection], others: &[LayerObjection]) -> boo
     true
 }
 
-/// Whether two explanations are the same.
-pub(crate) fn is_same(one: &Explanation, other: &Explanation) -> bool
-    ensures { result ≡ true → one.now ≡ other.now }
-{
-    match (one, other) {
-        (Explanation::Nothing, Explanation::Nothing) => true,
-        (Explanation::Objections(all), Explanation::Objections(others)) => {
-            are_same_objections(all.as_slice(), others.as_slice())
+impl Explanation {
+    /// Whether another explanation is the same.
+    pub fn is_same(&self, other: &Explanation) -> bool
+        ensures { result ≡ true → self.now ≡ other.now }
+    {
+        match (self, other) {
+            (Explanation::Nothing, Explanation::Nothing) => true,
+            (Explanation::Objections(all), Explanation::Objections(others)) => {
+                are_same_objections(all.as_slice(), others.as_slice())
+            }
+            (Explanation::Failure(condition), Explanation::Failure(other)) => {
+                is_same_condition(condition, other)
+            }
+            (Explanation::Mootness(reason), Explanation::Mootness(other)) => {
+                is_same_reason(reason, other)
+            }
+            _ => false,
         }
-        (Explanation::Failure(condition), Explanation::Failure(other)) => {
-            is_same_condition(condition, other)
-        }
-        (Explanation::Mootness(reason), Explanation::Mootness(other)) => {
-            is_same_reason(reason, other)
-        }
-        _ => false,
     }
 }

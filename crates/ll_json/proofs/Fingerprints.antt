@@ -7,7 +7,7 @@ use Rattle.ll_trace.specs.declared.op.Op.{Op}
 use Rattle.ll_trace.specs.declared.op.Record.{Record}
 use Rattle.ll_semantics.specs.declared.answer.Answer.{Answer}
 use Rattle.ll_semantics.specs.declared.answer.Answer.TheVariants.{Allowed, Moot, Refused}
-use Rattle.ll_explanations.specs.Findings.{FindingValue, answer_in, said_in}
+use Rattle.ll_findings.specs.Findings.{FindingValue, answer_in, said_in}
 use Rattle.ll_explanations.specs.declared.explanation.Explanation.{Explanation}
 use Rattle.ll_report.specs.Lines.{verdict_of}
 use Rattle.ll_report.specs.Report.{verdict_text}

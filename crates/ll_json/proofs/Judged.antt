@@ -17,14 +17,15 @@ use Rattle.ll_reasons.specs.Explanations as meant
 use Rattle.ll_reasons.specs.Explanations.{origins_at}
 use Rattle.ll_reasons.specs.Objections.{Objection}
 use Rattle.ll_reasons.specs.Objections as objecting
-use Rattle.ll_explanations.specs.Findings.{FindingValue, Finds, answer_in, said_in}
-use Rattle.ll_explanations.specs.Kept.{if_said, is_silent}
+use Rattle.ll_findings.specs.Findings.{FindingValue, Finds, answer_in, said_in}
+use Rattle.ll_findings.specs.Kept.{if_said}
+use Rattle.ll_explanations.specs.Explained.{is_silent}
 use Rattle.ll_explanations.specs.Meanings.{AreMade, explanation_in, objection_in}
 use Rattle.ll_process.specs.TakenLater.{AreTakenLater}
 use Rattle.ll_explanations.specs.declared.explanation.Explanation.{Explanation}
 use Rattle.ll_explanations.specs.declared.explanation.Explanation.TheVariants.{Nothing, Objections, Failure, Mootness}
 use Rattle.ll_explanations.specs.declared.objection.LayerObjection.{LayerObjection}
-use Rattle.ll_explanations.proofs.FindingTells.{tells}
+use Rattle.ll_findings.proofs.FindingTells.{tells}
 use Rattle.ll_explain.specs.Words.{line_of}
 use Rattle.ll_explain.proofs.SaidLater.{line_there, opened_there}
 use Rattle.ll_json.specs.Layering.{head_of, next_tokens, objections_from, opening}

@@ -3,7 +3,7 @@ use Rattle.std.proofs.Common.{◌≡◌, ◌∙◌, ◌<◌, ℕ, Bool, true, fa
 use Rattle.std.specs.Prelude.{if◌then◌else◌, slice_get}
 use Rattle.ll_tree.specs.Trees.{Entry}
 use Rattle.ll_trace.specs.declared.op.Record.{Record}
-use Rattle.ll_explanations.specs.Findings.{FindingValue}
+use Rattle.ll_findings.specs.Findings.{FindingValue}
 use Rattle.ll_explain.specs.Buffers.{Buffered, adding}
 use Rattle.ll_explain.proofs.Buffering.{adding_nothing}
 use Rattle.ll_report.specs.declared.options.Shown.{Shown}

@@ -6,7 +6,7 @@ use Rattle.std.specs.List.{AllZip}
 use Rattle.ll_rights.specs.declared.abi.Abi.{Abi}
 use Rattle.ll_tree.specs.Trees.{Entry}
 use Rattle.ll_trace.specs.declared.op.Record.{Record}
-use Rattle.ll_explanations.specs.Findings.{FindingValue, Finds}
+use Rattle.ll_findings.specs.Findings.{FindingValue, Finds}
 use Rattle.ll_process.specs.TakenLater.{AreTakenLater}
 
 -- a version of Landlock's interface, and the records as they are taken under it

@@ -7,9 +7,9 @@ use Rattle.ll_trace.specs.declared.op.Record.{Record}
 use Rattle.json.specs.Print.{print}
 use Rattle.json.specs.Token as token
 use Rattle.ll_semantics.specs.declared.answer.Answer.{Answer}
-use Rattle.ll_explanations.specs.Findings.{FindingValue, answer_in, kept_at}
-use Rattle.ll_explanations.specs.Findings as findings
-use Rattle.ll_explanations.specs.declared.explained.Explained.{Explained}
+use Rattle.ll_findings.specs.Findings.{FindingValue, answer_in, kept_at}
+use Rattle.ll_findings.specs.Findings as findings
+use Rattle.ll_findings.specs.declared.explained.Explained.{Explained}
 use Rattle.ll_json.specs.Rows.{members_tokens, said_of}
 
 -- the index of the first letter of an answer's word, behind the name of its member

@@ -10,7 +10,7 @@ use crate::rows::push_line;
 use crate::said::{BareMembers, Members};
 use crate::totals::push_last;
 use ll_explain::TextBuffer;
-use ll_explanations::Findings;
+use ll_findings::Findings;
 use ll_report::{RowReport, Rows, Sayings, Scratch, Shown, is_left_out, refused_under_some};
 use ll_trace::Located;
 use std::alloc::{AllocError, Global};

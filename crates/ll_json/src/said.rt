@@ -4,7 +4,7 @@
 ghost use Rattle.std.specs.Prelude.{◌≡◌, ◌∷◌, ◌++◌, [], None, if◌then◌else◌, false, option_map, true};
 ghost use Rattle.json.specs.Token as token;
 ghost use Rattle.ll_explain.specs.Buffers.{adding};
-ghost use Rattle.ll_explanations.specs.Findings.{said_in};
+ghost use Rattle.ll_findings.specs.Findings.{said_in};
 ghost use Rattle.ll_json.specs.Rows.{members_tokens, said_of, said_tokens};
 ghost use Rattle.ll_json.specs.Telling.{answer_at, members_by_value, members_told};
 ghost use Rattle.ll_json.specs.Writing.{writing};
@@ -12,7 +12,8 @@ ghost use Rattle.ll_json.specs.Writing.{writing};
 use crate::answers::{write_answer_members, write_plain_members};
 use crate::json_text::JsonText;
 use ll_explain::TextBuffer;
-use ll_explanations::{Explanation, Finding};
+use ll_explanations::Explanation;
+use ll_findings::Finding;
 use ll_report::{Saying, Telling, verdict_fingerprint};
 use ll_semantics::Answer;
 use ll_trace::{Op, Record};

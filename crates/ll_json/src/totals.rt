@@ -12,7 +12,7 @@ ghost use Rattle.ll_json.specs.Reports.{total_json, total_with, totals_from, tot
 use crate::json_text::JsonText;
 use crate::words::{write_number, write_text};
 use ll_explain::{TextBuffer, push_words};
-use ll_explanations::Finding;
+use ll_findings::Finding;
 use ll_report::Totals;
 
 /// Begins the totals of a version by its number and how many answers there are.

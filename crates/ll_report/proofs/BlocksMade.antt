@@ -10,7 +10,7 @@ use Rattle.ll_semantics.specs.declared.answer.Answer.{Answer}
 use Rattle.ll_semantics.specs.declared.answer.Answer.TheVariants.{Moot}
 use Rattle.ll_semantics.specs.Worlds.{judged}
 use Rattle.ll_semantics.proofs.Steps.{length-judged}
-use Rattle.ll_explanations.specs.Findings.{FindingValue, answer_in}
+use Rattle.ll_findings.specs.Findings.{FindingValue, answer_in}
 use Rattle.ll_explain.specs.Explained.{text_at}
 use Rattle.ll_explain.specs.Told.{text_told}
 use Rattle.ll_report.specs.declared.options.Shown.{Shown}

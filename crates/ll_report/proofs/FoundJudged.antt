@@ -6,7 +6,7 @@ use Rattle.ll_rights.specs.declared.abi.Abi.{Abi}
 use Rattle.ll_tree.specs.Trees.{Entry}
 use Rattle.ll_trace.specs.declared.op.Record.{Record}
 use Rattle.ll_semantics.specs.declared.answer.Answer.{Answer}
-use Rattle.ll_explanations.specs.Findings.{FindingValue, Finds}
+use Rattle.ll_findings.specs.Findings.{FindingValue, Finds}
 use Rattle.ll_process.specs.TakenLater.{AreTakenLater, IsTakenLater}
 use Rattle.ll_explain.specs.Explained.{text_at}
 use Rattle.ll_explain.specs.Told.{text_told}

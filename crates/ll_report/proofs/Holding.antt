@@ -3,7 +3,7 @@ use Rattle.std.proofs.Common.{◌≡◌, ◌∙◌, ℕ, ◌<◌, ◌≤◌, Lis
 use Rattle.std.proofs.lemmas.List.{length-map, take_all}
 use Rattle.ll_tree.specs.Trees.{Entry}
 use Rattle.ll_trace.specs.declared.op.Record.{Record}
-use Rattle.ll_explanations.specs.Findings.{FindingValue}
+use Rattle.ll_findings.specs.Findings.{FindingValue}
 use Rattle.ll_explain.specs.Buffers.{Buffered, adding, blank, most_counted}
 use Rattle.ll_explain.proofs.Buffering.{added, counted, window}
 use Rattle.ll_report.specs.declared.sayings.Sayings.{Sayings}

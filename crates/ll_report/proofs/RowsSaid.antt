@@ -12,11 +12,11 @@ use Rattle.std.proofs.lemmas.List.FromFn.{get_or-map-range_with_len, length-map-
 use Rattle.ll_tree.specs.Trees.{Entry}
 use Rattle.ll_trace.specs.declared.op.Record.{Record}
 use Rattle.ll_semantics.specs.declared.answer.Answer.{Answer}
-use Rattle.ll_explanations.specs.Findings.{FindingValue, answer_in, kept_at, said_by}
+use Rattle.ll_findings.specs.Findings.{FindingValue, answer_in, kept_at, said_by}
 use Rattle.ll_explain.specs.Told.{said_text, text_told}
 use Rattle.ll_report.specs.declared.options.Shown.{Shown}
 use Rattle.ll_report.specs.declared.spans.Form.TheVariants.{Answers, Explanations}
-use Rattle.ll_explanations.specs.Alike.{AreAlike, FindsAs}
+use Rattle.ll_findings.specs.Alike.{AreAlike, FindsAs}
 use Rattle.ll_report.specs.Scratches.{told_under, verdict_told}
 use Rattle.ll_report.specs.Blocks.{block_of}
 use Rattle.ll_report.specs.Found.{Found, answer_at, explanation_at}

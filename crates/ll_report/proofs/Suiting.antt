@@ -6,7 +6,7 @@ use Rattle.std.proofs.lemmas.List.{length-append}
 use Rattle.std.proofs.lemmas.List.Elements.{All-weaker}
 use Rattle.ll_tree.specs.Trees.{Entry}
 use Rattle.ll_trace.specs.declared.op.Record.{Record}
-use Rattle.ll_explanations.specs.Findings.{FindingValue}
+use Rattle.ll_findings.specs.Findings.{FindingValue}
 use Rattle.ll_report.specs.Measures.{AreHalves, IsComparableAt, IsMeasured}
 use Rattle.ll_report.specs.Scratches.{AreComparable, Suits, is_marked, told_under, verdict_told}
 use Rattle.ll_report.specs.declared.stretch.Stretch.{Stretch}

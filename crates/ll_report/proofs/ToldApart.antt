@@ -9,8 +9,8 @@ use Rattle.std.proofs.lemmas.List.Elements.{All-head, All-tail}
 use Rattle.std.proofs.lemmas.Slice.Eq.{bytes_eq-Decides}
 use Rattle.ll_tree.specs.Trees.{Entry}
 use Rattle.ll_trace.specs.declared.op.Record.{Record}
-use Rattle.ll_explanations.specs.Alike.{AreAlike, FindsAs}
-use Rattle.ll_explanations.specs.Findings.{FindingValue, answer_in, kept_at}
+use Rattle.ll_findings.specs.Alike.{AreAlike, FindsAs}
+use Rattle.ll_findings.specs.Findings.{FindingValue, answer_in, kept_at}
 use Rattle.ll_report.specs.Scratches.{AreToldApart, fingerprint_of, told_under}
 use Rattle.ll_report.specs.Spans.{agree}
 use Rattle.ll_report.proofs.Suiting.{Telling}

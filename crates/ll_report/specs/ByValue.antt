@@ -5,8 +5,8 @@ use Rattle.std.proofs.Common.{ap}
 use Rattle.ll_tree.specs.Trees.{Entry}
 use Rattle.ll_trace.specs.declared.op.Record.{Record}
 use Rattle.ll_semantics.specs.declared.answer.Answer.{Answer}
-use Rattle.ll_explanations.specs.Findings.{FindingValue, answer_in, kept_at, said_by}
-use Rattle.ll_explanations.specs.declared.explained.Explained.{Explained}
+use Rattle.ll_findings.specs.Findings.{FindingValue, answer_in, kept_at, said_by}
+use Rattle.ll_findings.specs.declared.explained.Explained.{Explained}
 use Rattle.ll_explain.specs.Told.{said_text, text_told}
 use Rattle.ll_report.specs.Lines.{verdict_of}
 use Rattle.ll_report.specs.Report.{verdict_text}

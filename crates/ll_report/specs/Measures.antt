@@ -3,7 +3,7 @@
 use Rattle.std.specs.Prelude.{◌≡◌, ◌<◌, ◌≤◌, ◌-◌, ◌^◌, ℕ, Bool, List, length}
 use Rattle.ll_tree.specs.Trees.{Entry}
 use Rattle.ll_trace.specs.declared.op.Record.{Record}
-use Rattle.ll_explanations.specs.Findings.{FindingValue}
+use Rattle.ll_findings.specs.Findings.{FindingValue}
 use Rattle.ll_report.specs.Scratches.{AreComparable, ScratchValue, told_under, verdict_told}
 use Rattle.ll_report.specs.declared.measured.Measured.{Measured}
 use Rattle.ll_report.specs.declared.stretch.Stretch.{Stretch}

@@ -4,7 +4,7 @@ use Rattle.std.specs.Prelude.{ℕ, ◌+◌, ◌<◌, ◌^◌, Bool, List, [], if
 use Rattle.std.specs.List.{list_any, range_with_len}
 use Rattle.ll_tree.specs.Trees.{Entry}
 use Rattle.ll_trace.specs.declared.op.Record.{Record}
-use Rattle.ll_explanations.specs.Findings.{FindingValue, answer_in}
+use Rattle.ll_findings.specs.Findings.{FindingValue, answer_in}
 use Rattle.ll_explain.specs.Told.{text_told}
 use Rattle.ll_report.specs.declared.options.Shown.{Shown}
 use Rattle.ll_report.specs.declared.rows.Row.{Row}

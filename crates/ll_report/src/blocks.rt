@@ -9,7 +9,7 @@ use crate::made::Rows;
 use crate::options::Shown;
 use crate::report::{Totals, is_refused, push_line};
 use ll_explain::{TextBuffer, push_found};
-use ll_explanations::Finding;
+use ll_findings::Finding;
 use ll_process::{Answer, Case};
 use ll_trace::Record;
 use ll_tree::Tree;

@@ -6,7 +6,7 @@ ghost use Rattle.ll_tree.specs.{Trees.Entry, WorkedTree.worked_tree};
 ghost use Rattle.ll_trace.specs.declared.op.Record.{Record as OneRecord};
 ghost use Rattle.ll_semantics.specs.Worlds.{judged};
 ghost use Rattle.ll_process.specs.TakenLater.{AreTakenLater};
-ghost use Rattle.ll_explanations.specs.Findings.{FindingValue, Finds};
+ghost use Rattle.ll_findings.specs.Findings.{FindingValue, Finds};
 ghost use Rattle.ll_report.specs.{declared.options.Shown.Shown, Found.found_under, Versions.found_in, Lines.lines_of};
 ghost use Rattle.ll_report.specs.Report.{report_text};
 ghost use Rattle.ll_report.specs.Spans.{all_spread_out, numbered_from, spans_of};

@@ -10,7 +10,7 @@ ghost use Rattle.ll_report.specs.Lines as spec;
 
 use crate::names::error_name;
 use ll_explain::{TextBuffer, push_number, push_words};
-use ll_explanations::Finding;
+use ll_findings::Finding;
 use ll_process::Answer;
 use ll_rules::{Errno, LayerSet, MOST_LAYERS};
 use ll_trace::Record;

@@ -2,7 +2,7 @@
 
 ghost use Rattle.std.specs.Prelude.{◌≡◌, IfOk, OnOk};
 ghost use Rattle.std.specs.Io.KnownBytes.{Appends};
-ghost use Rattle.ll_explanations.specs.Findings.{Finds};
+ghost use Rattle.ll_findings.specs.Findings.{Finds};
 ghost use Rattle.ll_report.specs.{Made.text_of, Report.report_status};
 ghost use Rattle.ll_report.specs.Shown.{told_by, told_of};
 ghost use Rattle.ll_report.specs.Writing.{AppendsBeginning};
@@ -12,7 +12,7 @@ use crate::made::Rows;
 use crate::options::Shown;
 use crate::paged::Paged;
 use crate::report::{Report, Totals};
-use ll_explanations::Finding;
+use ll_findings::Finding;
 use ll_process::Case;
 use std::alloc::{AllocError, Global};
 use std::io;

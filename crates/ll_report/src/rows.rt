@@ -4,7 +4,7 @@ ghost use Rattle.std.specs.Prelude.{◌≡◌, ◌+◌, ◌<◌, ◌^◌, ◌&&�
 ghost use Rattle.std.specs.List.{range_with_len};
 ghost use Rattle.ll_explain.specs.Buffers.{adding};
 ghost use Rattle.ll_report.specs.Rows.{is_row_left_out};
-ghost use Rattle.ll_explanations.specs.Alike.{AreAlike};
+ghost use Rattle.ll_findings.specs.Alike.{AreAlike};
 ghost use Rattle.ll_report.specs.Scratches.{AreComparable, said_by, verdict_told};
 ghost use Rattle.ll_report.specs.Versions.{IsTellable, answers_in, row_of, some_refuses};
 
@@ -16,7 +16,7 @@ use crate::scratch::Scratch;
 use crate::spans::Form;
 use crate::telling::{InWords, Verdicts};
 use ll_explain::{TextBuffer, push_words};
-use ll_explanations::{Finding, Findings};
+use ll_findings::{Finding, Findings};
 use ll_trace::Record;
 
 /// Whether some version refuses the record at an index.

@@ -2,12 +2,12 @@
 
 ghost use Rattle.std.specs.Prelude.{◌≡◌, ◌+◌, ◌<◌, ◌≤◌, ◌-◌, ◌^◌, [], false, get_or, length, nat_eq, true};
 ghost use Rattle.ll_explain.specs.Buffers.{adding};
-ghost use Rattle.ll_explanations.specs.Alike.{AreAlike};
+ghost use Rattle.ll_findings.specs.Alike.{AreAlike};
 ghost use Rattle.ll_report.specs.Scratches.{AreToldApart, FitIn, fingerprint_of, said_by, told_under, verdict_told};
 
 use crate::telling::{Saying, Telling, Verdicts};
 use ll_explain::TextBuffer;
-use ll_explanations::{Finding, Findings};
+use ll_findings::{Finding, Findings};
 use ll_trace::Record;
 use ll_tree::Tree;
 

@@ -8,7 +8,7 @@ use crate::sayings::Sayings;
 use crate::stretch::Stretch;
 use crate::telling::Telling;
 use crate::text_pair::TextPair;
-use ll_explanations::Findings;
+use ll_findings::Findings;
 use ll_trace::Record;
 use ll_tree::Tree;
 use std::alloc::{AllocError, Global};

@@ -8,7 +8,7 @@ use crate::measured::{Measured, Measuring};
 use crate::sayings::Sayings;
 use crate::telling::Telling;
 use ll_explain::TextBuffer;
-use ll_explanations::Findings;
+use ll_findings::Findings;
 use ll_trace::Record;
 use ll_tree::Tree;
 use std::alloc::Global;

@@ -11,7 +11,8 @@ ghost use Rattle.ll_report.specs.ByValue.{text_by_value, verdict_by_value};
 
 use crate::report::push_verdict;
 use ll_explain::{TextBuffer, push_found};
-use ll_explanations::{Explanation, Finding, LayerObjection};
+use ll_explanations::{Explanation, LayerObjection};
+use ll_findings::Finding;
 use ll_semantics::Answer;
 use ll_trace::Record;
 use ll_tree::Tree;
@@ -30,7 +31,7 @@ pub trait Telling {
     ghost use Rattle.std.specs.Prelude.{◌≡◌, ℕ, List};
     ghost use Rattle.ll_tree.specs.Trees.{Entry};
     ghost use Rattle.ll_trace.specs.declared.op.Record.{Record as OneRecord};
-    ghost use Rattle.ll_explanations.specs.Findings.{FindingValue, answer_in, kept_at};
+    ghost use Rattle.ll_findings.specs.Findings.{FindingValue, answer_in, kept_at};
     ghost use Rattle.ll_report.specs.Scratches.{fingerprint_of};
 
     ghost told: { List Entry → List OneRecord → FindingValue → ℕ → List ℕ };

@@ -14,7 +14,7 @@ use crate::sayings::Sayings;
 use crate::scratch::Scratch;
 use crate::telling::InWords;
 use ll_explain::TextBuffer;
-use ll_explanations::{Finding, Findings};
+use ll_findings::{Finding, Findings};
 use ll_trace::Located;
 use std::alloc::{AllocError, Global};
 use std::marker::Model;

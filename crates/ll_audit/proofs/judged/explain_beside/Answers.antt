@@ -8,7 +8,7 @@ use mir.Syntax.{Sym}
 use Rattle.std.proofs.Crossing.{crosses}
 use Rattle.ll_semantics.proofs.answer.Answer.TheSendSync as answer
 use Rattle.ll_process.proofs.Crossing.{case_sync, past_sync}
-use Rattle.ll_explanations.proofs.findings.Findings.TheSendSync as findings
+use Rattle.ll_findings.proofs.findings.Findings.TheSendSync as findings
 use Rattle.ll_audit.proofs.judged.explain_beside.Lts as lts
 use Rattle.ll_audit.proofs.judged.explain_beside.Goals as goal
 

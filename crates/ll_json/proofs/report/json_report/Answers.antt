@@ -3,7 +3,7 @@ use Rattle.std.specs.Prelude.{count_by}
 use Rattle.std.specs.List.{range_with_len}
 use Rattle.std.proofs.lemmas.Result.{IfOk-weaker}
 use Rattle.ll_trace.specs.declared.op.Record.{Record}
-use Rattle.ll_explanations.specs.Findings.{FindingValue}
+use Rattle.ll_findings.specs.Findings.{FindingValue}
 use Rattle.ll_report.specs.Made.{Made, text_of}
 use Rattle.ll_report.specs.Shown.{Told}
 use Rattle.ll_report.specs.Versions.{some_refuses}

@@ -1,5 +1,5 @@
 use Rattle.std.proofs.Common.{◌∙◌, ◌+◌, List, sym, ap, arith, drop}
-use Rattle.ll_explanations.specs.Findings.{FindingValue}
+use Rattle.ll_findings.specs.Findings.{FindingValue}
 use Rattle.ll_report.specs.Versions.{answers_in}
 use Rattle.ll_report.proofs.SpansLeft.{next_of}
 use Rattle.ll_json.specs.Parts.{values_tokens}

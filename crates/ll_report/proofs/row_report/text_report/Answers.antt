@@ -2,7 +2,7 @@ use Rattle.std.proofs.Common.{◌≡◌, ◌∙◌, List, ℕ, length, ap, ap₂
 use Rattle.ll_semantics.specs.declared.answer.Answer.{Answer}
 use Rattle.ll_semantics.specs.Worlds.{judged}
 use Rattle.ll_semantics.proofs.Steps.{length-judged}
-use Rattle.ll_explanations.specs.Findings.{FindingValue}
+use Rattle.ll_findings.specs.Findings.{FindingValue}
 use Rattle.ll_process.proofs.TakenLater.{taken_as_they_are}
 use Rattle.ll_explain.proofs.FindingSays.{said_as_judged}
 use Rattle.ll_process.specs.Cases.{CaseValue}

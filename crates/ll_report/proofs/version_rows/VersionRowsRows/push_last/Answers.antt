@@ -1,6 +1,6 @@
 use Rattle.std.proofs.Common.{◌∙◌, List, ap}
 use Rattle.ll_explain.specs.Buffers.{adding}
-use Rattle.ll_explanations.specs.Findings.{FindingValue}
+use Rattle.ll_findings.specs.Findings.{FindingValue}
 use Rattle.ll_report.specs.Made.{Made}
 use Rattle.ll_report.specs.Rows.{totals_from}
 use Rattle.ll_report.specs.Versions.{answers_in}

@@ -1,0 +1,5 @@
+pub mod Kept
+pub mod Overlays
+pub mod Findings
+pub mod Alike
+pub mod Stretches

@@ -1,0 +1,128 @@
+//! What is found of the records of a case otherwise than in a base: several threads work it out, each for a stretch of
+//! the records.
+
+ghost use Rattle.std.specs.Prelude.{◌≡◌, ◌≤◌, ℕ, IfOk, List, length};
+ghost use Rattle.std.specs.List.{AllZip};
+ghost use Rattle.ll_semantics.specs.Worlds.{judged};
+ghost use Rattle.ll_process.specs.Cases.{CaseValue};
+ghost use Rattle.ll_trails.specs.CaseTrails.{AreTrailsAt};
+ghost use Rattle.ll_findings.specs.Findings.{FindingValue};
+ghost use Rattle.ll_findings.specs.Stretches.{AreStretches, Covers, IsCompared};
+ghost use Rattle.ll_findings.specs.declared.stretch.Stretch.{Stretch as OneStretch};
+
+use crate::changes::Changes;
+use crate::finding::Finding;
+use crate::found::Found;
+use crate::stretch::Stretch;
+use crate::stretches::{answer_at, cut_all, explain_one, stretches_of};
+use ll_process::CaseView;
+use ll_rules::NoMemory;
+use ll_semantics::Answer;
+use ll_trails::TraceOrigins;
+use rayon::prelude::*;
+use std::alloc::{AllocError, Global};
+use std::thread::Threads;
+
+/// What is found of consecutive records otherwise than in a base, or that memory ran out.
+type Comparing = Result<Changes, NoMemory>;
+
+/// What is found of the records from an index on, up to another, otherwise than in a base.
+fn compare_from(
+    alloc: Global,
+    case: &CaseView<'_>,
+    answers: &[Answer],
+    newer: Option<&Finding>,
+    base: &Found,
+    trails: TraceOrigins,
+    from: usize,
+    end: usize,
+) -> Comparing
+    requires judged { answers.now ≡ judged case.now.tree case.now.abi case.now.records }
+    requires rises { from ≤ end }
+    requires within { end ≤ length answers.now }
+    requires begins { AreTrailsAt case.now from trails }
+    ensures { IfOk result (Covers case.now base.now from end) }
+{
+    let mut trails = trails;
+    let mut changes = Changes::none(alloc);
+    for index in from..end {
+        let answer = answer_at(case, answers, index);
+        let kept = explain_one(alloc, case, &trails, index, answer, newer)?;
+        changes.note(base, index, answer_at(case, answers, index), &kept)?;
+        trails.follow(alloc, case, index, answer_at(case, answers, index))?;
+    }
+    Ok(changes)
+}
+
+impl<'a> Stretch<'a> {
+    /// What is found of its records otherwise than in a base.
+    fn compared(self, alloc: Global, base: &Found) -> Comparing
+        ensures { IsCompared base.now self.entry result }
+    {
+        compare_from(
+            alloc,
+            self.case,
+            self.answers,
+            self.newer,
+            base,
+            self.trails,
+            self.from,
+            self.end,
+        )
+    }
+}
+
+/// What is found of the records of stretches otherwise than in a base, each worked out by a thread of its own.
+fn compare_each<'a, R: Threads + Sync>(
+    rt: &R,
+    alloc: Global,
+    stretches: Vec<Stretch<'a>>,
+    base: &Found,
+) -> Result<Vec<Comparing>, AllocError>
+    ensures { IfOk result
+        (λ parts. AllZip (IsCompared base.now) stretches.entry.items parts.items) }
+{
+    stretches
+        .into_par_iter()
+        .map(
+            move |stretch: Stretch| -> Comparing
+                ensures { IsCompared base.entry.now stretch.entry result }
+            { stretch.compared(alloc, base) },
+        )
+        .with_min_len(1)
+        .collect(rt, alloc)
+}
+
+/// Appends what is found of the records of one stretch after the other.
+fn join_changes(alloc: Global, parts: Vec<Comparing>) -> Comparing
+    ensures { IfOk result (λ all. (case : CaseValue) (base : FindingValue)
+        (stretches : List OneStretch) (end : ℕ) → AllZip (IsCompared base) stretches parts.items
+        → AreStretches case 0 end stretches → Covers case base 0 end all) }
+{
+    let mut all = Changes::none(alloc);
+    for part in parts {
+        let own = part?;
+        all.append(own)?;
+    }
+    Ok(all)
+}
+
+/// What is found of all records of a case otherwise than in a base, worked out by at most this many threads. An
+/// explanation shares the memory of a like one that was found under a newer version.
+pub(crate) fn compare_all<R: Threads + Sync>(
+    rt: &R,
+    alloc: Global,
+    case: &CaseView<'_>,
+    answers: &[Answer],
+    newer: &Finding,
+    base: &Found,
+    workers: usize,
+) -> Comparing
+    requires { answers.now ≡ judged case.now.tree case.now.abi case.now.records }
+    ensures { IfOk result (Covers case.now base.now 0 (length case.now.records)) }
+{
+    let whole = Stretch::whole(alloc, case, answers, Some(newer));
+    let stretches = cut_all(alloc, whole, stretches_of(case, workers))?;
+    let parts = compare_each(rt, alloc, stretches, base)?;
+    join_changes(alloc, parts)
+}
