@@ -1,8 +1,11 @@
-pub mod FindingTells
+-- lists of which only changes to a base are kept
 pub mod Rising
 pub mod Overlaying
-pub mod Marking
 pub mod Covering
+-- explanations, stretch after stretch
 pub mod KeepingAll
 pub mod Stretching
 pub mod Crossing
+-- what a finding tells, and which records are marked
+pub mod FindingTells
+pub mod Marking
