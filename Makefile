@@ -96,7 +96,7 @@ dist:
 # Proves everything and runs every test of the crates. Then, beside one another, tests the recorder and the packaging
 # with the built program, and refuses it, and the tests made for this, each of their requests for memory. At last drives
 # the program through faults of the system around it. What is tried after the proofs is only told if it fails.
-# The allocator of the prover, mimalloc, is told to keep what is freed: a third of the page faults go.
+# mimalloc, the allocator of the prover, keeps the memory that is freed, which avoids a third of the page faults.
 test: export MIMALLOC_PURGE_DELAY = -1
 test:
 	RT_JOBS='$(RT_JOBS)' packaging/gate '$(GATE)' rt ci

@@ -44,7 +44,7 @@ fn are_same_objections(all: &[LayerObjection], others: &[LayerObjection]) -> boo
 }
 
 impl Explanation {
-    /// Whether another explanation is the same.
+    /// Whether another explanation is found to be the same value. No clause says that all same values are found.
     pub fn is_same(&self, other: &Explanation) -> bool
         ensures { result ≡ true → self.now ≡ other.now }
     {

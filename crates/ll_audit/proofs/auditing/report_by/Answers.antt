@@ -1,4 +1,4 @@
--- The report is that of the form that is asked for. A wrong form is refused here at once.
+-- The report has the form that is asked for.
 use Rattle.std.proofs.Common.{rules}
 use Rattle.ll_audit.proofs.auditing.report_by.Goals as goal
 
