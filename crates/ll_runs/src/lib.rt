@@ -2,8 +2,5 @@
 //! writers that fail.
 #![tactic(auto)]
 
-mod failing;
 #[cfg(test)]
 mod tests;
-
-pub use failing::FailingSource;

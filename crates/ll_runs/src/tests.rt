@@ -1,6 +1,7 @@
 //! The tests, and what they share.
 
 mod examples;
+mod failing;
 mod families;
 mod gates;
 mod json;

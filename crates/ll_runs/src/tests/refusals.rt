@@ -2,7 +2,7 @@
 
 ghost use Rattle.std.specs.Prelude.{◌+◌, ◌^◌, ◌<◌};
 
-use crate::failing::FailingSource;
+use crate::tests::failing::FailingSource;
 use crate::tests::ready::{REPORT, TRACE, owned};
 use ll_audit::{Ending, Idle, MemorySource, Source, SourceFault, front_ending};
 use ll_fixtures::TREE;
@@ -64,7 +64,8 @@ fn ending_of<R: Threads + Wait + AllocGlobal + Sync, S: Source>(
     Ok(front_ending(rt, rt.alloc(), &words, source, out, err, &Idle))
 }
 
-/// Whether the program ends with a status and a line, which it tells, where its source fails from one call on.
+/// Whether the program ends with a status and a line, which it tells, where its source fails from one call on, and
+/// whether the source counts a failure exactly if a file is unread, at status 3.
 fn is_ended<R: Threads + Wait + AllocGlobal + Sync>(
     rt: &R,
     (good_calls, fault): (u64, SourceFault),
@@ -79,7 +80,8 @@ fn is_ended<R: Threads + Wait + AllocGlobal + Sync>(
         ending.told
             && ending.status == status
             && err.as_slice() == line.as_bytes()
-            && out.is_empty(),
+            && out.is_empty()
+            && (source.failures() == 1) == (status == 3),
     )
 }
 

@@ -1,6 +1,8 @@
 //! Tests of cases, of the judging of one process after another, and of workers.
 
 mod gates;
+mod greatest_first;
+mod keeper;
 mod orders;
 mod pool;
 mod refusals;

@@ -1,11 +1,12 @@
-//! The worked trace, judged in orders that different hands lead to, and a long chain of forks.
+//! The worked trace, judged in orders that different hands lead to; roots alone; and a long chain of forks.
 
-use crate::keeper::Wanted;
-use crate::order::judge_greatest_first;
+use crate::tests::judging::greatest_first::judge_greatest_first;
+use crate::tests::judging::keeper::Wanted;
 use crate::tests::judging::worked::{FAMILY_ANSWERS, Forks, boxed_case, case_with, judge_told};
 use ll_fixtures::FAMILY;
 use ll_pool::collect;
 use ll_process::{Answer, Case};
+use ll_trace::ProcessId;
 use std::alloc::Global;
 use std::process::Abort;
 use std::test::Fail;
@@ -32,6 +33,27 @@ fn pieces_of_family(rt: &(impl AllocGlobal + Abort)) -> Result<[usize; 3], Fail>
 #[test]
 fn answers_are_the_same_whatever_a_hand_keeps(rt: HostRuntime) -> Result<(), Fail> {
     assert_eq!(rt; pieces_of_family(&rt)?, [12, 6, 1]);
+    Ok(())
+}
+
+/// The process with which the first piece of a case begins.
+fn first_judged(alloc: Global, case: &Case) -> Result<Option<ProcessId>, Fail> {
+    let pieces = judge_greatest_first(alloc, case, Wanted::Nothing)?;
+    Ok(match pieces.first() {
+        Some(piece) => piece.processes().first().copied(),
+        None => None,
+    })
+}
+
+/// The same of processes that start by themselves.
+fn first_of_roots(alloc: Global, processes: u32) -> Result<Option<ProcessId>, Fail> {
+    let case = case_with(alloc, Forks::Nobody, processes)?;
+    first_judged(alloc, &case)
+}
+
+#[test]
+fn the_greatest_process_is_judged_first(rt: HostRuntime) -> Result<(), Fail> {
+    assert_eq!(rt; first_of_roots(rt.alloc(), 3)?, Some(ProcessId(2)));
     Ok(())
 }
 
