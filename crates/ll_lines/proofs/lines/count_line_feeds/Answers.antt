@@ -1,5 +1,5 @@
 -- The line feeds of the lanes and those behind them are those that were left.
-use Rattle.std.proofs.Common.{cond, eqb, length, ap, ◌∙◌, arith}
+use Rattle.std.proofs.Common.{cond, eqb, length, ap, ◌∙◌, arith, rules}
 use Rattle.std.proofs.lemmas.List.{length-take-le}
 use Rattle.std.proofs.lemmas.List.Sums.{sum_by-take-drop}
 use Rattle.ll_lines.specs.LineByLine.{line_feeds}
@@ -22,3 +22,6 @@ loop-lanes-preserved c =
       ap line_feeds cases.1,
       sum_by-take-drop (λ byte. cond (eqb byte 10) 1 0) c.loop-lanes.rest.now 32,
     )
+
+pub returns-clause-count : goal.returns-clause-count
+returns-clause-count c = search rules

@@ -1,4 +1,4 @@
-use Rattle.std.proofs.Common.{◌∙◌, ◌&&◌, ap, Bool, List, not, length, ◌≤◌}
+use Rattle.std.proofs.Common.{◌∙◌, ◌&&◌, ap, Bool, List, not, length, ◌≤◌, rules}
 use Rattle.ll_tree.specs.Trees.{path_at}
 use Rattle.ll_rules.specs.declared.domain.TheConstants.{MOST_LAYERS}
 use Rattle.ll_rules.specs.declared.domain.LayerId.{LayerId}
@@ -26,3 +26,6 @@ returns-clause-answer c =
 
 pub invariant_of-check : goal.invariant_of-check
 invariant_of-check c = record { rules = rw c.layer_of-layer.ensures (all_in c.args.tree.now c.args.layers.now _ c.requires.rules) }
+
+pub returns-clause-look_ups : goal.returns-clause-look_ups
+returns-clause-look_ups c = search rules
