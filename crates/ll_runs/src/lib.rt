@@ -2,5 +2,8 @@
 //! writers that fail.
 #![tactic(auto)]
 
+mod failing;
 #[cfg(test)]
 mod tests;
+
+pub use failing::FailingSource;

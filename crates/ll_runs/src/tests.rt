@@ -1,7 +1,6 @@
 //! The tests, and what they share.
 
 mod examples;
-mod failing;
 mod families;
 mod gates;
 mod json;

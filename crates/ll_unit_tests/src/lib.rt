@@ -2,5 +2,10 @@
 //! processes judged in an order of a caller's own, with which some of them judge.
 #![tactic(auto)]
 
+mod keeper;
+mod order;
 #[cfg(test)]
 mod tests;
+
+pub use keeper::{Keeper, Wanted};
+pub use order::judge_greatest_first;

@@ -1,8 +1,6 @@
 //! Tests of cases, of the judging of one process after another, and of workers.
 
 mod gates;
-mod greatest_first;
-mod keeper;
 mod orders;
 mod pool;
 mod refusals;

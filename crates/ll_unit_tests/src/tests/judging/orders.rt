@@ -1,7 +1,7 @@
 //! The worked trace, judged in orders that different hands lead to; roots alone; and a long chain of forks.
 
-use crate::tests::judging::greatest_first::judge_greatest_first;
-use crate::tests::judging::keeper::Wanted;
+use crate::keeper::Wanted;
+use crate::order::judge_greatest_first;
 use crate::tests::judging::worked::{FAMILY_ANSWERS, Forks, boxed_case, case_with, judge_told};
 use ll_fixtures::FAMILY;
 use ll_pool::collect;
@@ -45,7 +45,7 @@ fn first_judged(alloc: Global, case: &Case) -> Result<Option<ProcessId>, Fail> {
     })
 }
 
-/// The same of processes that start by themselves.
+/// The process with which the first piece begins if so many processes start by themselves.
 fn first_of_roots(alloc: Global, processes: u32) -> Result<Option<ProcessId>, Fail> {
     let case = case_with(alloc, Forks::Nobody, processes)?;
     first_judged(alloc, &case)

@@ -6,8 +6,8 @@ ghost use Rattle.std.specs.Prelude.{IfOk};
 ghost use Rattle.ll_process.specs.Jobs.{AreJobsOf};
 ghost use Rattle.ll_pool.specs.Gathered.{ArePiecesOf};
 
-use crate::tests::judging::greatest_first::judge_greatest_first;
-use crate::tests::judging::keeper::{Keeper, Wanted};
+use crate::keeper::{Keeper, Wanted};
+use crate::order::judge_greatest_first;
 use crate::tests::judging::worked::{case_of, expect_answers, is_told};
 use ll_fixtures::TREE;
 use ll_pool::{CollectFault, collect, judge_alone};
@@ -148,7 +148,7 @@ fn roots_without_memory(rt: HostRuntime) -> Result<(), Fail> {
 }
 
 /// The job of process 1, and a hand with even numbers that holds the job of process 0.
-#[tactic(auto, using(crate::proofs::tests::judging::Ordering::left_of_case))]
+#[tactic(auto, using(crate::proofs::Ordering::left_of_case))]
 fn job_again(alloc: Global, case: &Case) -> Result<(Job<'_>, Keeper<'_>), Fail>
     ensures { IfOk result (λ both. AreJobsOf both.0.case.now both.1.jobs.items) }
 {

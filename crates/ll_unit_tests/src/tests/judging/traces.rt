@@ -1,6 +1,6 @@
 //! Worked traces that a hand judges which keeps nothing.
 
-use crate::tests::judging::keeper::Wanted;
+use crate::keeper::Wanted;
 use crate::tests::judging::worked::{boxed_case, case_at_best_effort, judge_told};
 use ll_rights::Abi;
 use std::process::Abort;

@@ -1,7 +1,7 @@
 //! Cases against the worked tree, and the answers that their records are to get.
 
-use crate::tests::judging::greatest_first::judge_greatest_first;
-use crate::tests::judging::keeper::Wanted;
+use crate::keeper::Wanted;
+use crate::order::judge_greatest_first;
 use ll_fixtures::TREE;
 use ll_pool::collect;
 use ll_process::{Answer, Case};

@@ -1,7 +1,7 @@
 use Rattle.std.proofs.Common.{ℕ, ◌<◌, ◌≤◌, length}
 use Rattle.std.specs.Prelude.{slice_index_or}
 use Rattle.ll_process.specs.declared.job.Job.{Job}
-use Rattle.ll_unit_tests.proofs.tests.judging.keeper.greatest.Given as goal
+use Rattle.ll_unit_tests.proofs.keeper.greatest.Given as goal
 
 abbrev pub invariant-loop-index : goal.invariant-loop-index
 invariant-loop-index l = record {

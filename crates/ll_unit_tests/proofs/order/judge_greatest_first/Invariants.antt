@@ -1,7 +1,7 @@
 use Rattle.ll_trace.specs.Processes.{process_count}
 use Rattle.ll_process.specs.Jobs.{processes_of, weight_of}
 use Rattle.ll_pool.proofs.Sharing.{AreShared}
-use Rattle.ll_unit_tests.proofs.tests.judging.greatest_first.judge_greatest_first.Given as goal
+use Rattle.ll_unit_tests.proofs.order.judge_greatest_first.Given as goal
 
 abbrev pub invariant-loop-job : goal.invariant-loop-job
 invariant-loop-job l = AreShared l.case l.keeper.jobs.items l.pieces.items

@@ -2,7 +2,7 @@
 
 ghost use Rattle.std.specs.Prelude.{◌≡◌, ◌<◌, ◌≤◌, ◌%◌, ◌==◌, [], ◌∷◌, true, false, All, IfNone, IfSome, length, slice_index_or};
 ghost use Rattle.std.specs.List.Sorted.{IsPermutation};
-ghost use Rattle.ll_unit_tests.specs.declared.tests.judging.keeper.Wanted.TheVariants.{Nothing, Every, Even};
+ghost use Rattle.ll_unit_tests.specs.declared.keeper.Wanted.TheVariants.{Nothing, Every, Even};
 ghost use Rattle.ll_process.specs.declared.job.Job.{Job as OneJob};
 
 use ll_process::{Hand, Job};

@@ -1,7 +1,7 @@
 use Rattle.std.proofs.Common.{◌≡◌, ◌<◌, ◌≤◌, List, All, length, slice_index_or, subst, sym, ◌∙◌, ap}
 use Rattle.std.proofs.lemmas.List.Sorted.{IsPermutation-swap_remove}
 use Rattle.ll_process.specs.declared.job.Job.{Job}
-use Rattle.ll_unit_tests.proofs.tests.judging.keeper.Keeper.take_greatest.Goals as goal
+use Rattle.ll_unit_tests.proofs.keeper.Keeper.take_greatest.Goals as goal
 
 pub returns-clause-taken : goal.returns-clause-taken
 returns-clause-taken c =

@@ -4,7 +4,7 @@ ghost use Rattle.std.specs.Prelude.{◌≡◌, ◌<◌, ◌+◌, ℕ, IfOk, sum_
 ghost use Rattle.ll_trace.specs.Processes.{process_count, times};
 ghost use Rattle.ll_pool.specs.Gathered.{ArePiecesOf, processes_in};
 
-use crate::tests::judging::keeper::{Keeper, Wanted};
+use crate::keeper::{Keeper, Wanted};
 use ll_process::{Case, Piece, judge};
 use ll_rules::NoMemory;
 use std::alloc::Global;

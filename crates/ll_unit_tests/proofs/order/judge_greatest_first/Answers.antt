@@ -3,8 +3,8 @@ use Rattle.std.proofs.Common.{◌≡◌, ◌++◌, ◌∷◌, [], arith, sym, su
 use Rattle.std.proofs.lemmas.Grind.{common_steps}
 use Rattle.ll_process.specs.Jobs.{AreJobsOf}
 use Rattle.ll_pool.proofs.Sharing.{shared_first}
-use Rattle.ll_unit_tests.proofs.tests.judging.Ordering.{judged_more, judged_all, taken_out, weighs_less}
-use Rattle.ll_unit_tests.proofs.tests.judging.greatest_first.judge_greatest_first.Goals as goal
+use Rattle.ll_unit_tests.proofs.Ordering.{judged_more, judged_all, taken_out, weighs_less}
+use Rattle.ll_unit_tests.proofs.order.judge_greatest_first.Goals as goal
 
 pub loop-job-init : goal.loop-job-init
 loop-job-init c = rw c.new-pieces.ensures.items (shared_first c.args.case.now c.in_ok-jobs.jobs.items c.in_ok-jobs.ensures.of_case c.in_ok-jobs.ensures.roots)
