@@ -41,7 +41,7 @@ PACKAGES := packaging/out
 IS_BUILT = $(if $(wildcard $(PROGRAM)),,$(error landaudit is not built: run 'make landaudit' first))
 IS_PROVED = $(if $(wildcard $(CHECK)),,$(error nothing says that $(PROGRAM) is proved: run 'make landaudit' first))
 
-.PHONY: example landaudit install uninstall deb dist test $(TRIED) live
+.PHONY: example landaudit install uninstall deb dist test $(TRIED) test-record-first test-record-rest live
 
 # Builds landaudit without its proofs, and runs it; a refused call (status 1) is an answer as good as another.
 example:
@@ -104,8 +104,14 @@ test:
 	{ $(MAKE) --no-print-directory --output-sync --jobs 4 $(TRIED) && bench/drive; } > $$log 2>&1; status=$$?; \
 	test $$status -eq 0 || { cat $$log >&2; rm -f '$(GATE)'; }; rm -f $$log; exit $$status
 
-test-record:
-	$(call UNIT_TESTS,record)
+# The tests of the recorder, in two parts that take about as long as one another.
+test-record: test-record-first test-record-rest
+
+test-record-first:
+	$(call UNIT_TESTS,record) -p 'test_[a-p]*.py'
+
+test-record-rest:
+	$(call UNIT_TESTS,record) -p 'test_[!a-p]*.py'
 
 test-packaging:
 	$(call UNIT_TESTS,packaging)

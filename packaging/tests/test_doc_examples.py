@@ -28,7 +28,7 @@ def blocks(source: Path) -> list[str]:
 
 def lines_of_tests() -> str:
     """All tests of public functions, without what indents the bodies of their functions."""
-    tests = [*CRATES.glob("ll_unit_tests/src/tests/**/*.rt"), *CRATES.glob("ll_runs/src/tests/**/*.rt")]
+    tests = CRATES.glob("ll_tests/src/tests/**/*.rt")
     return "\n".join(re.sub(r"^    ", "", file.read_text(), flags=re.M) for file in tests)
 
 

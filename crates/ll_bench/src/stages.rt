@@ -5,11 +5,10 @@ ghost use Rattle.ll_pool.specs.Gathered.{ArePiecesOf};
 
 use crate::stopwatch::Stopwatch;
 use anyhow::{Context, Result};
-use ll_audit::{Cut, Idle, audit};
-use ll_pool::{collect, run};
+use ll_pool::{Gate, collect, run};
 use ll_process::{Case, Piece};
 use ll_rights::Abi;
-use ll_trace::Trace;
+use ll_trace::{ProcessId, Trace};
 use ll_tree::Tree;
 use std::fs;
 use std::rt::{Clock, Files};
@@ -32,7 +31,7 @@ struct Input<'a> {
     trace: &'a [u8],
 }
 
-/// Audits stage by stage and then as a whole, and prints a line for each stage and a line on the run.
+/// Audits stage by stage up to the answers, and prints a line for each stage and a line on the trace.
 pub(crate) fn measure<R: Clock + Files + Print + AllocGlobal + Threads + Wait + Sync>(
     rt: &R,
     run: &Run<'_>,
@@ -56,24 +55,7 @@ fn of_files<R: Clock + Files + Print + AllocGlobal + Threads + Wait + Sync>(
 ) -> Result<()> {
     watch.lap("read both files")?;
     by_stages(rt, watch, input)?;
-    watch.lap("give the memory back")?;
-    as_a_whole(rt, watch, input)
-}
-
-fn as_a_whole<R: Clock + Files + Print + AllocGlobal + Threads + Wait + Sync>(
-    rt: &R,
-    watch: &mut Stopwatch<'_, R>,
-    input: &Input<'_>,
-) -> Result<()> {
-    let cut = Cut::Grain(64);
-    let (alloc, abi) = (rt.alloc(), input.abi);
-    let report = audit(rt, alloc, input.tree, input.trace, abi, 1, cut, &Idle)
-        .ok()
-        .context("audit")?;
-    watch.lap("audit as a whole")?;
-    let (bytes, refused) = (report.bytes.len(), report.refused);
-    println!(rt; "report: {bytes} bytes, {refused} refused")?;
-    Ok(())
+    watch.lap("give the memory back")
 }
 
 /// The stages from the bytes of the files to the answers.
@@ -149,6 +131,13 @@ fn collecting<R: Clock + Files + Print + AllocGlobal + Threads + Wait + Sync>(
     Ok(())
 }
 
+/// A gate that lets every job through at once.
+struct Open;
+
+impl Gate for Open {
+    fn begun(&self, _process: ProcessId) {}
+}
+
 /// The pieces of a case, judged by this many workers, with a cut at each fork.
 fn pieces_by<'c, R: AllocGlobal + Threads + Wait + Sync>(
     rt: &R,
@@ -159,7 +148,7 @@ fn pieces_by<'c, R: AllocGlobal + Threads + Wait + Sync>(
     ensures { IfOk result (λ pieces. ArePiecesOf case.now pieces.items) }
 {
     let cut = vec![in rt.alloc(); true; case.trace().processes() as usize]?;
-    run(rt, rt.alloc(), case, workers, &cut, &Idle)
+    run(rt, rt.alloc(), case, workers, &cut, &Open)
         .ok()
         .context("judging")
 }

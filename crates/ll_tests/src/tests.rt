@@ -1,0 +1,8 @@
+//! The tests, by what they try.
+
+mod examples;
+mod gates;
+mod judging;
+mod reading;
+mod rules;
+mod runs;

@@ -1,0 +1,7 @@
+//! Tests of cases, of the judging of one process after another, and of workers.
+
+mod orders;
+mod pool;
+mod refusals;
+mod traces;
+mod worked;

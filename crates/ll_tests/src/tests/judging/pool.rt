@@ -1,0 +1,321 @@
+//! What no clause of the pool says: that workers run at once, who judges what, and that calls succeed where memory and
+//! threads are there.
+
+ghost use Rattle.std.specs.Prelude.{IfOk};
+ghost use Rattle.ll_pool.specs.Gathered.{ArePiecesOf};
+
+use crate::tests::gates::Meeting;
+use crate::tests::judging::worked::{FAMILY_ANSWERS, Forks, boxed_case, case_with, expect_answers};
+use ll_audit::Idle;
+use ll_fixtures::FAMILY;
+use ll_pool::{CollectFault, collect, judge_alone, run};
+use ll_process::{Answer, Case, Piece};
+use ll_trace::ProcessId;
+use std::alloc::Global;
+use std::process::Abort;
+use std::sync::Wait;
+use std::test::Fail;
+use std::thread::Threads;
+
+/// The pieces that workers make, of whom there are one to 64.
+fn made<'c, R: Threads + Wait + Sync>(
+    rt: &R,
+    alloc: Global,
+    case: &'c Case,
+    workers: usize,
+    cut: &[bool],
+) -> Result<Vec<Piece<'c>>, Fail>
+    ensures { IfOk result (λ pieces. ArePiecesOf case.now pieces.items) }
+{
+    Ok(run(rt, alloc, case, workers.max(1).min(64), cut, &Idle)?)
+}
+
+/// How many pieces workers make.
+fn count_of<R: Threads + Wait + Sync>(
+    rt: &R,
+    alloc: Global,
+    case: &Case,
+    workers: usize,
+    cut: &[bool],
+) -> Result<usize, Fail> {
+    Ok(made(rt, alloc, case, workers, cut)?.len())
+}
+
+/// The answers of the pieces that workers make.
+fn collected<R: Threads + Wait + Sync>(
+    rt: &R,
+    alloc: Global,
+    case: &Case,
+    workers: usize,
+    cut: &[bool],
+) -> Result<Vec<Answer>, Fail> {
+    let pieces = made(rt, alloc, case, workers, cut)?;
+    Ok(collect(alloc, case, pieces)?)
+}
+
+/// How many of the pieces have this many processes.
+fn pieces_of(pieces: &[Piece<'_>], processes: usize) -> usize {
+    pieces
+        .iter()
+        .filter(|piece| piece.processes().len() == processes)
+        .count()
+}
+
+const EVERY: [bool; 12] = [true; 12];
+
+const EVEN: [bool; 12] = [
+    true, false, true, false, true, false, true, false, true, false, true, false,
+];
+
+/// The answers of the family are the same for several numbers of workers with a cut.
+fn expect_family<R: Threads + Wait + Sync + Abort>(
+    rt: &R,
+    alloc: Global,
+    case: &Case,
+    cut: &[bool],
+) -> Result<(), Fail> {
+    for workers in [1, 3, 8] {
+        let answers = collected(rt, alloc, case, workers, cut)?;
+        expect_answers(rt, &answers, FAMILY_ANSWERS);
+    }
+    Ok(())
+}
+
+/// They are the same with each cut.
+fn expect_family_with_cuts<R: Threads + Wait + Sync + Abort>(
+    rt: &R,
+    alloc: Global,
+    case: &Case,
+) -> Result<(), Fail> {
+    expect_family(rt, alloc, case, &[])?;
+    expect_family(rt, alloc, case, &EVERY)?;
+    expect_family(rt, alloc, case, &EVEN)
+}
+
+#[test]
+fn the_answers_are_the_same_for_every_number_of_workers_and_every_cut(
+    rt: HostRuntime,
+) -> Result<(), Fail> {
+    let case = boxed_case(rt.alloc(), FAMILY.as_bytes())?;
+    expect_family_with_cuts(&rt, rt.alloc(), &case)
+}
+
+/// One thread gives the answers of the family.
+fn expect_alone(rt: &impl Abort, alloc: Global, case: &Case) -> Result<(), Fail> {
+    let answers = judge_alone(alloc, case)?;
+    expect_answers(rt, &answers, FAMILY_ANSWERS);
+    Ok(())
+}
+
+#[test]
+fn one_thread_gives_the_same_answers(rt: HostRuntime) -> Result<(), Fail> {
+    let case = boxed_case(rt.alloc(), FAMILY.as_bytes())?;
+    expect_alone(&rt, rt.alloc(), &case)
+}
+
+/// How many pieces one worker makes, and how many of them have twelve processes.
+fn pieces_of_family<R: Threads + Wait + Sync>(
+    rt: &R,
+    alloc: Global,
+    case: &Case,
+) -> Result<[usize; 2], Fail> {
+    let pieces = made(rt, alloc, case, 1, &[])?;
+    Ok([pieces.len(), pieces_of(&pieces, 12)])
+}
+
+/// The number of pieces of the family, and of those with twelve processes.
+fn pieces_by_one<R: Threads + Wait + Sync>(rt: &R, alloc: Global) -> Result<[usize; 2], Fail> {
+    let case = boxed_case(alloc, FAMILY.as_bytes())?;
+    pieces_of_family(rt, alloc, &case)
+}
+
+#[test]
+fn one_worker_makes_one_piece_of_the_whole_family(rt: HostRuntime) -> Result<(), Fail> {
+    assert_eq!(rt; pieces_by_one(&rt, rt.alloc())?, [1, 1]);
+    Ok(())
+}
+
+/// The fault of no piece at all.
+fn fault_of_none(alloc: Global) -> Result<Option<CollectFault>, Fail> {
+    let case = boxed_case(alloc, FAMILY.as_bytes())?;
+    Ok(collect(alloc, &case, Vec::new(alloc)).err())
+}
+
+#[test]
+fn without_a_piece_the_first_process_is_missing(rt: HostRuntime) -> Result<(), Fail> {
+    let fault = fault_of_none(rt.alloc())?;
+    assert_eq!(rt; fault, Some(CollectFault::Missing(ProcessId(0))));
+    Ok(())
+}
+
+/// The fault of the pieces that one worker makes, and makes again.
+fn fault_of_twice<R: Threads + Wait + Sync>(
+    rt: &R,
+    alloc: Global,
+    case: &Case,
+) -> Result<Option<CollectFault>, Fail> {
+    let mut pieces = made(rt, alloc, case, 1, &[])?;
+    let mut again = made(rt, alloc, case, 1, &[])?;
+    pieces.append(&mut again)?;
+    Ok(collect(alloc, case, pieces).err())
+}
+
+/// The fault of the family's piece, made twice.
+fn fault_of_family<R: Threads + Wait + Sync>(
+    rt: &R,
+    alloc: Global,
+) -> Result<Option<CollectFault>, Fail> {
+    let case = boxed_case(alloc, FAMILY.as_bytes())?;
+    fault_of_twice(rt, alloc, &case)
+}
+
+#[test]
+fn a_piece_made_twice_doubles_the_first_process(rt: HostRuntime) -> Result<(), Fail> {
+    let fault = fault_of_family(&rt, rt.alloc())?;
+    assert_eq!(rt; fault, Some(CollectFault::Double(ProcessId(0))));
+    Ok(())
+}
+
+/// How many pieces eight workers make, and how many answers they collect.
+fn counts_of<R: Threads + Wait + Sync>(
+    rt: &R,
+    alloc: Global,
+    case: &Case,
+) -> Result<[usize; 2], Fail> {
+    let pieces = count_of(rt, alloc, case, 8, &[])?;
+    let answers = collected(rt, alloc, case, 8, &[])?;
+    Ok([pieces, answers.len()])
+}
+
+/// The same of an empty trace.
+fn counts_of_nothing<R: Threads + Wait + Sync>(rt: &R, alloc: Global) -> Result<[usize; 2], Fail> {
+    let case = boxed_case(alloc, b"")?;
+    counts_of(rt, alloc, &case)
+}
+
+#[test]
+fn an_empty_trace_has_no_answers(rt: HostRuntime) -> Result<(), Fail> {
+    assert_eq!(rt; counts_of_nothing(&rt, rt.alloc())?, [0, 0]);
+    Ok(())
+}
+
+/// How many pieces one worker makes with a cut, and how many of them have 77 processes and one.
+fn pieces_with<R: Threads + Wait + Sync>(
+    rt: &R,
+    alloc: Global,
+    case: &Case,
+    cut: &[bool],
+) -> Result<[usize; 3], Fail> {
+    let pieces = made(rt, alloc, case, 1, cut)?;
+    Ok([pieces.len(), pieces_of(&pieces, 77), pieces_of(&pieces, 1)])
+}
+
+/// The same of a process that forks 1,100 children, where the one worker is to cut each process off.
+fn pieces_of_children<R: Threads + Wait + Sync>(rt: &R, alloc: Global) -> Result<[usize; 3], Fail> {
+    let every = vec![in alloc; true; 1101]?;
+    let case = case_with(alloc, Forks::TheFirst, 1101)?;
+    pieces_with(rt, alloc, &case, &every)
+}
+
+#[test]
+fn children_that_find_the_queue_full_are_judged_with_their_parent(
+    rt: HostRuntime,
+) -> Result<(), Fail> {
+    assert_eq!(rt; pieces_of_children(&rt, rt.alloc())?, [1025, 1, 1024]);
+    Ok(())
+}
+
+/// How many pieces workers make of so many processes.
+fn count_of_forks<R: Threads + Wait + Sync>(
+    rt: &R,
+    alloc: Global,
+    (forks, processes): (Forks, u32),
+    workers: usize,
+    cut: &[bool],
+) -> Result<usize, Fail> {
+    let case = case_with(alloc, forks, processes)?;
+    count_of(rt, alloc, &case, workers, cut)
+}
+
+/// A child that is judged apart where the cut says so, more roots than the queue holds, and a long line of descendants,
+/// cut at each process and not at all.
+#[test]
+fn all_processes_are_judged_in_so_many_pieces(rt: HostRuntime) -> Result<(), Fail> {
+    let every = vec![in rt.alloc(); true; 8192]?;
+    for (forks, processes, workers, cut, pieces) in [
+        (Forks::TheFirst, 2, 1, [false, true].as_slice(), 2),
+        (Forks::TheFirst, 2, 1, [].as_slice(), 1),
+        (Forks::Nobody, 1100, 8, [].as_slice(), 1100),
+        (Forks::TheOneBefore, 8192, 8, every.as_slice(), 8192),
+        (Forks::TheOneBefore, 8192, 8, [].as_slice(), 1),
+    ] {
+        let count = count_of_forks(&rt, rt.alloc(), (forks, processes), workers, cut)?;
+        assert_eq!(rt; count, pieces);
+    }
+    Ok(())
+}
+
+/// The first number of pieces, of a hundred times, that is another than so many.
+fn count_unlike<R: Threads + Wait + Sync>(
+    rt: &R,
+    alloc: Global,
+    case: &Case,
+    cut: &[bool],
+) -> Result<Option<usize>, Fail> {
+    for _ in 0..100 {
+        let count = count_of(rt, alloc, case, 8, cut)?;
+        if count != cut.len() {
+            return Ok(Some(count));
+        }
+    }
+    Ok(None)
+}
+
+/// The same of a tree of forks that is cut at each of its 1,023 processes.
+fn tree_cut_unlike<R: Threads + Wait + Sync>(rt: &R, alloc: Global) -> Result<Option<usize>, Fail> {
+    let every = vec![in alloc; true; 1023]?;
+    let case = case_with(alloc, Forks::TheOneAtHalf, 1023)?;
+    count_unlike(rt, alloc, &case, &every)
+}
+
+#[test]
+fn a_tree_of_forks_is_cut_into_single_processes_a_hundred_times(
+    rt: HostRuntime,
+) -> Result<(), Fail> {
+    assert_eq!(rt; tree_cut_unlike(&rt, rt.alloc())?, None);
+    Ok(())
+}
+
+/// How many pieces two workers make, how many jobs of two processes from the first on begin, and how many of these wait
+/// in vain.
+fn judged_at_once<R: Threads + Wait + Sync>(
+    rt: &R,
+    alloc: Global,
+    case: &Case,
+    first: u32,
+) -> Result<(usize, (u64, u64)), Fail> {
+    let gate = Meeting::of(first, first.saturating_add(1));
+    let pieces = run(rt, alloc, case, 2, &[true; 3], &gate)?;
+    Ok((pieces.len(), gate.counts()))
+}
+
+/// The same of so many processes.
+fn forks_at_once<R: Threads + Wait + Sync>(
+    rt: &R,
+    alloc: Global,
+    (forks, processes): (Forks, u32),
+    first: u32,
+) -> Result<(usize, (u64, u64)), Fail> {
+    let case = case_with(alloc, forks, processes)?;
+    judged_at_once(rt, alloc, &case, first)
+}
+
+/// Two roots, and two children of one process, are judged at once.
+#[test]
+fn two_jobs_are_judged_at_once(rt: HostRuntime) -> Result<(), Fail> {
+    for (forks, processes, first) in [(Forks::Nobody, 2, 0), (Forks::TheFirst, 3, 1)] {
+        let judged = forks_at_once(&rt, rt.alloc(), (forks, processes), first)?;
+        assert_eq!(rt; judged, (processes as usize, (2, 0)));
+    }
+    Ok(())
+}

@@ -1,8 +1,0 @@
-//! Tests of cases, of the judging of one process after another, and of workers.
-
-mod gates;
-mod orders;
-mod pool;
-mod refusals;
-mod traces;
-mod worked;
