@@ -1,5 +1,5 @@
-//! What crates of tests and measurements share: a worked tree and a worked trace, a process that restricts itself, and
-//! a plain checker of paths and moves, with which the checks by lanes are compared.
+//! What tests and measurements share: a worked tree and a worked trace, a process that restricts itself, and a plain
+//! checker of paths and moves, with which the checks by lanes are compared.
 #![tactic(auto)]
 
 mod layer;
