@@ -41,8 +41,8 @@ start_allowed tree abi w process op starts = absurd (true≢false (sym starts))
 
 module _ (tree : List Entry) (abi : Abi) (records : List Record) (index : ℕ) where
   -- what is answered stands in the trace
-  pub placed : (a : Answer) → slice_get (judged tree abi records) index ≡ Some a → index < length records
-  placed a is = subst (λ (n : ℕ). index < n) (length-judged tree abi records) (slice_get_within (judged tree abi records) index a is)
+  pub index_within : (a : Answer) → slice_get (judged tree abi records) index ≡ Some a → index < length records
+  index_within a is = subst (λ (n : ℕ). index < n) (length-judged tree abi records) (slice_get_within (judged tree abi records) index a is)
 
   -- a record that isn't allowed starts nothing
   pub starts_nothing : (r : Record) (a : Answer) → slice_get records index ≡ Some r → slice_get (judged tree abi records) index ≡ Some a

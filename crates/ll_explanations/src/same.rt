@@ -1,6 +1,6 @@
 //! Whether two explanations are the same value.
 
-ghost use Rattle.std.specs.Prelude.{◌≡◌, true};
+ghost use Rattle.std.specs.Prelude.{◌≡◌, Decides};
 
 use crate::condition::Condition;
 use crate::explanation::Explanation;
@@ -9,28 +9,28 @@ use ll_reasons::Reason;
 
 /// Whether two objections of layers are the same.
 fn is_same_objection(one: &LayerObjection, other: &LayerObjection) -> bool
-    ensures { result ≡ true → one.now ≡ other.now }
+    ensures { Decides result (one.now ≡ other.now) }
 {
     one == other
 }
 
 /// Whether two conditions are the same.
 fn is_same_condition(one: &Condition, other: &Condition) -> bool
-    ensures { result ≡ true → one.now ≡ other.now }
+    ensures { Decides result (one.now ≡ other.now) }
 {
     one == other
 }
 
 /// Whether two reasons are the same.
 fn is_same_reason(one: &Option<Reason>, other: &Option<Reason>) -> bool
-    ensures { result ≡ true → one.now ≡ other.now }
+    ensures { Decides result (one.now ≡ other.now) }
 {
     one == other
 }
 
 /// Whether lists of objections are the same.
 fn are_same_objections(all: &[LayerObjection], others: &[LayerObjection]) -> bool
-    ensures { result ≡ true → all.now ≡ others.now }
+    ensures { Decides result (all.now ≡ others.now) }
 {
     if all.len() != others.len() {
         return false;
@@ -44,9 +44,9 @@ fn are_same_objections(all: &[LayerObjection], others: &[LayerObjection]) -> boo
 }
 
 impl Explanation {
-    /// Whether another explanation is found to be the same value. No clause says that all same values are found.
+    /// Whether another explanation is the same value.
     pub fn is_same(&self, other: &Explanation) -> bool
-        ensures { result ≡ true → self.now ≡ other.now }
+        ensures { Decides result (self.now ≡ other.now) }
     {
         match (self, other) {
             (Explanation::Nothing, Explanation::Nothing) => true,

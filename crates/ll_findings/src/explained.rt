@@ -1,7 +1,7 @@
 //! What is kept of the explanations of records, shared among versions that explain a record alike.
 
-ghost use Rattle.std.specs.Prelude.{◌≡◌, IfOk, option_map, true};
-ghost use Rattle.ll_findings.specs.Kept.{kept_of};
+ghost use Rattle.std.specs.Prelude.{◌≡◌, Decides, IfOk, None, Some, option_map};
+ghost use Rattle.ll_findings.specs.Kept.{AreOneValue, kept_of};
 
 use ll_explanations::Explanation;
 use ll_trace::Op;
@@ -18,9 +18,9 @@ pub(crate) struct Explained {
 }
 
 impl Explained {
-    /// Whether another one is like this; neither has a call of its own then.
-    fn is_like(&self, other: &Explained) -> bool
-        ensures { result ≡ true → self.now ≡ other.now }
+    /// Whether another one is the same value, and neither has a call of its own.
+    pub(crate) fn is_like(&self, other: &Explained) -> bool
+        ensures { Decides result (AreOneValue (Some self.now) (Some other.now)) }
     {
         match (&self.call, &other.call) {
             (None, None) => self.explanation.is_same(&other.explanation),
@@ -96,7 +96,7 @@ impl SharedExplanation {
 
     /// Whether something is kept that is like this.
     fn is_like(&self, other: &Explained) -> bool
-        ensures { result ≡ true → self.now ≡ Some other.now }
+        ensures { Decides result (AreOneValue self.now (Some other.now)) }
     {
         match self.get() {
             Some(explained) => explained.is_like(other),
@@ -116,7 +116,7 @@ impl SharedExplanation {
 
     /// Whether two are like each other: nothing is kept, or like explanations without a call of their own.
     pub(crate) fn is_same(&self, other: &SharedExplanation) -> bool
-        ensures { result ≡ true → self.now ≡ other.now }
+        ensures { Decides result (AreOneValue self.now other.now) }
     {
         match other.get() {
             Some(explained) => self.is_like(explained),

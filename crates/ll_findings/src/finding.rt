@@ -1,15 +1,16 @@
 //! What is found under one version: the answers to the records of a case, and their explanations as values.
 
-ghost use Rattle.std.specs.Prelude.{◌≡◌, IfOk, length, option_map, slice_get, true};
+ghost use Rattle.std.specs.Prelude.{◌≡◌, Decides, IfOk, length, option_map, slice_get};
 ghost use Rattle.std.specs.Bool.{OnTrue};
 ghost use Rattle.ll_semantics.specs.Worlds.{judged};
 ghost use Rattle.ll_findings.specs.Alike.{FindsAs, MarksUnless};
 ghost use Rattle.ll_findings.specs.Findings.{Finds, answer_in, kept_at, said_in, with_changes};
+ghost use Rattle.ll_findings.specs.Kept.{AreOneValue};
 ghost use Rattle.ll_findings.specs.Overlays.{Rise};
 
 use crate::changes::Changes;
 use crate::comparing::compare_all;
-use crate::explained::SharedExplanation;
+use crate::explained::{Explained, SharedExplanation};
 use crate::found::Found;
 use crate::indices::Indices;
 use crate::marks::{mark_all, mark_differing};
@@ -163,6 +164,13 @@ impl Finding {
         )
     }
 
+    /// The explanation that is kept of the record at an index; none if there is nothing to explain.
+    fn explained_at(&self, index: usize) -> Option<&Explained>
+        ensures { option_map (λ explained. explained.now) result ≡ kept_at self.now index }
+    {
+        self.kept(index)?.get()
+    }
+
     /// The call and the explanation of the record at an index; none if there is nothing to explain. The records are
     /// those of the case, or as an older version takes them.
     pub fn explained<'a>(
@@ -174,7 +182,7 @@ impl Finding {
             ≡ said_in records.now self.now index }
     {
         let record = records.get(index)?;
-        let explained = self.kept(index)?.get()?;
+        let explained = self.explained_at(index)?;
         let op = match &explained.call {
             Some(call) => call,
             None => &record.op,
@@ -185,10 +193,10 @@ impl Finding {
     /// Whether another finding explains the record at an index by the same value, or neither explains it. Explanations
     /// of calls that name rights never count as the same.
     pub fn explains_as(&self, other: &Finding, index: usize) -> bool
-        ensures { result ≡ true → kept_at self.now index ≡ kept_at other.now index }
+        ensures { Decides result (AreOneValue (kept_at self.now index) (kept_at other.now index)) }
     {
-        match (self.kept(index), other.kept(index)) {
-            (Some(kept), Some(others)) => kept.is_same(others),
+        match (self.explained_at(index), other.explained_at(index)) {
+            (Some(explained), Some(others)) => explained.is_like(others),
             (None, None) => true,
             _ => false,
         }

@@ -18,9 +18,9 @@ use Rattle.ll_process.specs.Cases.{CaseValue, IsCase, own_answers}
 use Rattle.ll_semantics.proofs.Steps.{length-judged}
 use Rattle.ll_trace.proofs.Numbers.{numbered_below, count-all}
 use Rattle.ll_trace.proofs.OwnRecords.{own_index, own_record, stands_at}
-use Rattle.ll_pool.specs.Gathered.{ArePiecesOf, processes_in, answers_of_pieces, placed}
+use Rattle.ll_pool.specs.Gathered.{ArePiecesOf, processes_in, answers_of_pieces, put_all}
 use Rattle.ll_trace.proofs.EachOnce.{times-append, times-cons, times-nil, times-same, times-other}
-use Rattle.ll_pool.proofs.Placing.{length-placed}
+use Rattle.ll_pool.proofs.PuttingAnswers.{length-put_all}
 
 -- ---- indices
 
@@ -49,14 +49,14 @@ all_indices cv piece n its len =
 
 -- ---- every record has its answer
 
-placed_map : (f : ℕ → Answer) (ks : List ℕ) (xs : List Answer) (k : ℕ) (d : Answer) → (0 < times k ks) ⊎ (get_or xs k d ≡ f k) → k < length xs
-    → get_or (placed (map (λ i. (i, f i)) ks) xs) k d ≡ f k
-unfolding placed
-placed_map f [] xs k d (inl some) within = absurd (omega (arith, times-nil k, some))
-placed_map f [] xs k d (inr is) within = is
-placed_map f (j ∷ js) xs k d known within =
+put_all_map : (f : ℕ → Answer) (ks : List ℕ) (xs : List Answer) (k : ℕ) (d : Answer) → (0 < times k ks) ⊎ (get_or xs k d ≡ f k) → k < length xs
+    → get_or (put_all (map (λ i. (i, f i)) ks) xs) k d ≡ f k
+unfolding put_all
+put_all_map f [] xs k d (inl some) within = absurd (omega (arith, times-nil k, some))
+put_all_map f [] xs k d (inr is) within = is
+put_all_map f (j ∷ js) xs k d known within =
     let inside : k < length (set xs j (f j)) = omega (arith, within, length-set xs j (f j)) in
-    placed_map f js (set xs j (f j)) k d
+    put_all_map f js (set xs j (f j)) k d
     (elim (cases_eq j k) [
       | inl same ↦ inr (ap (λ i. get_or (set xs i (f i)) k d) same ∙ get_or-set_same xs k (f k) d within)
       | inr other ↦ elim known [
@@ -105,15 +105,15 @@ pieces_answer cv (x ∷ xs) all =
 
 answer_there : (cv : CaseValue) (pieces : List Piece) (before : List Answer) (k : ℕ) → IsCase cv → ArePiecesOf cv pieces
     → ((q : ℕ) → q < process_count cv.records → 0 < times q (processes_in pieces)) → length before ≡ length cv.records → k < length cv.records
-    → get_or (placed (answers_of_pieces pieces) before) k Moot ≡ answer_at cv.tree cv.abi cv.records k
+    → get_or (put_all (answers_of_pieces pieces) before) k Moot ≡ answer_at cv.tree cv.abi cv.records k
 answer_there cv pieces before k case all each len within =
     let found : (r : Record) × (slice_get cv.records k ≡ Some r) = stands_at cv.records k within in
     let below : found.0.process.0 < process_count cv.records =
     omega (arith, numbered_below cv.records k found.0 case.numbered found.1, count-all cv.records (suc k)) in
     let has : 0 < times k (flat_map (own_records cv.records) (processes_in pieces)) =
     flat_has (own_records cv.records) k found.0.process.0 (processes_in pieces) (each found.0.process.0 below) (own_has cv.records k found.0 found.1) in
-    ap (λ (ps : List (ℕ × Answer)). get_or (placed ps before) k Moot) (pieces_answer cv pieces all ∙ flat_answers cv (processes_in pieces))
-    ∙ placed_map (answer_at cv.tree cv.abi cv.records) (flat_map (own_records cv.records) (processes_in pieces)) before k Moot (inl has)
+    ap (λ (ps : List (ℕ × Answer)). get_or (put_all ps before) k Moot) (pieces_answer cv pieces all ∙ flat_answers cv (processes_in pieces))
+    ∙ put_all_map (answer_at cv.tree cv.abi cv.records) (flat_map (own_records cv.records) (processes_in pieces)) before k Moot (inl has)
     (omega (arith, within, len))
 
 judged_there : (cv : CaseValue) (k : ℕ) → get_or (judged cv.tree cv.abi cv.records) k Moot ≡ answer_at cv.tree cv.abi cv.records k
@@ -122,12 +122,12 @@ judged_there cv k = sym (unwrap_or-slice_get (judged cv.tree cv.abi cv.records) 
 
 pub all_answered : (cv : CaseValue) (pieces : List Piece) (before answers : List Answer) → IsCase cv → ArePiecesOf cv pieces
     → ((q : ℕ) → q < process_count cv.records → 0 < times q (processes_in pieces)) → length before ≡ length cv.records
-    → answers ≡ placed (answers_of_pieces pieces) before
+    → answers ≡ put_all (answers_of_pieces pieces) before
     → answers ≡ judged cv.tree cv.abi cv.records
 all_answered cv pieces before answers case all each len is =
     is
-    ∙ ext_get_or Moot (placed (answers_of_pieces pieces) before) (judged cv.tree cv.abi cv.records)
-    (length-placed (answers_of_pieces pieces) before ∙ len ∙ sym (length-judged cv.tree cv.abi cv.records))
+    ∙ ext_get_or Moot (put_all (answers_of_pieces pieces) before) (judged cv.tree cv.abi cv.records)
+    (length-put_all (answers_of_pieces pieces) before ∙ len ∙ sym (length-judged cv.tree cv.abi cv.records))
     (λ k inside.
-    (let within : k < length cv.records = omega (arith, inside, length-placed (answers_of_pieces pieces) before, len) in
+    (let within : k < length cv.records = omega (arith, inside, length-put_all (answers_of_pieces pieces) before, len) in
     answer_there cv pieces before k case all each len within ∙ sym (judged_there cv k)))

@@ -2,7 +2,7 @@ mod RuleSteps
 mod Accounting
 mod AllOnce
 pub mod Counts
-pub mod Placing
+pub mod PuttingAnswers
 pub mod Answering
 pub mod Sharing
 pub mod Crossing

@@ -22,10 +22,10 @@ processes_in pieces = flat_map (λ piece. numbers piece.processes.items) pieces
 unfoldable pub answers_of_pieces : List Piece → List (ℕ × Answer)
 answers_of_pieces pieces = flat_map (λ piece. piece.answers.items) pieces
 
--- answers that are put in their places
-unfoldable pub placed : List (ℕ × Answer) → List Answer → List Answer
-placed [] answers = answers
-placed (part ∷ parts) answers = placed parts (slice_set answers part.0 part.1)
+-- a list of answers, with each of these put at its index
+unfoldable pub put_all : List (ℕ × Answer) → List Answer → List Answer
+put_all [] answers = answers
+put_all (part ∷ parts) answers = put_all parts (slice_set answers part.0 part.1)
 
 -- how often each process is in a list, counted up to 255
 pub record IsTally (processes : List ℕ) (seen : List ℕ) : Type 0 where

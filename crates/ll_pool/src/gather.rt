@@ -4,7 +4,7 @@ ghost use Rattle.std.specs.Prelude.{◌≡◌, ℕ, ◌<◌, IfOk, IfErr, ◌+�
 ghost use Rattle.ll_semantics.specs.Worlds.{judged};
 ghost use Rattle.ll_trace.specs.Processes.{process_count, times, numbers};
 ghost use Rattle.ll_pool.specs.declared.gather.CollectFault.TheVariants.{Memory};
-ghost use Rattle.ll_pool.specs.Gathered.{IsFault, ArePiecesOf, processes_in, IsTally, placed};
+ghost use Rattle.ll_pool.specs.Gathered.{IsFault, ArePiecesOf, processes_in, IsTally, put_all};
 ghost use Rattle.ll_trace.specs.declared.reader.TheConstants.{MOST_PROCESSES};
 
 use ll_process::{Answer, Case, Piece};
@@ -134,11 +134,11 @@ fn first_absent(seen: &[u8]) -> Option<u32>
     }
 }
 
-/// Puts answers in their places.
+/// Puts answers at their indices.
 fn put_answers(answers: &mut Vec<Answer>, parts: &[(u32, Answer)])
     requires { All (λ part. part.0 < vec_len answers.old) parts.now }
     ensures len { length answers.new.items ≡ length answers.old.items }
-    ensures placed { answers.new.items ≡ placed parts.now answers.old.items }
+    ensures put { answers.new.items ≡ put_all parts.now answers.old.items }
 {
     for part in parts {
         answers[part.0 as usize] = part.1;

@@ -15,10 +15,10 @@ use Rattle.ll_trace.specs.declared.op.Op.TheVariants as calls
 use Rattle.ll_trace.specs.declared.op.ProcessId.{ProcessId}
 use Rattle.ll_trace.specs.declared.op.Record.{Record}
 use Rattle.ll_trace.specs.declared.tables.Tables.{Tables}
-use Rattle.ll_trace.specs.Entries.{Entry, is_start, is_exit, pid_started, is_live, process_named, misplacement}
+use Rattle.ll_trace.specs.Entries.{Entry, is_start, is_exit, pid_started, is_live, process_named, entry_fault}
 use Rattle.ll_trace.specs.Entries as entries
 use Rattle.ll_trace.specs.Records.{entry_of, record_of, records_after, process_of}
-use Rattle.ll_trace.specs.Traces.{ArePlaced, AreRecords}
+use Rattle.ll_trace.specs.Traces.{AreFaultless, AreRecords}
 use Rattle.ll_trace.specs.Processes.{is_starting, process_count, number_if, started_at, own_from, own_records, forked_by, parents}
 use Rattle.ll_trace.specs.Indexed.{HaveRights, Indexes}
 use Rattle.ll_trace.specs.FirstPlaces.{AreFirstPlaces, first_place, paths_of}
@@ -110,9 +110,9 @@ module _ (abi : Abi) where
   twice-kept past None = refl
   twice-kept past (Some pid) = is_live-kept past pid
 
-  misplacement-kept : (past : List Entry) (entry : Entry) → misplacement (map entry_kept past) (entry_kept entry) ≡ misplacement past entry
+  entry_fault-kept : (past : List Entry) (entry : Entry) → entry_fault (map entry_kept past) (entry_kept entry) ≡ entry_fault past entry
   unfolding entry_kept
-  misplacement-kept past entry = rw (
+  entry_fault-kept past entry = rw (
     is_start-kept entry.op,
     pid_started-kept entry.op entry.pid,
     is_live-kept past entry.pid,
@@ -121,9 +121,9 @@ module _ (abi : Abi) where
     length-map past entry_kept,
   ) refl
 
-  placed-kept : (past es : List Entry) → ArePlaced past es → ArePlaced (map entry_kept past) (map entry_kept es)
-  placed-kept past [] placed = tt
-  placed-kept past (entry ∷ es) placed = (misplacement-kept past entry ∙ placed.0, placed-kept (entry ∷ past) es placed.1)
+  faultless-kept : (past es : List Entry) → AreFaultless past es → AreFaultless (map entry_kept past) (map entry_kept es)
+  faultless-kept past [] faultless = tt
+  faultless-kept past (entry ∷ es) faultless = (entry_fault-kept past entry ∙ faultless.0, faultless-kept (entry ∷ past) es faultless.1)
 
   -- ---- records
 
@@ -161,11 +161,11 @@ module _ (abi : Abi) where
 
   pub are_records-kept : (records : List Record) → AreRecords records → AreRecords (records_at_best_effort abi records)
   are_records-kept records are =
-      let placed : ArePlaced [] (map entry_of (records_at_best_effort abi records)) =
-      rw (entries-kept records) (placed-kept [] (map entry_of records) are.placed) in
+      let faultless : AreFaultless [] (map entry_of (records_at_best_effort abi records)) =
+      rw (entries-kept records) (faultless-kept [] (map entry_of records) are.faultless) in
       let processes : records_at_best_effort abi records ≡ records_after [] (map entry_of (records_at_best_effort abi records)) =
       ap (records_at_best_effort abi) are.processes ∙ sym (records-kept [] (map entry_of records)) ∙ ap (records_after []) (sym (entries-kept records)) in
-      record { placed = placed; processes = processes; numbered = are_numbered (records_at_best_effort abi records) placed processes }
+      record { faultless = faultless; processes = processes; numbered = are_numbered (records_at_best_effort abi records) faultless processes }
 
   -- ---- tables
 

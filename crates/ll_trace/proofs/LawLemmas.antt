@@ -6,10 +6,10 @@ use Rattle.ll_lines.specs.Reading.{first_fault, entries_of, IsGood}
 use Rattle.ll_lines.specs.LineByLine.{ReadsInOneWay}
 use Rattle.ll_lines.proofs.ReadingLemmas.{in_one_way as format_in_one_way}
 use Rattle.ll_trace.specs.declared.op.Record.{Record}
-use Rattle.ll_trace.specs.Entries.{Entry, entry_at, is_start_of, is_end_of, is_live, is_live_pid, is_unknown, is_twice, is_too_many, misplacement, started_pid}
+use Rattle.ll_trace.specs.Entries.{Entry, entry_at, is_start_of, is_end_of, is_live, is_live_pid, is_unknown, is_twice, is_too_many, entry_fault, started_pid}
 use Rattle.ll_trace.specs.Entries.{trace_file}
 use Rattle.ll_trace.specs.Records.{entry_of, records_after, IsTrace}
-use Rattle.ll_trace.specs.SingleUse.{is_used, is_used_pid, is_used_again, strict_misplacement, strict_file}
+use Rattle.ll_trace.specs.SingleUse.{is_used, is_used_pid, is_used_again, strict_entry_fault, strict_file}
 
 -- a live pid was used
 used-cases : (a b live used : Bool) → cond a true (cond b false live) ≡ true → (live ≡ true → used ≡ true) → (a || used) ≡ true
@@ -37,15 +37,15 @@ weaker false true c d e later = absurd (cc)
 weaker false false true d e later = absurd (cc)
 weaker false false false d e later = rw (later refl) refl
 
--- what has a place under the stricter rule has one
-pub placed_by_strict : (past : List Entry) (entry : Entry) → strict_misplacement past entry ≡ None → misplacement past entry ≡ None
-placed_by_strict past entry none =
+-- an entry that is not at fault under the stricter rule is not at fault
+pub faultless_by_strict : (past : List Entry) (entry : Entry) → strict_entry_fault past entry ≡ None → entry_fault past entry ≡ None
+faultless_by_strict past entry none =
     weaker (is_unknown past entry) (is_used_again past entry) (is_too_many past entry) (is_twice past entry) none (unused_pid past (started_pid entry))
 
-faultless_line : (earlier : List Entry) (read : Result Entry Cause) → first_fault read (λ entry. strict_misplacement (reverse earlier) entry) ≡ None
-    → first_fault read (λ entry. misplacement (reverse earlier) entry) ≡ None
+faultless_line : (earlier : List Entry) (read : Result Entry Cause) → first_fault read (λ entry. strict_entry_fault (reverse earlier) entry) ≡ None
+    → first_fault read (λ entry. entry_fault (reverse earlier) entry) ≡ None
 faultless_line earlier (Err cause) e = e
-faultless_line earlier (Ok entry) e = placed_by_strict (reverse earlier) entry e
+faultless_line earlier (Ok entry) e = faultless_by_strict (reverse earlier) entry e
 
 pub strict_is_good : (bytes : List ℕ) (entries : List Entry) → IsGood strict_file bytes entries → IsGood trace_file bytes entries
 strict_is_good bytes entries good = record {

@@ -7,9 +7,9 @@ use Rattle.ll_trace.specs.declared.op.Record.{Record}
 use Rattle.ll_trace.specs.declared.reader.Reader.{Reader}
 use Rattle.ll_lines.specs.LineByLine.{read_lines}
 use Rattle.ll_lines.specs.Lines.{Line}
-use Rattle.ll_trace.specs.Entries.{Entry, misplacement, process_count, trace_file}
+use Rattle.ll_trace.specs.Entries.{Entry, entry_fault, process_count, trace_file}
 use Rattle.ll_trace.specs.Records.{entry_of, record_of, records_after}
-use Rattle.ll_trace.specs.Traces.{ArePlaced, AreRecords}
+use Rattle.ll_trace.specs.Traces.{AreFaultless, AreRecords}
 use Rattle.ll_trace.proofs.Numbering.{are_numbered}
 use Rattle.ll_trace.specs.Kept.{entries, past, owner_of, IsKept, IsNoted}
 
@@ -21,16 +21,16 @@ records_after-append past (first ∷ entries) entry =
     ap (λ es. es ++ past) (reverse-append (first ∷ []) entries) ∙ append_assoc (reverse entries) (first ∷ []) past in
     rw turned (ap (λ rs. record_of past first ∷ rs) (records_after-append (first ∷ past) entries entry))
 
-ArePlaced-append : (past entries : List Entry) (entry : Entry) → ArePlaced past entries → misplacement (reverse entries ++ past) entry ≡ None
-    → ArePlaced past (entries ++ entry ∷ [])
-ArePlaced-append past [] entry placed here = (here, tt)
-ArePlaced-append past (first ∷ entries) entry placed here =
+AreFaultless-append : (past entries : List Entry) (entry : Entry) → AreFaultless past entries → entry_fault (reverse entries ++ past) entry ≡ None
+    → AreFaultless past (entries ++ entry ∷ [])
+AreFaultless-append past [] entry faultless here = (here, tt)
+AreFaultless-append past (first ∷ entries) entry faultless here =
     let turned : reverse (first ∷ entries) ++ past ≡ reverse entries ++ first ∷ past =
     ap (λ es. es ++ past) (reverse-append (first ∷ []) entries) ∙ append_assoc (reverse entries) (first ∷ []) past in
-    (placed.0, ArePlaced-append (first ∷ past) entries entry placed.1 (ap (λ (p : List Entry). misplacement p entry) (sym turned) ∙ here))
+    (faultless.0, AreFaultless-append (first ∷ past) entries entry faultless.1 (ap (λ (p : List Entry). entry_fault p entry) (sym turned) ∙ here))
 
 -- a list of records, and one more
-pub AreRecords-append : (records : List Record) (entry : Entry) (r : Record) → AreRecords records → misplacement (reverse (map entry_of records)) entry ≡ None
+pub AreRecords-append : (records : List Record) (entry : Entry) (r : Record) → AreRecords records → entry_fault (reverse (map entry_of records)) entry ≡ None
     → r ≡ record_of (reverse (map entry_of records)) entry → AreRecords (records ++ r ∷ [])
 AreRecords-append records entry r are here is =
     let past : List Entry = reverse (map entry_of records) in
@@ -39,13 +39,13 @@ AreRecords-append records entry r are here is =
     let same : past ++ [] ≡ past = append-nil past in
     let numbered : records_after [] (map entry_of records ++ entry ∷ []) ≡ records_after [] (map entry_of records) ++ record_of past entry ∷ [] =
     records_after-append [] (map entry_of records) entry ∙ ap (λ (p : List Entry). records_after [] (map entry_of records) ++ record_of p entry ∷ []) same in
-    let placed : ArePlaced [] (map entry_of (records ++ r ∷ [])) =
-    rw entries (ArePlaced-append [] (map entry_of records) entry are.placed (ap (λ (p : List Entry). misplacement p entry) same ∙ here)) in
+    let faultless : AreFaultless [] (map entry_of (records ++ r ∷ [])) =
+    rw entries (AreFaultless-append [] (map entry_of records) entry are.faultless (ap (λ (p : List Entry). entry_fault p entry) same ∙ here)) in
     let processes : records ++ r ∷ [] ≡ records_after [] (map entry_of (records ++ r ∷ [])) = ap (λ rs. rs ++ r ∷ []) are.processes
     ∙ (ap (λ x. records_after [] (map entry_of records) ++ x ∷ []) is ∙ (sym numbered ∙ ap (records_after []) (sym entries))) in
-    record { placed = placed; processes = processes; numbered = are_numbered (records ++ r ∷ []) placed processes }
+    record { faultless = faultless; processes = processes; numbered = are_numbered (records ++ r ∷ []) faultless processes }
 
-pub kept_admitted : (old noted new : Reader) (entry : Entry) (r : Record) → IsKept old → misplacement (past old) entry ≡ None → IsNoted old noted entry
+pub kept_admitted : (old noted new : Reader) (entry : Entry) (r : Record) → IsKept old → entry_fault (past old) entry ≡ None → IsNoted old noted entry
     → new.records.items ≡ noted.records.items ++ r ∷ []
     → new.owners ≡ noted.owners → new.processes ≡ noted.processes → r ≡ record_of (past old) entry → IsKept new
 kept_admitted old noted new entry r kept here is_noted pushed same_owners same_count is =

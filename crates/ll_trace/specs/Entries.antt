@@ -1,4 +1,4 @@
--- The entries of a trace file: which of them start or end a process, which pid is live, and what has no place after earlier entries.
+-- The entries of a trace file: which of them start or end a process, which pid is live, and which entry is at fault after earlier ones.
 -- Source: docs/FORMATS.md, "The trace file".
 use Rattle.std.specs.Prelude.{ℕ, ◌+◌, ◌==◌, ◌&&◌, ◌||◌, Bool, true, false, not, nat_le, List, [], ◌∷◌, length, reverse, Option, Some, None, is_some, codes, Result, Ok, if◌then◌else◌}
 use Rattle.ll_lines.specs.declared.fault.Cause.{Cause}
@@ -87,16 +87,16 @@ is_twice past entry = is_live_pid past (started_pid entry)
 abbrev pub is_too_many : List Entry → Entry → Bool
 is_too_many past entry = nat_le MOST_RECORDS (length past) || (is_some (started_pid entry) && nat_le MOST_PROCESSES (process_count past))
 
--- the first cause by which an entry has no place after the past, where this tells of a pid that is used twice
-abbrev pub misplacement_by : (List Entry → Entry → Bool) → List Entry → Entry → Option Cause
-misplacement_by is_twice past entry =
+-- the first cause for which an entry is at fault after the past, where this rule tells of a pid that is used twice
+abbrev pub entry_fault_by : (List Entry → Entry → Bool) → List Entry → Entry → Option Cause
+entry_fault_by is_twice past entry =
     if is_unknown past entry then Some UnknownProcess else (
     if is_twice past entry then Some Twice else (
     if is_too_many past entry then Some TooMany else None))
 
-abbrev pub misplacement : List Entry → Entry → Option Cause
-misplacement past entry = misplacement_by is_twice past entry
+abbrev pub entry_fault : List Entry → Entry → Option Cause
+entry_fault past entry = entry_fault_by is_twice past entry
 
 -- the trace file
 abbrev pub trace_file : Format Entry
-trace_file = record { entry_of_line = entry_at; fault_after = λ earlier entry. misplacement (reverse earlier) entry }
+trace_file = record { entry_of_line = entry_at; fault_after = λ earlier entry. entry_fault (reverse earlier) entry }

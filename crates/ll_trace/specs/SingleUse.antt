@@ -4,7 +4,7 @@ use Rattle.std.specs.Prelude.{◌≡◌, ℕ, ◌||◌, Bool, false, List, [], �
 use Rattle.ll_lines.specs.declared.fault.Cause.{Cause}
 use Rattle.ll_lines.specs.Reading.{Format, IsGood}
 use Rattle.ll_trace.specs.declared.op.Record.{Record}
-use Rattle.ll_trace.specs.Entries.{Entry, entry_at, is_start_of, misplacement_by, started_pid}
+use Rattle.ll_trace.specs.Entries.{Entry, entry_at, is_start_of, entry_fault_by, started_pid}
 use Rattle.ll_trace.specs.Records.{entry_of, records_after}
 
 -- whether an entry of the past starts a process under a pid
@@ -20,11 +20,11 @@ is_used_pid past (Some pid) = is_used past pid
 abbrev pub is_used_again : List Entry → Entry → Bool
 is_used_again past entry = is_used_pid past (started_pid entry)
 
-abbrev pub strict_misplacement : List Entry → Entry → Option Cause
-strict_misplacement past entry = misplacement_by is_used_again past entry
+abbrev pub strict_entry_fault : List Entry → Entry → Option Cause
+strict_entry_fault past entry = entry_fault_by is_used_again past entry
 
 abbrev pub strict_file : Format Entry
-strict_file = record { entry_of_line = entry_at; fault_after = λ earlier entry. strict_misplacement (reverse earlier) entry }
+strict_file = record { entry_of_line = entry_at; fault_after = λ earlier entry. strict_entry_fault (reverse earlier) entry }
 
 -- A trace file reads as these records under the stricter rule.
 pub record IsStrictTrace (bytes : List ℕ) (records : List Record) : Type 0 where

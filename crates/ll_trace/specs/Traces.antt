@@ -5,19 +5,19 @@ use Rattle.std.specs.Prelude.{◌≡◌, List, [], ◌∷◌, map, None}
 use Rattle.ll_trace.specs.declared.op.Record.{Record}
 use Rattle.ll_trace.specs.declared.trace.Trace.TheInside.{Inside}
 use Rattle.ll_trace.specs.Indexed.{Indexes}
-use Rattle.ll_trace.specs.Entries.{Entry, misplacement}
+use Rattle.ll_trace.specs.Entries.{Entry, entry_fault}
 use Rattle.ll_trace.specs.Records.{records_after, entry_of}
 use Rattle.ll_trace.specs.Processes.{IsNumbered}
 
--- each entry has a place after those before it
-abbrev pub ArePlaced : List Entry → List Entry → Type 0
-ArePlaced past [] = Unit {0}
-ArePlaced past (entry ∷ entries) = (misplacement past entry ≡ None) × ArePlaced (entry ∷ past) entries
+-- no entry is at fault after those before it
+abbrev pub AreFaultless : List Entry → List Entry → Type 0
+AreFaultless past [] = Unit {0}
+AreFaultless past (entry ∷ entries) = (entry_fault past entry ≡ None) × AreFaultless (entry ∷ past) entries
 
--- Records can be those of a trace: each is in its place, and belongs to the process that it must. So processes are
--- numbered in the order in which they are started.
+-- Records can be those of a trace: none is at fault after those before it, and each belongs to the process that it
+-- must. So processes are numbered in the order in which they are started.
 pub record AreRecords (records : List Record) : Type 0 where
-  pub placed : ArePlaced [] (map entry_of records)
+  pub faultless : AreFaultless [] (map entry_of records)
   pub processes : records ≡ records_after [] (map entry_of records)
   pub numbered : IsNumbered records
 

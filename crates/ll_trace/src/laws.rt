@@ -12,7 +12,7 @@ ghost use Rattle.ll_trace.specs.{declared.op.ProcessId.ProcessId, declared.op.Re
 ghost use Rattle.ll_trace.specs.Entries.{Entry, entry_at, trace_file};
 ghost use Rattle.ll_trace.specs.Operations.{op_name};
 ghost use Rattle.ll_trace.specs.SaidByName.{SaysOperation, texts_of};
-ghost use Rattle.ll_trace.specs.Traces.{ArePlaced};
+ghost use Rattle.ll_trace.specs.Traces.{AreFaultless};
 ghost use Rattle.ll_trace.specs.Records.{entry_of, records_after, IsTrace};
 ghost use Rattle.ll_trace.specs.Processes.{process_count, parent_of, forked_by, started_at, IsNumbered};
 ghost use Rattle.ll_trace.specs.BestEffort.{records_at_best_effort, IsSupported};
@@ -35,7 +35,7 @@ pub fn traces_of_single_pids()
 /// The records of entries that have their places are numbered. Each number below the count is that of
 /// a process that exactly one record starts; this record names its parent, whose number is below its own.
 pub fn processes_are_numbered()
-    ensures numbered { (records : List Record) → ArePlaced [] (map entry_of records)
+    ensures numbered { (records : List Record) → AreFaultless [] (map entry_of records)
         → records ≡ records_after [] (map entry_of records) → IsNumbered records }
     ensures each { (records : List Record) (process : ℕ) → process < process_count records
         → (index : ℕ) × (started_at records index ≡ Some process) }

@@ -4,7 +4,7 @@ ghost use Rattle.std.specs.Prelude.{◌≡◌, ◌+◌, ◌<◌, ◌∷◌, ◌+
 ghost use Rattle.ll_lines.specs.{declared.fault.Cause.TheVariants.Memory, Readers.Gives, Lines.Line};
 ghost use Rattle.ll_lines.specs.LineByLine.{with_entry, with_line, read_lines, reading, GivesReading, MeetsFault, line_view};
 ghost use Rattle.ll_trace.specs.declared.reader.TheConstants.{MOST_PROCESSES, MOST_RECORDS};
-ghost use Rattle.ll_trace.specs.Entries.{Entry as Seen, entry_at, is_live as is_live_in, is_unknown as is_unknown_in, is_twice as is_twice_in, is_too_many, is_end_of, misplacement, process_count, started_pid, trace_file};
+ghost use Rattle.ll_trace.specs.Entries.{Entry as Seen, entry_at, is_live as is_live_in, is_unknown as is_unknown_in, is_twice as is_twice_in, is_too_many, is_end_of, entry_fault, process_count, started_pid, trace_file};
 ghost use Rattle.ll_trace.specs.Records.{process_of};
 ghost use Rattle.ll_trace.specs.Kept.{IsKept, IsNoted, Begins, Stops, entries, entry_view, number, owner_of, past, runs};
 
@@ -137,12 +137,12 @@ impl Reader {
             || entry.op.started_pid(entry.pid).is_some() && self.processes >= MOST_PROCESSES
     }
 
-    /// The first cause for which an entry has no place after those that are read; its pid's latest
+    /// The first cause for which an entry is at fault after those that are read; its pid's latest
     /// process is looked up already.
-    fn misplacement(&self, entry: &Entry, owner: Option<Owner>) -> Option<Cause>
+    fn entry_fault(&self, entry: &Entry, owner: Option<Owner>) -> Option<Cause>
         requires kept { IsKept self.now }
         requires owner { owner ≡ owner_of (past self.now) entry.now.pid }
-        ensures { result ≡ misplacement (past self.now) (entry_view entry.now) }
+        ensures { result ≡ entry_fault (past self.now) (entry_view entry.now) }
     {
         if is_unknown(entry, owner) {
             return Some(Cause::UnknownProcess);
@@ -167,7 +167,7 @@ impl Reader {
         process_or_first(owner)
     }
 
-    /// Admits an entry as a record, if it has a place after those that are read.
+    /// Admits an entry as a record, if it is not at fault after those that are read.
     pub(crate) fn admit(&mut self, entry: Entry) -> Result<(), Cause>
         requires { IsKept self.old }
         ensures gives { Gives (λ _. entries self.new) result
@@ -175,7 +175,7 @@ impl Reader {
         ensures kept { OnOk result (IsKept self.new) }
     {
         let owner = self.owner(entry.pid);
-        if let Some(cause) = self.misplacement(&entry, owner) {
+        if let Some(cause) = self.entry_fault(&entry, owner) {
             return Err(cause);
         }
         let process = self.process_of(&entry, owner);
@@ -203,7 +203,7 @@ impl Reader {
     #[tactic(auto, using(crate::proofs::KeptLemmas::noted_begin, crate::proofs::KeptLemmas::noted_stop, crate::proofs::KeptLemmas::noted_same))]
     fn note(&mut self, entry: &Entry) -> Result<(), Cause>
         requires kept { IsKept self.old }
-        requires placed { misplacement (past self.old) (entry_view entry.now) ≡ None }
+        requires faultless { entry_fault (past self.old) (entry_view entry.now) ≡ None }
         ensures ok { OnOk result (IsNoted self.old self.new (entry_view entry.now)) }
         ensures err { IfErr result (λ cause. cause ≡ Memory) }
     {

@@ -3,18 +3,18 @@ use Rattle.ll_process.specs.Cases.{CaseValue}
 use Rattle.ll_reasons.specs.Explanations.{origins_at}
 use Rattle.ll_trails.proofs.AtIndices.{process_there, record_there}
 use Rattle.ll_trails.specs.TraceOrigins.{Follows}
-use Rattle.ll_explanations.proofs.Explaining.{placed, starts_nothing}
+use Rattle.ll_explanations.proofs.Explaining.{index_within, starts_nothing}
 use Rattle.ll_explanations.proofs.explanation.found_at.Goals as goal
 
 pub call-requires : goal.call-requires
 call-requires c =
     let cv : CaseValue = c.args.case.now in
-    placed cv.tree cv.abi cv.records c.args.index c.args.answer c.requires.answer
+    index_within cv.tree cv.abi cv.records c.args.index c.args.answer c.requires.answer
 
 pub of-requires : goal.of-requires
 of-requires c =
     let cv : CaseValue = c.args.case.now in
-    let within : c.args.index < length cv.records = placed cv.tree cv.abi cv.records c.args.index c.args.answer c.requires.answer in
+    let within : c.args.index < length cv.records = index_within cv.tree cv.abi cv.records c.args.index c.args.answer c.requires.answer in
     let found = record_there cv.records c.args.index within in
     let goes = starts_nothing cv.tree cv.abi cv.records c.args.index found.0 c.args.answer found.1 c.requires.answer c.requires.known in
     omega (
@@ -28,7 +28,7 @@ pub returns : goal.returns
 unfolding origins_at
 returns c =
     let cv : CaseValue = c.args.case.now in
-    let found = record_there cv.records c.args.index (placed cv.tree cv.abi cv.records c.args.index c.args.answer c.requires.answer) in
+    let found = record_there cv.records c.args.index (index_within cv.tree cv.abi cv.records c.args.index c.args.answer c.requires.answer) in
     let process = c.call.ensures.process found.0 found.1 in
     record {
       case = c.call.ensures.case;

@@ -6,9 +6,9 @@ use Rattle.std.proofs.lemmas.Option.{slice_get-get_or}
 use Rattle.ll_trace.specs.declared.op.Record.{Record}
 use Rattle.ll_semantics.specs.declared.answer.Answer.{Answer}
 use Rattle.ll_process.specs.declared.piece.Piece.{Piece}
-use Rattle.ll_pool.specs.Gathered.{placed, answers_of_pieces}
+use Rattle.ll_pool.specs.Gathered.{put_all, answers_of_pieces}
 use Rattle.ll_pool.proofs.Counts.{piece_at}
-use Rattle.ll_pool.proofs.Placing.{placed-nil, answers_of_pieces-nil, assembled_more}
+use Rattle.ll_pool.proofs.PuttingAnswers.{put_all-nil, answers_of_pieces-nil, assembled_more}
 use Rattle.ll_pool.proofs.Answering.{all_indices, all_answered}
 use Rattle.ll_pool.proofs.gather.assemble.Goals as goal
 
@@ -19,8 +19,8 @@ loop-piece-init c =
     record {
       len = len;
       same = len;
-      placed_so_far =
-          sym (ap (λ (ps : List (ℕ × Answer)). placed ps c.in_ok-answers.answers.items) answers_of_pieces-nil ∙ placed-nil c.in_ok-answers.answers.items);
+      put_so_far =
+          sym (ap (λ (ps : List (ℕ × Answer)). put_all ps c.in_ok-answers.answers.items) answers_of_pieces-nil ∙ put_all-nil c.in_ok-answers.answers.items);
     }
 
 pub put_answers-requires : goal.put_answers-requires
@@ -34,19 +34,19 @@ pub loop-piece-preserved : goal.loop-piece-preserved
 loop-piece-preserved c = record {
   len = c.put_answers.ensures.len ∙ c.loop-piece.invariant.len;
   same = c.loop-piece.invariant.same;
-  placed_so_far =
+  put_so_far =
       assembled_more c.args.pieces.now c.loop-piece.piece-index c.piece-item.result c.in_ok-answers.answers.items c.loop-piece.answers.items
       c.put_answers.new.answers.items
       (slice_get-get_or c.args.pieces.now c.loop-piece.piece-index c.piece-item.result c.loop-piece-test.true
       ∙ ap (λ (x : Piece). Some x) (sym c.piece-item.is))
-      c.loop-piece.invariant.placed_so_far
-      (c.put_answers.ensures.placed ∙ ap (λ (ps : List (ℕ × Answer)). placed ps c.loop-piece.answers.items) c.answers.ensures);
+      c.loop-piece.invariant.put_so_far
+      (c.put_answers.ensures.put ∙ ap (λ (ps : List (ℕ × Answer)). put_all ps c.loop-piece.answers.items) c.answers.ensures);
 }
 
 pub returns : goal.returns
 returns c =
     all_answered c.args.case.now c.args.pieces.now c.in_ok-answers.answers.items c.loop-piece.answers.items c.trace.ensures.case c.requires.of_case
     c.requires.each c.loop-piece.invariant.same
-    (c.loop-piece.invariant.placed_so_far
-    ∙ ap (λ (xs : List Piece). placed (answers_of_pieces xs) c.in_ok-answers.answers.items)
+    (c.loop-piece.invariant.put_so_far
+    ∙ ap (λ (xs : List Piece). put_all (answers_of_pieces xs) c.in_ok-answers.answers.items)
     (take_all c.loop-piece.piece-index c.args.pieces.now c.loop-piece-test.false))

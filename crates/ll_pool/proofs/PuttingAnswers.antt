@@ -7,25 +7,25 @@ use Rattle.std.proofs.lemmas.Grind.{flat_map-append}
 use Rattle.std.proofs.lemmas.Option.{slice_get_within, get_or_from_slice_get}
 use Rattle.ll_semantics.specs.declared.answer.Answer.{Answer}
 use Rattle.ll_process.specs.declared.piece.Piece.{Piece}
-use Rattle.ll_pool.specs.Gathered.{answers_of_pieces, placed}
+use Rattle.ll_pool.specs.Gathered.{answers_of_pieces, put_all}
 
-pub placed-nil : (xs : List Answer) → placed [] xs ≡ xs
-unfolding placed
-placed-nil xs = refl
+pub put_all-nil : (xs : List Answer) → put_all [] xs ≡ xs
+unfolding put_all
+put_all-nil xs = refl
 
-pub placed-cons : (part : ℕ × Answer) (parts : List (ℕ × Answer)) (xs : List Answer) → placed (part ∷ parts) xs ≡ placed parts (set xs part.0 part.1)
-unfolding placed
-placed-cons part parts xs = refl
+pub put_all-cons : (part : ℕ × Answer) (parts : List (ℕ × Answer)) (xs : List Answer) → put_all (part ∷ parts) xs ≡ put_all parts (set xs part.0 part.1)
+unfolding put_all
+put_all-cons part parts xs = refl
 
-pub placed-append : (ps qs : List (ℕ × Answer)) (xs : List Answer) → placed (ps ++ qs) xs ≡ placed qs (placed ps xs)
-unfolding placed
-placed-append [] qs xs = refl
-placed-append (p ∷ ps) qs xs = placed-append ps qs (set xs p.0 p.1)
+pub put_all-append : (ps qs : List (ℕ × Answer)) (xs : List Answer) → put_all (ps ++ qs) xs ≡ put_all qs (put_all ps xs)
+unfolding put_all
+put_all-append [] qs xs = refl
+put_all-append (p ∷ ps) qs xs = put_all-append ps qs (set xs p.0 p.1)
 
-pub length-placed : (ps : List (ℕ × Answer)) (xs : List Answer) → length (placed ps xs) ≡ length xs
-unfolding placed
-length-placed [] xs = refl
-length-placed (p ∷ ps) xs = length-placed ps (set xs p.0 p.1) ∙ length-set xs p.0 p.1
+pub length-put_all : (ps : List (ℕ × Answer)) (xs : List Answer) → length (put_all ps xs) ≡ length xs
+unfolding put_all
+length-put_all [] xs = refl
+length-put_all (p ∷ ps) xs = length-put_all ps (set xs p.0 p.1) ∙ length-set xs p.0 p.1
 
 pub answers_of_pieces-nil : answers_of_pieces [] ≡ []
 unfolding answers_of_pieces
@@ -41,10 +41,10 @@ answers_of_pieces-next pieces i piece eq =
     ∙ ap (λ (xs : List (ℕ × Answer)). flat_map (λ (x : Piece). x.answers.items) (take i pieces) ++ xs) (append-nil piece.answers.items)
 
 pub assembled_more : (pieces : List Piece) (i : ℕ) (piece : Piece) (before xs xs_after : List Answer) → slice_get pieces i ≡ Some piece
-    → xs ≡ placed (answers_of_pieces (take i pieces)) before → xs_after ≡ placed piece.answers.items xs
-    → xs_after ≡ placed (answers_of_pieces (take (i + 1) pieces)) before
+    → xs ≡ put_all (answers_of_pieces (take i pieces)) before → xs_after ≡ put_all piece.answers.items xs
+    → xs_after ≡ put_all (answers_of_pieces (take (i + 1) pieces)) before
 assembled_more pieces i piece before xs xs_after eq so_far is =
     is
-    ∙ ap (λ (ys : List Answer). placed piece.answers.items ys) so_far
-    ∙ sym (placed-append (answers_of_pieces (take i pieces)) piece.answers.items before)
-    ∙ ap (λ (ps : List (ℕ × Answer)). placed ps before) (sym (answers_of_pieces-next pieces i piece eq))
+    ∙ ap (λ (ys : List Answer). put_all piece.answers.items ys) so_far
+    ∙ sym (put_all-append (answers_of_pieces (take i pieces)) piece.answers.items before)
+    ∙ ap (λ (ps : List (ℕ × Answer)). put_all ps before) (sym (answers_of_pieces-next pieces i piece eq))
