@@ -13,7 +13,7 @@ use Rattle.ll_command.specs.Command.{Request, Text, request_of}
 use Rattle.ll_audit.specs.FaultLines.{failure_status}
 use Rattle.ll_audit.specs.Inputs.{Files}
 use Rattle.ll_audit.specs.Fronts.{EndsWithoutRun, HasFailure, HasWrongWords, IsOutcomeOf, Reports, StaysQuiet, TellsWhy, WritesNothing, WritesReport}
-use Rattle.ll_audit.specs.Outcomes.{EndsWith}
+use Rattle.ll_audit.specs.Outcomes.{EndsWith, Stream}
 use Rattle.ll_command.proofs.CommandLine.{asks_for_no_run}
 
 -- a failure's status is 3 or 4
@@ -73,9 +73,11 @@ four_wrong : (status : ℕ) → status ≡ 4 → (status ≡ 2) ⊎ (status ≡ 
 four_wrong status a (inl b) = omega (arith, a, b)
 four_wrong status a (inr b) = omega (arith, a, b)
 
-module _ {Output Errors : Type 0} (contents : Output → Option (List ℕ)) (lines : Errors
-    → Option (List ℕ)) (ending : Ending) (old new : Output) (errors_old errors_new : Errors) where
-  pub bounded : (one : Outcome) → EndsWith contents lines one ending old new errors_old errors_new → ending.status ≤ 4
+abbrev pub stream : {Output : Type 0} → (Output → Option (List ℕ)) → Output → Output → Stream Output
+stream contents old new = record { contents = contents; old = old; new = new }
+
+module _ {Output Errors : Type 0} (out : Stream Output) (err : Stream Errors) (ending : Ending) where
+  pub bounded : (one : Outcome) → EndsWith out err one ending → ending.status ≤ 4
   bounded (outcome.Report report) (inl (why, _)) = high_bounded ending.status (inr why.0)
   bounded (outcome.Report report) (inr written) = low_bounded ending.status (reporting report.refused ending.status written.0)
   bounded (outcome.Text error) (inl why) = high_bounded ending.status (inr why.0)
@@ -84,7 +86,7 @@ module _ {Output Errors : Type 0} (contents : Output → Option (List ℕ)) (lin
   bounded (outcome.Misuse misuse) ends = omega (arith, ends.0)
   bounded (outcome.Failure one) ends = high_bounded ending.status (failing one ending.status ends.0.0)
 
-  pub stays_quiet : (one : Outcome) → EndsWith contents lines one ending old new errors_old errors_new → StaysQuiet ending.status errors_old errors_new
+  pub stays_quiet : (one : Outcome) → EndsWith out err one ending → StaysQuiet ending.status err.old err.new
   stays_quiet (outcome.Report report) (inl (why, _)) low = absurd (low_high ending.status low (inr why.0))
   stays_quiet (outcome.Report report) (inr written) low = written.2
   stays_quiet (outcome.Text error) (inl why) low = absurd (low_high ending.status low (inr why.0))
@@ -93,10 +95,10 @@ module _ {Output Errors : Type 0} (contents : Output → Option (List ℕ)) (lin
   stays_quiet (outcome.Misuse misuse) ends low = absurd (low_two ending.status low ends.0)
   stays_quiet (outcome.Failure one) ends low = absurd (low_high ending.status low (failing one ending.status ends.0.0))
 
-module _ {Output Errors : Type 0} (contents : Output → Option (List ℕ)) (lines : Errors
-    → Option (List ℕ)) (words : List Text) (files : Option Files) (before after : ℕ) (ending : Ending) (old new : Output) (errors_old errors_new : Errors) where
-  pub writes_report : (one : Outcome) → IsOutcomeOf words files before after one → EndsWith contents lines one ending old new errors_old errors_new
-      → WritesReport words files ending.status (contents old) (contents new)
+module _ {Output Errors : Type 0} (out : Stream Output) (err : Stream Errors) (words : List Text) (files : Option Files) (before after : ℕ)
+    (ending : Ending) where
+  pub writes_report : (one : Outcome) → IsOutcomeOf words files before after one → EndsWith out err one ending
+      → WritesReport words files ending.status (out.contents out.old) (out.contents out.new)
   writes_report (outcome.Report report) has (inl (why, _)) low request asked = absurd (low_high ending.status low (inr why.0))
   writes_report (outcome.Report report) has (inr written) low request asked =
       let same : has.request ≡ request = same_Some has.request request (sym has.asked ∙ asked) in
@@ -106,7 +108,7 @@ module _ {Output Errors : Type 0} (contents : Output → Option (List ℕ)) (lin
   writes_report (outcome.Misuse misuse) wrong ends low request asked = absurd (low_two ending.status low ends.0)
   writes_report (outcome.Failure one) has ends low request asked = absurd (low_high ending.status low (failing one ending.status ends.0.0))
 
-  pub wrong_words : (one : Outcome) → IsOutcomeOf words files before after one → EndsWith contents lines one ending old new errors_old errors_new
+  pub wrong_words : (one : Outcome) → IsOutcomeOf words files before after one → EndsWith out err one ending
       → HasWrongWords words ending.status
   wrong_words (outcome.Report report) has (inl (why, _)) two = absurd (two_high ending.status two (inr why.0))
   wrong_words (outcome.Report report) has (inr written) two = absurd (low_two ending.status (reporting report.refused ending.status written.0) two)
@@ -120,7 +122,7 @@ module _ {Output Errors : Type 0} (contents : Output → Option (List ℕ)) (lin
   no_run_failing one (inl memory) is none = is ∙ ap (λ (f : Failure). failure_status f) memory
   no_run_failing one (inr (request, asked, fails)) is none = absurd (none-some request (sym none ∙ asked))
 
-  pub ends_without_run : (one : Outcome) → IsOutcomeOf words files before after one → EndsWith contents lines one ending old new errors_old errors_new
+  pub ends_without_run : (one : Outcome) → IsOutcomeOf words files before after one → EndsWith out err one ending
       → EndsWithoutRun words ending.status
   ends_without_run (outcome.Report report) has ends none = absurd (none-some has.request (sym none ∙ has.asked))
   ends_without_run (outcome.Text error) help (inl why) none = inr (inr why.0)
@@ -129,8 +131,8 @@ module _ {Output Errors : Type 0} (contents : Output → Option (List ℕ)) (lin
   ends_without_run (outcome.Misuse misuse) wrong ends none = inl ends.0
   ends_without_run (outcome.Failure one) has ends none = inr (inr (no_run_failing one has ends.0.0 none))
 
-  pub writes_nothing : (one : Outcome) → IsOutcomeOf words files before after one → EndsWith contents lines one ending old new errors_old errors_new
-      → WritesNothing contents words files ending.status old new
+  pub writes_nothing : (one : Outcome) → IsOutcomeOf words files before after one → EndsWith out err one ending
+      → WritesNothing out words files ending.status
   writes_nothing (outcome.Report report) has (inl (why, beginning)) =
       (λ wrong. absurd (four_wrong ending.status why.0 wrong), λ _. inr (inr (report, has, beginning)))
   writes_nothing (outcome.Report report) has (inr written) = (
@@ -143,8 +145,8 @@ module _ {Output Errors : Type 0} (contents : Output → Option (List ℕ)) (lin
   writes_nothing (outcome.Misuse misuse) wrong ends = (λ _. ends.1, λ _. inl ends.1)
   writes_nothing (outcome.Failure one) has ends = (λ _. ends.1, λ _. inl ends.1)
 
-  pub tells_why : (one : Outcome) → IsOutcomeOf words files before after one → EndsWith contents lines one ending old new errors_old errors_new
-      → TellsWhy words files before after ending (lines errors_old) (lines errors_new)
+  pub tells_why : (one : Outcome) → IsOutcomeOf words files before after one → EndsWith out err one ending
+      → TellsWhy words files before after ending (err.contents err.old) (err.contents err.new)
   tells_why (outcome.Report report) has (inl (why, _)) high = (failure.Unwritten, inr (refl, inr (report, has)), why)
   tells_why (outcome.Report report) has (inr written) high = absurd (low_high ending.status (reporting report.refused ending.status written.0) high)
   tells_why (outcome.Text error) help (inl why) high = (failure.Unwritten, inr (refl, inl help), why)

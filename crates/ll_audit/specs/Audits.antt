@@ -16,8 +16,8 @@ use Rattle.ll_audit.specs.declared.fault.Fault.{Fault}
 use Rattle.ll_audit.specs.declared.fault.Fault.TheVariants as fault
 
 -- a number of threads that may judge
-abbrev pub IsCrew : ℕ → Type 0
-IsCrew workers = (1 ≤ workers) × (workers ≤ 64)
+abbrev pub IsWorkerCount : ℕ → Type 0
+IsWorkerCount workers = (1 ≤ workers) × (workers ≤ 64)
 
 -- the report on records whose calls meet this tree: the answers are those of one fold over all records
 pub record IsReportOn (tree : List Entry) (abi : Abi) (records : List Record) (report : Report) : Type 0 where
@@ -47,8 +47,8 @@ ReadsAsTrace bytes = (records : List Record) × IsTrace bytes records
 -- Why there is no report: the tree doesn't read, or it does and the trace doesn't. A thread is missing only where both
 -- read. Being out of memory says nothing of the files.
 abbrev pub IsFaultOf : ℕ → List ℕ → List ℕ → Fault → Type 0
-IsFaultOf workers tree_bytes trace_bytes fault.Workers = IsCrew workers → ⊥
-IsFaultOf workers tree_bytes trace_bytes (fault.Tree bad) = IsCrew workers × IsBad tree_format tree_bytes bad
-IsFaultOf workers tree_bytes trace_bytes (fault.Trace bad) = IsCrew workers × ReadsAsTree tree_bytes × IsBad trace_file trace_bytes bad
-IsFaultOf workers tree_bytes trace_bytes fault.Memory = IsCrew workers
-IsFaultOf workers tree_bytes trace_bytes fault.NoThread = IsCrew workers × ReadsAsTree tree_bytes × ReadsAsTrace trace_bytes
+IsFaultOf workers tree_bytes trace_bytes fault.Workers = IsWorkerCount workers → ⊥
+IsFaultOf workers tree_bytes trace_bytes (fault.Tree bad) = IsWorkerCount workers × IsBad tree_format tree_bytes bad
+IsFaultOf workers tree_bytes trace_bytes (fault.Trace bad) = IsWorkerCount workers × ReadsAsTree tree_bytes × IsBad trace_file trace_bytes bad
+IsFaultOf workers tree_bytes trace_bytes fault.Memory = IsWorkerCount workers
+IsFaultOf workers tree_bytes trace_bytes fault.NoThread = IsWorkerCount workers × ReadsAsTree tree_bytes × ReadsAsTrace trace_bytes

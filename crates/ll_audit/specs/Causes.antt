@@ -25,6 +25,6 @@ abbrev pub fault_of_pool : PoolFault → Fault
 fault_of_pool pool.Memory = fault.Memory
 fault_of_pool pool.NoThread = fault.NoThread
 
--- out of memory, or a thread is missing
-abbrev pub IsWant : Fault → Type 0
-IsWant one = (one ≡ fault.Memory) ⊎ (one ≡ fault.NoThread)
+-- memory has run out, or a thread is missing
+abbrev pub IsOutOfMemoryOrThreads : Fault → Type 0
+IsOutOfMemoryOrThreads one = (one ≡ fault.Memory) ⊎ (one ≡ fault.NoThread)

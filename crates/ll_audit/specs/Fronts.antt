@@ -19,7 +19,7 @@ use Rattle.ll_audit.specs.ShownReports.{IsReportWith}
 use Rattle.ll_command.specs.Command.{AreWrong, AskForText, Request, Text, request_of}
 use Rattle.ll_audit.specs.FaultLines.{failure_line, failure_status}
 use Rattle.ll_audit.specs.Inputs.{Files, bytes_of}
-use Rattle.ll_audit.specs.Outcomes.{AppendsBeginning, Complains}
+use Rattle.ll_audit.specs.Outcomes.{AppendsBeginning, Complains, Stream}
 
 -- these are the bytes of the file of a name, where the files are known
 abbrev pub AreBytesOf : Option Files → Text → List ℕ → Type 0
@@ -108,10 +108,10 @@ IsCutShort words files old new =
 
 -- With status 2 or 3 nothing is written to the output. Nor is it with status 4, unless writing the report, help or the version failed:
 -- then a beginning of the report may be there.
-abbrev pub WritesNothing : {Output : Type 0} → (Output → Option (List ℕ)) → List Text → Option Files → ℕ → Output → Output → Type 0
-WritesNothing contents words files status old new =
-    ((status ≡ 2) ⊎ (status ≡ 3) → new ≡ old)
-    × ((status ≡ 4) → (new ≡ old) ⊎ IsCutShort words files (contents old) (contents new))
+abbrev pub WritesNothing : {Output : Type 0} → Stream Output → List Text → Option Files → ℕ → Type 0
+WritesNothing out words files status =
+    ((status ≡ 2) ⊎ (status ≡ 3) → out.new ≡ out.old)
+    × ((status ≡ 4) → (out.new ≡ out.old) ⊎ IsCutShort words files (out.contents out.old) (out.contents out.new))
 
 -- With status 0 or 1 nothing is written to the error output.
 abbrev pub StaysQuiet : {Errors : Type 0} → ℕ → Errors → Errors → Type 0

@@ -6,4 +6,3 @@ pub mod Causes
 pub mod Fronts
 pub mod ShownReports
 pub mod Ranging
-pub mod Cases

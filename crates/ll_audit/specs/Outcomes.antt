@@ -20,17 +20,22 @@ Complains one ending lines_old lines_new =
     × OnTrue ending.told (Appends lines_old lines_new (failure_line one))
     × AppendsBeginning lines_old lines_new (failure_line one)
 
--- An outcome ends in this way, and turns what the output and the error output were into what they are.
-abbrev pub EndsWith : {Output Errors : Type 0} → (Output → Option (List ℕ)) → (Errors → Option (List ℕ)) → Outcome → Ending
-    → Output → Output → Errors → Errors → Type 0
-EndsWith contents lines (outcome.Report report) ending old new errors_old errors_new =
-    (Complains Unwritten ending (lines errors_old) (lines errors_new)
-    × AppendsBeginning (contents old) (contents new) report.text)
-    ⊎ ((ending.status ≡ report_status report.refused) × Appends (contents old) (contents new) report.text
-    × (errors_new ≡ errors_old))
-EndsWith contents lines (outcome.Text error) ending old new errors_old errors_new =
-    Complains Unwritten ending (lines errors_old) (lines errors_new) ⊎ ((ending.status ≡ 0) × (errors_new ≡ errors_old))
-EndsWith contents lines (outcome.Usage error) ending old new errors_old errors_new = (ending.status ≡ 2) × (new ≡ old)
-EndsWith contents lines (outcome.Misuse why) ending old new errors_old errors_new = (ending.status ≡ 2) × (new ≡ old)
-EndsWith contents lines (outcome.Failure one) ending old new errors_old errors_new =
-    Complains one ending (lines errors_old) (lines errors_new) × (new ≡ old)
+-- An output before a run and after it, and which bytes it holds, if they are known.
+pub record Stream (Output : Type 0) : Type 0 where
+  pub contents : Output → Option (List ℕ)
+  pub old : Output
+  pub new : Output
+
+-- An outcome ends in this way, with what it does to the output and to the error output.
+abbrev pub EndsWith : {Output Errors : Type 0} → Stream Output → Stream Errors → Outcome → Ending → Type 0
+EndsWith out err (outcome.Report report) ending =
+    (Complains Unwritten ending (err.contents err.old) (err.contents err.new)
+    × AppendsBeginning (out.contents out.old) (out.contents out.new) report.text)
+    ⊎ ((ending.status ≡ report_status report.refused) × Appends (out.contents out.old) (out.contents out.new) report.text
+    × (err.new ≡ err.old))
+EndsWith out err (outcome.Text error) ending =
+    Complains Unwritten ending (err.contents err.old) (err.contents err.new) ⊎ ((ending.status ≡ 0) × (err.new ≡ err.old))
+EndsWith out err (outcome.Usage error) ending = (ending.status ≡ 2) × (out.new ≡ out.old)
+EndsWith out err (outcome.Misuse why) ending = (ending.status ≡ 2) × (out.new ≡ out.old)
+EndsWith out err (outcome.Failure one) ending =
+    Complains one ending (err.contents err.old) (err.contents err.new) × (out.new ≡ out.old)

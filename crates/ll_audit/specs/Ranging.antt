@@ -5,11 +5,10 @@ use Rattle.ll_rights.specs.declared.abi.Abi.{Abi}
 use Rattle.ll_rights.specs.AbiRanges.{is_in}
 use Rattle.ll_tree.specs.Trees.{Entry}
 use Rattle.ll_trace.specs.declared.op.Record.{Record}
-use Rattle.ll_findings.specs.Findings.{FindingValue, StandsInFront}
+use Rattle.ll_findings.specs.Findings.{AddsFinding, FindingValue, StandsInFront}
 use Rattle.ll_json.specs.Judged.{AreFound}
 use Rattle.ll_json.specs.Records.{about}
 use Rattle.ll_report.specs.declared.options.Options.{Options}
-use Rattle.ll_audit.specs.Cases.{AddsFinding}
 use Rattle.ll_audit.specs.ShownReports.{taken, versions_by}
 use Rattle.ll_audit.specs.declared.ranging.Progress.{Progress}
 use Rattle.ll_audit.specs.declared.ranging.Progress.TheVariants as progress

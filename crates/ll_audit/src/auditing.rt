@@ -5,10 +5,10 @@ ghost use Rattle.ll_lines.specs.declared.fault.Cause.TheVariants.{Memory as NoMe
 ghost use Rattle.ll_tree.specs.TreeReading.{IsTreeOf};
 ghost use Rattle.ll_trace.specs.Records.{IsTrace};
 ghost use Rattle.ll_report.specs.Shown.{IsShownReportOn, told_by};
-ghost use Rattle.ll_audit.specs.Audits.{IsCrew, IsFaultOf, IsReport};
+ghost use Rattle.ll_audit.specs.Audits.{IsWorkerCount, IsFaultOf, IsReport};
 ghost use Rattle.ll_audit.specs.ShownReports.{IsReportBy, IsReportInJson, IsReportOver, IsReportWith, IsTextReport, taken};
 ghost use Rattle.ll_audit.specs.Inputs.{trace_bytes, tree_bytes};
-ghost use Rattle.ll_audit.specs.Causes.{IsTraceFault, IsTreeFault, IsWant};
+ghost use Rattle.ll_audit.specs.Causes.{IsTraceFault, IsTreeFault, IsOutOfMemoryOrThreads};
 
 use crate::cut::{Cut, cuts_of};
 use crate::fault::Fault;
@@ -50,7 +50,7 @@ pub fn audit<R: Threads + Wait + Sync, G: Gate + Sync>(
     gate: &G,
 ) -> Result<Report, Fault>
     ensures report { IfOk result (IsReport abi tree.now trace.now) }
-    ensures crew { IfOk result (λ _. IsCrew workers) }
+    ensures count { IfOk result (λ _. IsWorkerCount workers) }
     ensures fault { IfErr result (IsFaultOf workers tree.now trace.now) }
 {
     let options = Options {
@@ -93,7 +93,7 @@ pub fn audit_with<R: Threads + Wait + Sync, G: Gate + Sync>(
 ) -> Result<Report, Fault>
     ensures report { IfOk result
         (λ report. IsReportWith options.now tree.now trace.now (told_by report)) }
-    ensures crew { IfOk result (λ _. IsCrew workers) }
+    ensures count { IfOk result (λ _. IsWorkerCount workers) }
     ensures fault { IfErr result (IsFaultOf workers tree.now trace.now) }
 {
     let workers = Workers {
@@ -115,7 +115,7 @@ pub(crate) fn audit_inputs<R: Threads + Wait + Sync, G: Gate + Sync>(
 ) -> Result<ReportText, Fault>
     ensures report { IfOk result
         (IsReportWith options.now (tree_bytes inputs.entry) (trace_bytes inputs.entry)) }
-    ensures crew { IfOk result (λ _. IsCrew workers.now.count) }
+    ensures count { IfOk result (λ _. IsWorkerCount workers.now.count) }
     ensures fault { IfErr result
         (IsFaultOf workers.now.count (tree_bytes inputs.entry) (trace_bytes inputs.entry)) }
 {
@@ -130,7 +130,7 @@ fn first_tree<R: Threads + Wait + Sync, G: Gate + Sync>(
     tree: &[u8],
 ) -> Result<Tree, Fault>
     ensures tree { IfOk result (IsTreeOf tree.now) }
-    ensures crew { IfOk result (λ _. IsCrew workers.now.count) }
+    ensures count { IfOk result (λ _. IsWorkerCount workers.now.count) }
     ensures fault { (trace : List ℕ) → IfErr result (IsFaultOf workers.now.count tree.now trace) }
 {
     if workers.count == 0 || workers.count > 64 {
@@ -196,9 +196,9 @@ fn report_by<R: Threads + Wait + Sync, G: Gate + Sync>(
     options: &Options,
     cut: Cut,
 ) -> Result<ReportText, Fault>
-    requires { IsCrew workers.now.count }
+    requires { IsWorkerCount workers.now.count }
     ensures report { IfOk result (IsReportBy options.now tree trace) }
-    ensures fault { IfErr result IsWant }
+    ensures fault { IfErr result IsOutOfMemoryOrThreads }
 {
     let cuts = cuts_of(workers.alloc, &trace, cut)?;
     let audit = Audit {
@@ -218,9 +218,9 @@ fn text_by<R: Threads + Wait + Sync, G: Gate + Sync>(
     tree: Tree,
     trace: Trace,
 ) -> Result<ReportText, Fault>
-    requires { IsCrew audit.now.workers.now.count }
+    requires { IsWorkerCount audit.now.workers.now.count }
     ensures report { IfOk result (IsTextReport audit.now.options.now tree trace) }
-    ensures fault { IfErr result IsWant }
+    ensures fault { IfErr result IsOutOfMemoryOrThreads }
 {
     match audit.options.abis.single() {
         Some(abi) => text_under(audit, abi, tree, taken(trace, audit.options.effort, abi)),
@@ -235,10 +235,10 @@ fn text_under<R: Threads + Wait + Sync, G: Gate + Sync>(
     tree: Tree,
     trace: Trace,
 ) -> Result<ReportText, Fault>
-    requires { IsCrew audit.now.workers.now.count }
+    requires { IsWorkerCount audit.now.workers.now.count }
     ensures report { IfOk result
         (IsShownReportOn audit.now.options.now.shown tree abi trace) }
-    ensures fault { IfErr result IsWant }
+    ensures fault { IfErr result IsOutOfMemoryOrThreads }
 {
     let alloc = audit.workers.alloc;
     let case = Case::of_located(alloc, audit.workers.located(tree, trace)?, abi)?;
@@ -256,9 +256,9 @@ fn text_over<R: Threads + Wait + Sync, G: Gate + Sync>(
     tree: Tree,
     trace: Trace,
 ) -> Result<ReportText, Fault>
-    requires { IsCrew audit.now.workers.now.count }
+    requires { IsWorkerCount audit.now.workers.now.count }
     ensures report { IfOk result (IsReportOver audit.now.options.now tree trace) }
-    ensures fault { IfErr result IsWant }
+    ensures fault { IfErr result IsOutOfMemoryOrThreads }
 {
     let all = Audited::of(audit, tree, trace)?;
     let report = all.into_text(audit.workers.rt, audit.workers.alloc, audit.options)?;
@@ -271,9 +271,9 @@ fn json_by<R: Threads + Wait + Sync, G: Gate + Sync>(
     tree: Tree,
     trace: Trace,
 ) -> Result<ReportText, Fault>
-    requires { IsCrew audit.now.workers.now.count }
+    requires { IsWorkerCount audit.now.workers.now.count }
     ensures report { IfOk result (IsReportInJson audit.now.options.now tree trace) }
-    ensures fault { IfErr result IsWant }
+    ensures fault { IfErr result IsOutOfMemoryOrThreads }
 {
     let all = Audited::of(audit, tree, trace)?;
     let report = all.into_json(audit.workers.rt, audit.workers.alloc, audit.options)?;

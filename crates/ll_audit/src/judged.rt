@@ -4,10 +4,10 @@ ghost use Rattle.std.specs.Prelude.{◌≡◌, IfOk, IfErr};
 ghost use Rattle.std.specs.Thread.{IsSync};
 ghost use Rattle.ll_semantics.specs.Worlds.{judged};
 ghost use Rattle.ll_process.specs.{Cases.IsCase, PastCases.as_it_was};
-ghost use Rattle.ll_audit.specs.Causes.{IsWant};
+ghost use Rattle.ll_audit.specs.Causes.{IsOutOfMemoryOrThreads};
 ghost use Rattle.ll_audit.specs.ShownReports.{taken};
-ghost use Rattle.ll_audit.specs.Audits.{IsCrew};
-ghost use Rattle.ll_audit.specs.Cases.{AddsFinding, judged_in};
+ghost use Rattle.ll_audit.specs.Audits.{IsWorkerCount};
+ghost use Rattle.ll_findings.specs.Findings.{AddsFinding, judged_in};
 
 use crate::fault::Fault;
 use crate::ranging::{Audit, Audited, case_under};
@@ -61,14 +61,14 @@ fn explain_beside<R: Threads + Wait + Sync, G: Gate + Sync>(
     answers: Vec<Answer>,
     newer: Findings,
 ) -> Result<(Findings, Vec<Answer>), Fault>
-    requires crew { IsCrew audit.now.workers.now.count }
+    requires count { IsWorkerCount audit.now.workers.now.count }
     requires past { IsCase (as_it_was now.now.tree now.now.records past.now) }
     requires answers { answers.items
         ≡ judged_in (as_it_was now.now.tree now.now.records past.now) }
     ensures findings { IfOk result (λ both. AddsFinding audit.now.options.now.shown.explanations
         (as_it_was now.now.tree now.now.records past.now) newer both.0) }
     ensures judged { IfOk result (λ both. both.1.items ≡ judged_in now.now) }
-    ensures fault { IfErr result IsWant }
+    ensures fault { IfErr result IsOutOfMemoryOrThreads }
 {
     let (rt, alloc, gate) = (audit.workers.rt, audit.workers.alloc, audit.workers.gate);
     let (explains, cuts) = (audit.options.shown.explanations, audit.cuts);
@@ -82,7 +82,7 @@ fn explain_beside<R: Threads + Wait + Sync, G: Gate + Sync>(
                 ≡ judged_in (as_it_was now.now.tree now.now.records past.now) }
         { explain_past(rt, alloc, now, past, answers, explains, newer, count) },
         move ||
-            requires { IsCrew count }
+            requires { IsWorkerCount count }
         { answers_by(rt, alloc, count, gate, now, cuts) },
     );
     Ok((findings?, judged?))
@@ -95,13 +95,13 @@ impl Judged {
         audit: &Audit<'_, R, G>,
         abi: Abi,
     ) -> Result<Judged, Fault>
-        requires { IsCrew audit.now.workers.now.count }
+        requires { IsWorkerCount audit.now.workers.now.count }
         ensures tree { IfOk result (λ one. one.case.tree ≡ newer.located.tree) }
         ensures abi { IfOk result (λ one. one.case.abi ≡ abi) }
         ensures records { IfOk result (λ one. one.case.records
             ≡ taken audit.now.options.now.effort abi newer.located.trace) }
         ensures newer { IfOk result (λ one. one.newer ≡ newer.findings) }
-        ensures fault { IfErr result IsWant }
+        ensures fault { IfErr result IsOutOfMemoryOrThreads }
     {
         let Audited { located, findings } = newer;
         let case = case_under(audit, located, abi)?;
@@ -120,14 +120,14 @@ impl Judged {
         audit: &Audit<'_, R, G>,
         abi: Abi,
     ) -> Result<Judged, Fault>
-        requires { IsCrew audit.now.workers.now.count }
+        requires { IsWorkerCount audit.now.workers.now.count }
         ensures records { IfOk result (λ next. next.case.records
             ≡ taken audit.now.options.now.effort abi self.case.records) }
         ensures tree { IfOk result (λ next. next.case.tree ≡ self.case.tree) }
         ensures findings { IfOk result (λ next. AddsFinding
             audit.now.options.now.shown.explanations self.case self.newer next.newer) }
         ensures abi { IfOk result (λ next. next.case.abi ≡ abi) }
-        ensures fault { IfErr result IsWant }
+        ensures fault { IfErr result IsOutOfMemoryOrThreads }
     {
         if !audit.options.shown.explanations {
             let newer = self.finish(audit, audit.workers.count)?;
@@ -158,7 +158,7 @@ impl Judged {
             self.case self.newer all.findings) }
         ensures tree { IfOk result (λ all. all.located.tree ≡ self.case.tree) }
         ensures trace { IfOk result (λ all. all.located.trace ≡ self.case.records) }
-        ensures fault { IfErr result IsWant }
+        ensures fault { IfErr result IsOutOfMemoryOrThreads }
     {
         let Judged {
             newer,

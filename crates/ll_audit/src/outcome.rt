@@ -36,7 +36,8 @@ pub struct Ending {
 impl Outcome<'_> {
     /// Writes the report, the help or the version to `out`, or what is wrong to `err`, and gives the status.
     pub fn write_to<O: Write, E: Write>(self, out: &mut O, err: &mut E) -> Ending
-        ensures { EndsWith O.contents E.contents self.entry result out.old out.new err.old err.new }
+        ensures { EndsWith (record { contents = O.contents; old = out.old; new = out.new })
+            (record { contents = E.contents; old = err.old; new = err.new }) self.entry result }
     {
         match self {
             Outcome::Report(report) => {

@@ -3,7 +3,7 @@
 ghost use Rattle.std.specs.Prelude.{◌≡◌, ◌+◌, ◌^◌, ◌<◌, ◌≤◌, IfOk, IfErr, map, string_bytes};
 ghost use Rattle.ll_command.specs.Command.{request_by};
 ghost use Rattle.ll_audit.specs.Fronts.{EndsWithoutRun, HasReason, HasWrongWords, IsFailureOf, IsOutcomeOf, Reports, StaysQuiet, TellsWhy, WritesNothing, WritesReport};
-ghost use Rattle.ll_audit.specs.Audits.{IsCrew};
+ghost use Rattle.ll_audit.specs.Audits.{IsWorkerCount};
 
 use crate::auditing::audit_inputs;
 use crate::cut::Cut;
@@ -42,8 +42,8 @@ pub fn front<R: Threads + Wait + Sync, S: Source, O: Write, E: Write, G: Gate + 
         (O.contents out.old) (O.contents out.new) }
     ensures wrong_words { HasWrongWords (map string_bytes words.now) result }
     ensures no_run { EndsWithoutRun (map string_bytes words.now) result }
-    ensures nothing { WritesNothing O.contents (map string_bytes words.now) (S.files source.old)
-        result out.old out.new }
+    ensures nothing { WritesNothing (record { contents = O.contents; old = out.old; new = out.new })
+        (map string_bytes words.now) (S.files source.old) result }
     ensures quiet { StaysQuiet result err.old err.new }
     ensures why { HasReason (map string_bytes words.now) (S.files source.old)
         (S.failed source.old) (S.failed source.new) result
@@ -69,8 +69,8 @@ pub fn front_ending<R: Threads + Wait + Sync, S: Source, O: Write, E: Write, G: 
         (O.contents out.old) (O.contents out.new) }
     ensures wrong_words { HasWrongWords (map string_bytes words.now) result.status }
     ensures no_run { EndsWithoutRun (map string_bytes words.now) result.status }
-    ensures nothing { WritesNothing O.contents (map string_bytes words.now) (S.files source.old)
-        result.status out.old out.new }
+    ensures nothing { WritesNothing (record { contents = O.contents; old = out.old; new = out.new })
+        (map string_bytes words.now) (S.files source.old) result.status }
     ensures quiet { StaysQuiet result.status err.old err.new }
     ensures why { TellsWhy (map string_bytes words.now) (S.files source.old)
         (S.failed source.old) (S.failed source.new) result
@@ -112,7 +112,7 @@ fn report_of<'a, R: Threads + Wait + Sync, S: Source, G: Gate + Sync>(
     gate: &G,
 ) -> Result<ReportText, Failure<'a>>
     requires failures { S.failed source.old + 2 < 2 ^ 64 }
-    requires crew { IsCrew run.now.workers }
+    requires count { IsWorkerCount run.now.workers }
     ensures report { IfOk result (Reports (S.files source.old) (request_by run.now)) }
     ensures failure { IfErr result (IsFailureOf (S.files source.old) (request_by run.now)
         (S.failed source.old) (S.failed source.new)) }

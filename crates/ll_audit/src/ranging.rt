@@ -7,10 +7,10 @@ ghost use Rattle.ll_report.specs.Rows.{refused_under_some, rows_text};
 ghost use Rattle.ll_report.specs.Versions.{founds_in};
 ghost use Rattle.ll_command.specs.declared.command.TheConstants.{VERSION};
 ghost use Rattle.ll_json.specs.Judged.{AreFound, Version};
-ghost use Rattle.ll_audit.specs.Causes.{IsWant};
+ghost use Rattle.ll_audit.specs.Causes.{IsOutOfMemoryOrThreads};
 ghost use Rattle.ll_audit.specs.ShownReports.{taken, versions_by};
 ghost use Rattle.ll_audit.specs.Ranging.{ComesTo, GoesOn, IsThrough};
-ghost use Rattle.ll_audit.specs.Audits.{IsCrew};
+ghost use Rattle.ll_audit.specs.Audits.{IsWorkerCount};
 
 use crate::fault::Fault;
 use crate::judged::Judged;
@@ -61,9 +61,9 @@ impl Progress {
         audit: &Audit<'_, R, G>,
         abi: Abi,
     ) -> Result<Progress, Fault>
-        requires { IsCrew audit.now.workers.now.count }
+        requires { IsWorkerCount audit.now.workers.now.count }
         ensures further { IfOk result (GoesOn audit.now.options.now abi self) }
-        ensures fault { IfErr result IsWant }
+        ensures fault { IfErr result IsOutOfMemoryOrThreads }
     {
         if !audit.options.abis.has(abi) {
             return Ok(self);
@@ -86,7 +86,7 @@ impl Progress {
     ) -> Result<Audited, Fault>
         ensures found { IfOk result (λ all. ComesTo audit.now.options.now self all.located.tree
             all.located.trace all.findings) }
-        ensures fault { IfErr result IsWant }
+        ensures fault { IfErr result IsOutOfMemoryOrThreads }
     {
         match self {
             Progress::Begun(located) => Ok(Audited {
@@ -102,10 +102,10 @@ impl Progress {
         audit: &Audit<'_, R, G>,
         located: Located,
     ) -> Result<Progress, Fault>
-        requires { IsCrew audit.now.workers.now.count }
+        requires { IsWorkerCount audit.now.workers.now.count }
         ensures through { IfOk result
             (IsThrough audit.now.options.now located.tree located.trace) }
-        ensures fault { IfErr result IsWant }
+        ensures fault { IfErr result IsOutOfMemoryOrThreads }
     {
         let versions = Abi::all();
         let mut progress = Progress::Begun(located);
@@ -124,7 +124,7 @@ impl Audited {
         tree: Tree,
         trace: Trace,
     ) -> Result<Audited, Fault>
-        requires { IsCrew audit.now.workers.now.count }
+        requires { IsWorkerCount audit.now.workers.now.count }
         ensures tree { IfOk result (λ all. all.located.tree ≡ tree) }
         ensures findings { IfOk result
             (λ all. AreFound audit.now.options.now.shown.explanations tree all.located.trace
@@ -132,7 +132,7 @@ impl Audited {
         ensures few { IfOk result (λ all. number_of audit.now.options.now.abis.oldest
             + length all.findings < 2 ^ 64) }
         ensures records { IfOk result (λ all. map about all.located.trace ≡ map about trace) }
-        ensures fault { IfErr result IsWant }
+        ensures fault { IfErr result IsOutOfMemoryOrThreads }
     {
         let located = audit.workers.located(tree, trace)?;
         let progress = Progress::through(audit, located)?;

@@ -2,10 +2,9 @@
 
 ghost use Rattle.std.specs.Prelude.{◌≡◌, IfOk, IfErr};
 ghost use Rattle.ll_semantics.specs.Worlds.{judged};
-ghost use Rattle.ll_findings.specs.Findings.{Finds};
-ghost use Rattle.ll_audit.specs.Causes.{IsWant};
-ghost use Rattle.ll_audit.specs.Audits.{IsCrew};
-ghost use Rattle.ll_audit.specs.Cases.{judged_in};
+ghost use Rattle.ll_findings.specs.Findings.{Finds, judged_in};
+ghost use Rattle.ll_audit.specs.Causes.{IsOutOfMemoryOrThreads};
+ghost use Rattle.ll_audit.specs.Audits.{IsWorkerCount};
 
 use crate::fault::Fault;
 use ll_findings::Finding;
@@ -39,10 +38,10 @@ impl<'a, R: Threads + Wait + Sync, G: Gate + Sync> Workers<'a, R, G> {
 
     /// The answers to all records of a case, whose work is cut at these processes.
     pub(crate) fn answers(&self, case: &Case, cuts: &[bool]) -> Result<Vec<Answer>, Fault>
-        requires { IsCrew self.now.count }
+        requires { IsWorkerCount self.now.count }
         ensures answers { IfOk result
             (λ answers. answers.items ≡ judged case.now.tree case.now.abi case.now.records) }
-        ensures fault { IfErr result IsWant }
+        ensures fault { IfErr result IsOutOfMemoryOrThreads }
     {
         let count = self.count as usize;
         let pieces = run(self.rt, self.alloc, case, count, cuts, self.gate)?;
@@ -57,10 +56,10 @@ impl<'a, R: Threads + Wait + Sync, G: Gate + Sync> Workers<'a, R, G> {
         cuts: &[bool],
         explains: bool,
     ) -> Result<Finding, Fault>
-        requires { IsCrew self.now.count }
+        requires { IsWorkerCount self.now.count }
         ensures finding { IfOk result
             (Finds explains case.now.tree case.now.abi case.now.records) }
-        ensures fault { IfErr result IsWant }
+        ensures fault { IfErr result IsOutOfMemoryOrThreads }
     {
         let answers = self.answers(case, cuts)?;
         let view = CaseView::of(case);
@@ -78,9 +77,9 @@ pub(crate) fn answers_by<R: Threads + Wait + Sync, G: Gate + Sync>(
     case: &Case,
     cuts: &[bool],
 ) -> Result<Vec<Answer>, Fault>
-    requires { IsCrew count }
+    requires { IsWorkerCount count }
     ensures answers { IfOk result (λ answers. answers.items ≡ judged_in case.now) }
-    ensures fault { IfErr result IsWant }
+    ensures fault { IfErr result IsOutOfMemoryOrThreads }
 {
     let workers = Workers {
         rt,

@@ -94,7 +94,7 @@ fn keep(kept: &mut Vec<SharedMap<u64>>, map: &SharedMap<u64>) -> Result<()> {
     Ok(())
 }
 
-/// Keeps many clones. Answers the bytes that one takes, with its index in the list.
+/// Keeps many clones. Returns the bytes that one takes, those in the list included.
 fn clones<R: Files + AllocGlobal>(rt: &R, map: &SharedMap<u64>) -> Result<u64> {
     let before = resident(rt)?;
     let mut kept = Vec::new(rt.alloc());

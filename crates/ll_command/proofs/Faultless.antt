@@ -13,7 +13,7 @@ use Rattle.clap.specs.declared.builder.value_parser.ValueParser.TheVariants.{Uns
 use Rattle.clap.proofs.ValueTestLemmas.{accepts-Accepts, Accepts-accepts}
 use Rattle.ll_rights.specs.AbiRanges.{Range}
 use Rattle.ll_command.proofs.CommandLine.{no_misuse, request_of-matches}
-use Rattle.ll_command.specs.Command.{Request, command, crew_of, faults, is_misuse, number_at, range_in, request_if, request_in, request_of, options_in}
+use Rattle.ll_command.specs.Command.{Request, command, worker_count, faults, is_misuse, number_at, range_in, request_if, request_in, request_of, options_in}
 use Rattle.ll_command.specs.Command.{with_misuse}
 use Rattle.clap.specs.declared.builder.action.ArgAction.{ArgAction}
 use Rattle.clap.specs.declared.builder.action.ArgAction.TheVariants.{Help, Set, SetTrue, Version}
@@ -639,8 +639,8 @@ range_found rows text used first = there (range_in text) refl
         cc
     there (Some abis) is = (abis, is)
 
-crew_found : (number : ℕ) → 1 ≤ number → number ≤ 64 → crew_of number ≡ Some number
-crew_found number low high = rw (lt-ltb 0 number (omega arith), lt-ltb number 65 (omega arith)) refl
+worker_count_found : (number : ℕ) → 1 ≤ number → number ≤ 64 → worker_count number ≡ Some number
+worker_count_found number low high = rw (lt-ltb 0 number (omega arith), lt-ltb number 65 (omega arith)) refl
 
 named : (rows : List Row) → IsWhole rows → is_misuse rows ≡ false → (request : Request) × (request_in rows ≡ Some request)
 unfolding command request_in
@@ -652,10 +652,10 @@ named rows is used =
     let trace = text_found top.rules _ (codes "TRACE") rows is.fit refl (given_found _ rows is.trace) in
     let abis = range_found rows abi.0 used abi.1 in
     let many = number_found 1 64 (codes "workers") rows workers.0 (omega arith) workers.2 workers.3 in
-    let crew = crew_found many.0 many.2 many.3 in
+    let count = worker_count_found many.0 many.2 many.3 in
     let size = number_found 0 18446744073709551615 (codes "grain") rows grain.0 (omega arith) grain.2 grain.3 in (
       record { options = options_in abis.0 rows; workers = many.0; grain = size.0; tree = tree.0; trace = trace.0 },
-      rw (abi.1, abis.1, many.1, crew, size.1, tree.1, trace.1) refl,
+      rw (abi.1, abis.1, many.1, count, size.1, tree.1, trace.1) refl,
     )
 
 -- words without a fault name a run

@@ -116,8 +116,8 @@ range_in (oldest ∷ byte ∷ newest ∷ []) = if byte == 45 then range_between 
 range_in _ = None
 
 -- the number of workers, which is 1 to 64
-abbrev pub crew_of : ℕ → Option ℕ
-crew_of number = if nat_lt 0 number && nat_lt number 65 then Some number else None
+abbrev pub worker_count : ℕ → Option ℕ
+worker_count number = if nat_lt 0 number && nat_lt number 65 then Some number else None
 
 -- the number of 64 bits that a text spells
 abbrev pub number_in : Text → Option ℕ
@@ -165,8 +165,8 @@ unfoldable pub request_in : List Row → Option Request
 request_in rows = do
   versions ← first_of (codes "abi") rows
   abis ← range_in versions
-  crew ← number_at (codes "workers") rows
-  workers ← crew_of crew
+  count ← number_at (codes "workers") rows
+  workers ← worker_count count
   grain ← number_at (codes "grain") rows
   tree ← first_of (codes "TREE") rows
   trace ← first_of (codes "TRACE") rows

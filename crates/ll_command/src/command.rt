@@ -261,9 +261,9 @@ fn range(text: &str) -> Option<AbiRange>
 }
 
 /// The number of workers, where it is 1 to 64.
-fn crew(number: u64) -> Option<u64>
-    ensures value { result ≡ spec.crew_of number }
-    ensures crew { IfSome result (λ crew. (1 ≤ crew) × (crew ≤ 64)) }
+fn worker_count(number: u64) -> Option<u64>
+    ensures value { result ≡ spec.worker_count number }
+    ensures count { IfSome result (λ workers. (1 ≤ workers) × (workers ≤ 64)) }
 {
     if 0 < number && number < 65 {
         Some(number)
@@ -342,11 +342,11 @@ fn options(abis: AbiRange, matches: &ArgMatches<'_>) -> Options
 fn run_of<'a>(matches: &ArgMatches<'a>) -> Option<Run<'a>>
     ensures request { option_map spec.request_by result
         ≡ spec.request_in (rows_of (found_of matches.now)) }
-    ensures crew { IfSome result (λ run. (1 ≤ run.workers) × (run.workers ≤ 64)) }
+    ensures count { IfSome result (λ run. (1 ≤ run.workers) × (run.workers ≤ 64)) }
 {
     Some(Run {
         options: options(range(text(matches, "abi")?)?, matches),
-        workers: crew(number(matches, "workers")?)?,
+        workers: worker_count(number(matches, "workers")?)?,
         grain: number(matches, "grain")?,
         tree: text(matches, "TREE")?,
         trace: text(matches, "TRACE")?,

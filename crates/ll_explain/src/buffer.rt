@@ -95,7 +95,7 @@ impl TextBuffer {
         bytes
     }
 
-    /// Takes the buffer out of its place, and leaves one without room there. This takes no memory.
+    /// Returns the buffer, and leaves one without room in its place. This needs no memory.
     pub fn take(&mut self) -> TextBuffer
         ensures { result ≡ self.old }
     {

@@ -36,7 +36,7 @@ pub(crate) struct OneLayer<'a> {
     ghost inside: { id.0 < length ctx.layers.now },
 }
 
-/// The record that made the layer at an index among those of a process, by its index in the trace.
+/// The index in the trace of the record that made a layer of a process, by the layer's index in the process's domain.
 pub(crate) fn made_by(trail: &ProcessOrigins, index: usize) -> Option<u32>
     ensures { result ≡ slice_get trail.now.layers.items index }
 {

@@ -46,8 +46,7 @@ impl Explanation {
     }
 }
 
-/// The call of the record at an index, and where all that its process has comes from; the record isn't the process's
-/// first.
+/// The call of the record at an index, and the origins of its process; the record isn't the process's first.
 fn found_at<'t>(
     case: &'t CaseView<'_>,
     trails: &'t TraceOrigins,
@@ -113,7 +112,7 @@ fn refused(
     Ok(Explanation::Objections(LayerObjections { all }))
 }
 
-/// The explanation of the record at an index of a case, by its answer and by where all that its process has comes from.
+/// The explanation of the record at an index of a case, by its answer and the origins of its process.
 /// An error says that memory ran out.
 pub fn explain(
     alloc: Global,

@@ -13,7 +13,7 @@ use ll_rights::FsRight;
 use ll_rules::{LayerSet, MOST_LAYERS};
 use std::alloc::Global;
 
-/// What some layers object to under which a right was missing when the record at an index of the trace opened a file.
+/// What layers object to if they lacked a right when the record at an index of the trace opened a file.
 fn kept_since(
     alloc: Global,
     ctx: &Confinement,

@@ -9,6 +9,7 @@ use Rattle.ll_trace.specs.declared.op.Op.{Op}
 use Rattle.ll_semantics.specs.declared.answer.Answer.{Answer}
 use Rattle.ll_semantics.specs.declared.answer.Answer.TheVariants.{Moot}
 use Rattle.ll_semantics.specs.Worlds.{judged}
+use Rattle.ll_process.specs.Cases.{CaseValue}
 use Rattle.ll_explanations.specs.Explained.{IsExplanationOf}
 use Rattle.ll_findings.specs.Kept.{if_said, kept_of}
 use Rattle.ll_findings.specs.Overlays.{change_at, overlay}
@@ -115,6 +116,13 @@ pub record Finds (explains : Bool) (tree : List Entry) (abi : Abi) (records : Li
 abbrev pub StandsInFront : Bool → List Entry → Abi → List Record → List FindingValue → List FindingValue → Type 0
 StandsInFront explains tree abi records newer all =
     (finding : FindingValue) × (all ≡ finding ∷ newer) × Finds explains tree abi records finding
+
+-- the same of the records of a case, and the answers to them
+abbrev pub AddsFinding : Bool → CaseValue → List FindingValue → List FindingValue → Type 0
+AddsFinding explains case newer all = StandsInFront explains case.tree case.abi case.records newer all
+
+abbrev pub judged_in : CaseValue → List Answer
+judged_in case = judged case.tree case.abi case.records
 
 -- what is said of the record at an index, which is answered so: its call and its explanation, if there is anything to explain
 abbrev pub Tells : List Entry → Abi → List Record → ℕ → Answer → Record → Option (Op × Explanation) → Type 0

@@ -66,8 +66,8 @@ impl Finding {
         Ok(Finding::whole(alloc, answers, explanations)?)
     }
 
-    /// What is found under an older version, by the answers to its records. Marks the records of which this version
-    /// finds something else. An explanation shares the memory of a like one of this version.
+    /// What is found under an older version, by the answers to its records. Marks the records of which the two versions
+    /// find different things. An explanation shares the memory of the newer version's one if both are the same.
     pub(crate) fn older<R: Threads + Sync>(
         &self,
         rt: &R,
@@ -202,7 +202,7 @@ impl Finding {
         }
     }
 
-    /// Whether the same is found of the record at an index as another finding has.
+    /// Whether this finding and another one find the same of the record at an index.
     pub(crate) fn finds_as(&self, one: &Finding, index: usize) -> bool
         ensures { OnTrue result (FindsAs one.now index self.now) }
     {

@@ -7,11 +7,11 @@ ghost use Rattle.ll_findings.specs.Overlays.{Rise, where_in};
 use std::alloc::{AllocError, Global};
 use std::marker::Model;
 
-/// How many indices, whether they are among these or not, share a hint where to look.
+/// How many indices, present or not, share one hint.
 const BLOCK: usize = 64;
 
-/// Indices in rising order. For each block of indices there is a hint: the position from which on an index of the block
-/// is looked for. A wrong hint costs time alone.
+/// Indices in rising order. For each block of indices there is a hint: the position at which the search for an index of
+/// the block begins. A wrong hint costs time alone.
 #[derive(Drop)]
 pub(crate) struct Indices {
     indices: Vec<u32>,
@@ -29,7 +29,7 @@ impl Model for Indices {
     ghost invariant = { λ all. Rise 0 all.indices.items };
 }
 
-/// Hints for these indices: for each block the position of the first index that is not before it.
+/// Hints for these indices: for each block, the position of the first index that is in the block or after it.
 fn hints_for(alloc: Global, indices: &[u32]) -> Result<Vec<u32>, AllocError> {
     let mut hints = Vec::new(alloc);
     for (position, index) in indices.iter().enumerate() {

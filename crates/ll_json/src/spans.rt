@@ -46,8 +46,8 @@ fn push_range(text: &mut TextBuffer, behind: bool, first: u64, last: u64)
     push_words(text, ",");
 }
 
-/// Adds the answer of the versions from the first to the last, which is that of a version by its index among all. It
-/// is behind another answer, unless it is that of the oldest version.
+/// Adds the one answer of the versions from the first to the last. `version` is the index of one of them among all
+/// versions. A comma comes before the answer, unless it is that of the oldest version.
 fn push_span<T: Telling>(
     text: &mut TextBuffer,
     sayings: &Sayings<'_>,

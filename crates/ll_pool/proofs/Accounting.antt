@@ -14,7 +14,7 @@ use Rattle.ll_process.proofs.Descents.{weighed}
 use Rattle.ll_pool.specs.declared.queue.Ledger.{Ledger}
 use Rattle.ll_pool.specs.Gathered.{ArePiecesOf, processes_in}
 use Rattle.ll_pool.specs.Rule.{ledger, after_taking}
-use Rattle.ll_pool.specs.Accounts.{OnlyGave, SeenTo, IsAccount}
+use Rattle.ll_pool.specs.Accounts.{Done, IsAccount, OnlyGave, SeenTo}
 use Rattle.ll_pool.proofs.Sharing.{processes_in-push, no_processes, no_kids, kids-append}
 
 -- ---- passes that only gave
@@ -30,11 +30,14 @@ some_part_still v w gave some_part = omega (arith, gave.parts, some_part)
 
 -- ---- jobs that were seen to
 
+abbrev pub did : List ℕ → List Piece → Done
+did given pieces = record { given = given; pieces = pieces }
+
 pub seen_judged : (cv : CaseValue) (p : ℕ) (before after : List ℕ) (pieces pieces_after : List Piece) (piece : Piece)
     → pieces_after ≡ pieces ++ piece ∷ [] → piece.case.now ≡ cv
-    → SharesOut cv.records p (numbers piece.processes.items) before after → SeenTo cv (p ∷ []) before after pieces pieces_after
+    → SharesOut cv.records p (numbers piece.processes.items) before after → SeenTo cv (p ∷ []) (did before pieces) (did after pieces_after)
 seen_judged cv p before after pieces pieces_after piece is its shares =
-    subst (λ (xs : List Piece). SeenTo cv (p ∷ []) before after pieces xs) (sym is)
+    subst (λ (xs : List Piece). SeenTo cv (p ∷ []) (did before pieces) (did after xs)) (sym is)
     (record {
       pieces_of = λ all. All-push (λ (x : Piece). x.case.now ≡ cv) pieces piece all its;
       shared = λ weight.
@@ -49,8 +52,8 @@ seen_judged cv p before after pieces pieces_after piece is its shares =
           ));
     })
 
-pub seen_on : (cv : CaseValue) (xs ys g0 g1 g2 : List ℕ) (p0 p1 p2 : List Piece) → SeenTo cv xs g0 g1 p0 p1 → SeenTo cv ys g1 g2 p1 p2
-    → SeenTo cv (xs ++ ys) g0 g2 p0 p2
+pub seen_on : (cv : CaseValue) (xs ys g0 g1 g2 : List ℕ) (p0 p1 p2 : List Piece) → SeenTo cv xs (did g0 p0) (did g1 p1) → SeenTo cv ys (did g1 p1) (did g2 p2)
+    → SeenTo cv (xs ++ ys) (did g0 p0) (did g2 p2)
 seen_on cv xs ys g0 g1 g2 p0 p1 p2 one two = record {
   pieces_of = λ all. two.pieces_of (one.pieces_of all);
   shared = λ weight. omega (arith, one.shared weight, two.shared weight, sum_by-append weight xs ys);
@@ -58,7 +61,7 @@ seen_on cv xs ys g0 g1 g2 p0 p1 p2 one two = record {
 
 -- jobs in another order
 pub seen_alike : (cv : CaseValue) (xs ys g0 g1 : List ℕ) (p0 p1 : List Piece) → ((weight : ℕ → ℕ) → sum_by weight xs ≡ sum_by weight ys)
-    → SeenTo cv xs g0 g1 p0 p1 → SeenTo cv ys g0 g1 p0 p1
+    → SeenTo cv xs (did g0 p0) (did g1 p1) → SeenTo cv ys (did g0 p0) (did g1 p1)
 seen_alike cv xs ys g0 g1 p0 p1 alike one = record {
   pieces_of = one.pieces_of;
   shared = λ weight. omega (arith, one.shared weight, alike weight);
@@ -69,8 +72,8 @@ unfolding processes_in
 processes_in-append xs ys = flat_map-append (λ (one : Piece). numbers one.processes.items) xs ys
 
 -- what another did, beside what was done
-pub seen_beside : (cv : CaseValue) (xs ys g h : List ℕ) (p q : List Piece) → ArePiecesOf cv q → SeenTo cv xs [] g [] p → SeenTo cv ys [] h [] q
-    → SeenTo cv (xs ++ ys) [] (g ++ h) [] (p ++ q)
+pub seen_beside : (cv : CaseValue) (xs ys g h : List ℕ) (p q : List Piece) → ArePiecesOf cv q
+    → SeenTo cv xs (did [] []) (did g p) → SeenTo cv ys (did [] []) (did h q) → SeenTo cv (xs ++ ys) (did [] []) (did (g ++ h) (p ++ q))
 seen_beside cv xs ys g h p q theirs one two = record {
   pieces_of = λ none. All-append (λ (x : Piece). x.case.now ≡ cv) p q (one.pieces_of none) theirs;
   shared = λ weight.
@@ -104,13 +107,14 @@ account_begins cv parts v pieces is none =
 
 -- the caller saw to two lists of roots, and between them it only split its pass
 pub account_of_roots : (cv : CaseValue) (xs ys : List ℕ) (u a b w : Ledger) (p0 p1 p2 : List Piece) → u.given ≡ [] → u.taken ≡ [] → p0 ≡ []
-    → OnlyGave u a → SeenTo cv xs u.given a.given p0 p1 → b.given ≡ a.given → b.taken ≡ a.taken → b.case ≡ cv
-    → OnlyGave b w → SeenTo cv ys b.given w.given p1 p2 → IsAccount cv (xs ++ ys) w p2
+    → OnlyGave u a → SeenTo cv xs (did u.given p0) (did a.given p1) → b.given ≡ a.given → b.taken ≡ a.taken → b.case ≡ cv
+    → OnlyGave b w → SeenTo cv ys (did b.given p1) (did w.given p2) → IsAccount cv (xs ++ ys) w p2
 account_of_roots cv xs ys u a b w p0 p1 p2 none_given none_taken none gave one given taken its gave_on two =
-    let first : SeenTo cv xs [] a.given [] p1 =
-    subst (λ (zs : List ℕ). SeenTo cv xs zs a.given [] p1) none_given (subst (λ (ps : List Piece). SeenTo cv xs u.given a.given ps p1) none one) in
-    let both : SeenTo cv (xs ++ ys) [] w.given [] p2 =
-    seen_on cv xs ys [] a.given w.given [] p1 p2 first (subst (λ (zs : List ℕ). SeenTo cv ys zs w.given p1 p2) given two) in
+    let first : SeenTo cv xs (did [] []) (did a.given p1) =
+    subst (λ (zs : List ℕ). SeenTo cv xs (did zs []) (did a.given p1)) none_given
+    (subst (λ (ps : List Piece). SeenTo cv xs (did u.given ps) (did a.given p1)) none one) in
+    let both : SeenTo cv (xs ++ ys) (did [] []) (did w.given p2) =
+    seen_on cv xs ys [] a.given w.given [] p1 p2 first (subst (λ (zs : List ℕ). SeenTo cv ys (did zs p1) (did w.given p2)) given two) in
     record {
       its_case = gave_on.its_case ∙ its;
       pieces_of = both.pieces_of (All-nil (λ (x : Piece). x.case.now ≡ cv));
@@ -127,7 +131,7 @@ account_of_roots cv xs ys u a b w p0 p1 p2 none_given none_taken none gave one g
 
 -- a job was taken and seen to
 pub account_more : (cv : CaseValue) (roots : List ℕ) (p : ℕ) (v taken w : Ledger) (before after : List Piece) → taken ≡ after_taking v p → OnlyGave taken w
-    → SeenTo cv (p ∷ []) taken.given w.given before after
+    → SeenTo cv (p ∷ []) (did taken.given before) (did w.given after)
     → IsAccount cv roots v before → IsAccount cv roots w after
 account_more cv roots p v took w before after is gave seen so_far = record {
   its_case = gave.its_case ∙ ap (λ (u : Ledger). u.case) is ∙ so_far.its_case;
@@ -144,7 +148,7 @@ account_more cv roots p v took w before after is gave seen so_far = record {
         sum_by_push weight v.taken p,
       ))
       (seen_on cv (roots ++ v.taken) (p ∷ []) [] v.given w.given [] before after so_far.seen
-      (subst (λ (g : List ℕ). SeenTo cv (p ∷ []) g w.given before after) (ap (λ (u : Ledger). u.given) is) seen));
+      (subst (λ (g : List ℕ). SeenTo cv (p ∷ []) (did g before) (did w.given after)) (ap (λ (u : Ledger). u.given) is) seen));
 }
 
 -- where all that was given was taken, the processes judged are the roots with the children of all of them
@@ -168,7 +172,7 @@ pub record Halfway (cv : CaseValue) (all : List ℕ) (left : List Job) (g0 g1 : 
   pub left_of : AreJobsOf cv left
   pub done : List ℕ
   pub parts : all ≡ done ++ processes_of left
-  pub seen : SeenTo cv done g0 g1 p0 p1
+  pub seen : SeenTo cv done (did g0 p0) (did g1 p1)
 
 -- all are left
 pub halfway_first : (cv : CaseValue) (jobs left : List Job) (given : List ℕ) (pieces : List Piece) → AreJobsOf cv jobs → left ≡ jobs
@@ -182,7 +186,7 @@ halfway_first cv jobs left given pieces all is = record {
 
 -- none is left
 pub halfway_all : (cv : CaseValue) (all : List ℕ) (left : List Job) (g0 g1 : List ℕ) (p0 p1 : List Piece) → left ≡ []
-    → Halfway cv all left g0 g1 p0 p1 → SeenTo cv all g0 g1 p0 p1
+    → Halfway cv all left g0 g1 p0 p1 → SeenTo cv all (did g0 p0) (did g1 p1)
 halfway_all cv all left g0 g1 p0 p1 none so_far =
     seen_alike cv so_far.done all g0 g1 p0 p1
     (λ weight.
@@ -194,7 +198,7 @@ halfway_all cv all left g0 g1 p0 p1 none so_far =
     so_far.seen
 
 pub halfway_more : (cv : CaseValue) (all : List ℕ) (left rest : List Job) (job : Job) (g0 g1 g2 : List ℕ) (p0 p1 p2 : List Piece) → left ≡ job ∷ rest
-    → SeenTo cv (job.process.0 ∷ []) g1 g2 p1 p2
+    → SeenTo cv (job.process.0 ∷ []) (did g1 p1) (did g2 p2)
     → Halfway cv all left g0 g1 p0 p1 → Halfway cv all rest g0 g2 p0 p2
 halfway_more cv all left rest job g0 g1 g2 p0 p1 p2 is seen so_far = record {
   left_of = All-tail (λ (j : Job). j.case.now ≡ cv) job rest (subst (λ (xs : List Job). AreJobsOf cv xs) is so_far.left_of);
@@ -208,9 +212,9 @@ halfway_more cv all left rest job g0 g1 g2 p0 p1 p2 is seen so_far = record {
 -- a job was judged with a hand that keeps nothing
 pub seen_unkept : (cv : CaseValue) (p : ℕ) (given : List ℕ) (pieces pieces_after : List Piece) (piece : Piece)
     → pieces_after ≡ pieces ++ piece ∷ [] → piece.case.now ≡ cv
-    → SharesOut cv.records p (numbers piece.processes.items) [] [] → SeenTo cv (p ∷ []) given given pieces pieces_after
+    → SharesOut cv.records p (numbers piece.processes.items) [] [] → SeenTo cv (p ∷ []) (did given pieces) (did given pieces_after)
 seen_unkept cv p given pieces pieces_after piece is its shares =
-    let one : SeenTo cv (p ∷ []) [] [] pieces pieces_after = seen_judged cv p [] [] pieces pieces_after piece is its shares in
+    let one : SeenTo cv (p ∷ []) (did [] pieces) (did [] pieces_after) = seen_judged cv p [] [] pieces pieces_after piece is its shares in
     record { pieces_of = one.pieces_of; shared = λ weight. omega (arith, one.shared weight) }
 
 -- ---- lists that are gone through

@@ -170,8 +170,9 @@ impl<'p, 's, 'c, N: Naming, R: Wait, G: Gate> QueueHand<'p, 's, 'c, N, R, G> {
         ensures queue { IsPassOf self.new.pool.now.queue self.new.pass }
         ensures gave { OnlyGave (view self.old.pass) (view self.new.pass) }
         ensures seen { OnOk result
-            (SeenTo N.case (job.entry.process.0 ∷ []) (view self.old.pass).given
-            (view self.new.pass).given pieces.old.items pieces.new.items) }
+            (SeenTo N.case (job.entry.process.0 ∷ [])
+            (record { given = (view self.old.pass).given; pieces = pieces.old.items })
+            (record { given = (view self.new.pass).given; pieces = pieces.new.items })) }
     {
         let pool = self.pool;
         pool.gate.begun(job.process());
@@ -189,8 +190,9 @@ impl<'p, 's, 'c, N: Naming, R: Wait, G: Gate> QueueHand<'p, 's, 'c, N, R, G> {
         ensures queue { IsPassOf self.new.pool.now.queue self.new.pass }
         ensures gave { OnlyGave (view self.old.pass) (view self.new.pass) }
         ensures seen { OnOk result
-            (SeenTo N.case (root.entry.process.0 ∷ []) (view self.old.pass).given
-            (view self.new.pass).given pieces.old.items pieces.new.items) }
+            (SeenTo N.case (root.entry.process.0 ∷ [])
+            (record { given = (view self.old.pass).given; pieces = pieces.old.items })
+            (record { given = (view self.new.pass).given; pieces = pieces.new.items })) }
     {
         match self.enqueue(root) {
             None => Ok(()),
@@ -211,8 +213,9 @@ impl<'p, 's, 'c, N: Naming, R: Wait, G: Gate> QueueHand<'p, 's, 'c, N, R, G> {
         ensures queue { IsPassOf self.new.pool.now.queue self.new.pass }
         ensures gave { OnlyGave (view self.old.pass) (view self.new.pass) }
         ensures seen { OnOk result
-            (SeenTo N.case (processes_of roots.entry.items) (view self.old.pass).given
-            (view self.new.pass).given pieces.old.items pieces.new.items) }
+            (SeenTo N.case (processes_of roots.entry.items)
+            (record { given = (view self.old.pass).given; pieces = pieces.old.items })
+            (record { given = (view self.new.pass).given; pieces = pieces.new.items })) }
     {
         for root in roots {
             self.hand_out(root, pieces)?;

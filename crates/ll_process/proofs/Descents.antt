@@ -126,7 +126,8 @@ module _ (cv : CaseValue) where
     -- one process more
     pub descended_more : (first : ProcessId) (processes : List ProcessId) (answers : List (ℕ × Answer)) (kept_before kept kept_after : List ℕ)
         (todo_after : List Job) → Descended first processes answers kept_before kept todo →
-        job.process.0 < process_count cv.records → HandedOut (children cv.records job.process.0) kept kept_after (processes_of rest) (processes_of todo_after)
+        job.process.0 < process_count cv.records → HandedOut (children cv.records job.process.0)
+        (record { kept = kept; todo = processes_of rest }) (record { kept = kept_after; todo = processes_of todo_after })
         → AreJobsOf cv todo_after →
         Descended first (processes ++ job.process ∷ []) (answers ++ own_answers cv job.process.0) kept_before kept_after todo_after
     descended_more first processes answers kept_before kept kept_after todo_after so_far there handed all =

@@ -14,7 +14,7 @@ use Rattle.ll_trace.specs.Processes.{own_records, forked_at, children, process_c
 use Rattle.ll_process.specs.Judging.{answer_at, answers_of}
 use Rattle.ll_process.specs.Cases.{CaseValue, IsCase, BeginsAs, AgreesIn, own_answers}
 use Rattle.ll_process.specs.Own.{IsOwn, Meets, Leaves}
-use Rattle.ll_process.specs.Jobs.{processes_of, AreJobsOf, HandedOut, KeepsMore, weight, weight_of}
+use Rattle.ll_process.specs.Jobs.{processes_of, AreJobsOf, HandedOut, KeepsMore, Waiting, weight, weight_of}
 use Rattle.ll_trace.proofs.Numbers.{start_of, started_at-from}
 use Rattle.ll_trace.proofs.OwnRecords.{own_record}
 use Rattle.ll_process.proofs.Walks.{met_first, met_next}
@@ -60,7 +60,8 @@ module _ (cv : CaseValue) (process : ℕ) where
         (todo_before todo todo_after : List Job) → IsCase cv → j < length items →
         Walked j own answers_before answers kept_before kept todo_before todo → given ≡ answer_at cv.tree cv.abi cv.records (get_or items j 0)
         → Leaves cv (get_or items j 0) process own_after →
-        HandedOut (option_to_list (forked_at cv.records (get_or items j 0))) kept kept_after (processes_of todo) (processes_of todo_after)
+        HandedOut (option_to_list (forked_at cv.records (get_or items j 0)))
+        (record { kept = kept; todo = processes_of todo }) (record { kept = kept_after; todo = processes_of todo_after })
         → AreJobsOf cv todo_after →
         Walked (j + 1) own_after answers_before (answers ++ (get_or items j 0, given) ∷ []) kept_before kept_after todo_before todo_after
     walked_more given own own_after answers_before answers kept_before kept kept_after todo_before todo todo_after case within walked told leaves handed all =
@@ -90,7 +91,8 @@ module _ (cv : CaseValue) (process : ℕ) where
     pub handed_all : (own : OwnState) (answers_before answers : List (ℕ × Answer)) (kept_before kept : List ℕ) (todo_before todo : List Job)
         → length items ≤ j →
         Walked j own answers_before answers kept_before kept todo_before todo
-        → HandedOut (children cv.records process) kept_before kept (processes_of todo_before) (processes_of todo)
+        → HandedOut (children cv.records process)
+        (record { kept = kept_before; todo = processes_of todo_before }) (record { kept = kept; todo = processes_of todo })
     handed_all own answers_before answers kept_before kept todo_before todo past walked = record {
       shared = λ weight. omega (
         arith,
@@ -101,12 +103,12 @@ module _ (cv : CaseValue) (process : ℕ) where
     }
 
   -- what is still to do after a process weighs less than with it
-  pub less_to_do : (kept kept_after todo todo_after : List ℕ) → IsCase cv → HandedOut (children cv.records process) kept kept_after todo todo_after
-      → KeepsMore cv.records kept kept_after →
-      weight_of (process_count cv.records) todo_after < weight_of (process_count cv.records) todo + weight (process_count cv.records) process
+  pub less_to_do : (before after : Waiting) → IsCase cv → HandedOut (children cv.records process) before after
+      → KeepsMore cv.records before.kept after.kept →
+      weight_of (process_count cv.records) after.todo < weight_of (process_count cv.records) before.todo + weight (process_count cv.records) process
   unfolding weight_of
-  less_to_do kept kept_after todo todo_after case handed keeps =
+  less_to_do before after case handed keeps =
       let w = weight (process_count cv.records) in
       let less : sum_by w (children cv.records process) < w process =
       weight_of-children cv.records process (process_count cv.records) case.numbered (omega arith) in
-      omega (arith, less, handed.shared w, ap (λ xs. sum_by w xs) keeps.grown, sum_by-append w kept keeps.newly)
+      omega (arith, less, handed.shared w, ap (λ xs. sum_by w xs) keeps.grown, sum_by-append w before.kept keeps.newly)

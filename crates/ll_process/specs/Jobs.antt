@@ -14,10 +14,19 @@ processes_of jobs = map (λ job. job.process.0) jobs
 abbrev pub AreJobsOf : CaseValue → List Job → Type 0
 AreJobsOf case jobs = All (λ job. job.case.now ≡ case) jobs
 
--- Children were handed out: each was kept or is still to do. While a process is judged "each as often" is said by
--- weights: whatever number is given to each process, both sides add up to the same.
-pub record HandedOut (children kept_before kept_after todo_before todo_after : List ℕ) : Type 0 where
-  pub shared : (weight : ℕ → ℕ) → sum_by weight kept_after + sum_by weight todo_after ≡ sum_by weight kept_before + sum_by weight todo_before + sum_by weight children
+-- processes that wait to be judged: those that a hand keeps, and those that are still to do here
+pub record Waiting : Type 0 where
+  pub kept : List ℕ
+  pub todo : List ℕ
+
+-- what all that wait weigh together
+abbrev pub weight_waiting : (ℕ → ℕ) → Waiting → ℕ
+weight_waiting weight waiting = sum_by weight waiting.kept + sum_by weight waiting.todo
+
+-- Children were handed out: besides those that waited before, they wait now, each as often. While a process is judged
+-- "each as often" is said by weights: whatever number is given to each process, both sides add up to the same.
+pub record HandedOut (children : List ℕ) (before after : Waiting) : Type 0 where
+  pub shared : (weight : ℕ → ℕ) → weight_waiting weight after ≡ weight_waiting weight before + sum_by weight children
 
 -- The processes judged, together with those newly kept, are the first process together with the children of all that
 -- were judged, each as often.

@@ -70,7 +70,7 @@ impl<'c> Ahead<'c> {
         }
     }
 
-    /// Whether the record at a position of the indices may fork; if not, it forks none.
+    /// Whether the record at a position in the list of indices may fork. If not, it starts no child.
     pub(crate) fn may_fork(&mut self, at: usize) -> bool
         requires { at < length self.old.indices.now }
         ensures case { self.new.case.now ≡ self.old.case.now }

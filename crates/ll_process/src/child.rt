@@ -55,8 +55,8 @@ pub(crate) fn offer<'c, H: Hand<'c>>(
     requires suits { H.suits hand.old case.now }
     ensures handed { OnOk result
         (HandedOut (option_to_list (option_map (λ job. job.process.0) child.entry))
-        (H.kept hand.old) (H.kept hand.new) (processes_of todo.old.items)
-        (processes_of todo.new.items)) }
+        (record { kept = H.kept hand.old; todo = processes_of todo.old.items })
+        (record { kept = H.kept hand.new; todo = processes_of todo.new.items })) }
     ensures of_case { OnOk result (AreJobsOf case.now todo.new.items) }
     ensures keeps { KeepsMore case.now.records (H.kept hand.old) (H.kept hand.new) }
     ensures suits { H.suits hand.new case.now }

@@ -51,8 +51,8 @@ fn judge_record<'c, H: Hand<'c>>(
     ensures leaves { OnOk result (Leaves case.now index process.0 own.new) }
     ensures handed { OnOk result
         (HandedOut (option_to_list (forked_at case.now.records index))
-        (H.kept hand.old) (H.kept hand.new) (processes_of todo.old.items)
-        (processes_of todo.new.items)) }
+        (record { kept = H.kept hand.old; todo = processes_of todo.old.items })
+        (record { kept = H.kept hand.new; todo = processes_of todo.new.items })) }
     ensures of_case { OnOk result (AreJobsOf case.now todo.new.items) }
     ensures keeps { KeepsMore case.now.records (H.kept hand.old) (H.kept hand.new) }
     ensures suits { H.suits hand.new case.now }
@@ -80,8 +80,8 @@ fn judge_own<'c, H: Hand<'c>>(
         (answers.new.items ≡ answers.old.items ++ own_answers case.now job.entry.process.0) }
     ensures handed { OnOk result
         (HandedOut (children case.now.records job.entry.process.0)
-        (H.kept hand.old) (H.kept hand.new) (processes_of todo.old.items)
-        (processes_of todo.new.items)) }
+        (record { kept = H.kept hand.old; todo = processes_of todo.old.items })
+        (record { kept = H.kept hand.new; todo = processes_of todo.new.items })) }
     ensures less { OnOk result
         (weight_of (process_count case.now.records) (processes_of todo.new.items)
         < weight_of (process_count case.now.records) (processes_of todo.old.items)

@@ -70,7 +70,7 @@ fn keep(calls: &mut BTreeMap<u32, Op>, index: u32, op: Op) -> Result<(), AllocEr
 }
 
 impl PastCase {
-    /// The call of the record at an index as it was, by what it is now.
+    /// The call that the record at an index had before an older version changed it, by the call that it has now.
     pub(crate) fn call<'p>(&'p self, index: u32, op: &'p Op) -> &'p Op
         ensures { result.now ≡ call_before self.now.calls index op.now }
     {

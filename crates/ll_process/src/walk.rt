@@ -16,7 +16,8 @@ use ll_state::OwnState;
 use ll_trace::{Op, ProcessId, wants_at_a_path};
 use ll_tree::Place;
 
-/// What the rulebook says of a call, the record at an index. It says nothing of most calls, for which it isn't asked.
+/// What the rulebook says of the call of the record at an index. It says nothing of most calls, for which it isn't
+/// asked.
 #[tactic(auto, unfolding(ll_semantics::specs::RulesetOutcomes::fitting))]
 fn outcome_at(case: &Case, index: u32, op: &Op) -> RulesetOutcome
     requires { index < length case.now.records }
@@ -35,7 +36,7 @@ fn outcome_at(case: &Case, index: u32, op: &Op) -> RulesetOutcome
     }
 }
 
-/// The place of the first path of a call, the record at an index, if the call names a path whose place is known.
+/// The place of the first path of the call of the record at an index, if it names a path whose place is known.
 fn known_place(case: &Case, index: u32, op: &Op) -> Option<Place>
     ensures { IfSome result (λ one. (r : OneRecord) → slice_get case.now.records index ≡ Some r
         → one ≡ first_place case.now.tree r.op) }

@@ -28,9 +28,9 @@ pub fn layers_come_from_their_restricts()
         (slice_get (origins_at tree abi records index process).layers i) }
 {}
 
-/// A number is open just where its origins name an opening; what it is open on is what the record of that opening
-/// opened, whatever numbers it was duplicated to and processes it was handed down to since; and this record is an
-/// earlier `open` or `adopt` that was allowed.
+/// A number is open exactly if its origins name an opening. It is open on what the record of that opening opened,
+/// whatever numbers it was duplicated to and processes it was handed down to since. This record is an earlier `open` or
+/// `adopt` that was allowed.
 pub fn descriptors_come_from_their_openings()
     ensures descriptors { (tree : List Entry) (abi : Abi)
         (records : List Record) (index process fd : ℕ)
@@ -46,8 +46,8 @@ pub fn descriptors_come_from_their_openings()
         (IsEarlier is_opening tree abi records index) }
 {}
 
-/// A number is that of a ruleset just where its origins name a creation; this is an earlier `create` that was
-/// allowed, and the ruleset handles just the rights that it names, which at best effort may be none.
+/// A number is that of a ruleset exactly if its origins name a creation. This is an earlier `create` that was allowed,
+/// and the ruleset handles exactly the rights that it names, which at best effort may be none.
 pub fn rulesets_come_from_their_creations()
     ensures held { (tree : List Entry) (abi : Abi) (records : List Record) (index process rs : ℕ)
         → is_some ((origins_at tree abi records index process).rulesets rs)

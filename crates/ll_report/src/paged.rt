@@ -92,7 +92,7 @@ fn push_all<R: Rows>(rows: &mut R, text: &mut TextBuffer)
     rows.push_last(text);
 }
 
-/// Adds the row at an index, or the last lines where there are fewer rows.
+/// Adds the row at an index, or the last lines if there are fewer rows.
 fn push_part<R: Rows>(rows: &mut R, text: &mut TextBuffer, index: usize)
     ensures part { text.new ≡ adding text.old (part_at (R.made_of rows.old) index) }
     ensures made { R.made_of rows.new ≡ R.made_of rows.old }
@@ -104,7 +104,7 @@ fn push_part<R: Rows>(rows: &mut R, text: &mut TextBuffer, index: usize)
     }
 }
 
-/// Puts the part at an index on a page, behind what is held there, and writes out the page where it is full.
+/// Puts the part at an index on a page, behind what is held there, and writes the page out if it is full.
 fn put_part<R: Rows, O: Write>(
     rows: &mut R,
     index: usize,

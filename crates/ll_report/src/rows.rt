@@ -28,8 +28,8 @@ fn some_refuses(findings: &[Finding], index: usize) -> bool
         .any(|finding| is_refused(&finding.answer(index)))
 }
 
-/// Whether some version refuses the record at an index. Where they find the same, the newest one tells, which keeps all
-/// that it finds in one list.
+/// Whether some version refuses the record at an index. If all find the same, the newest one is asked, because it keeps
+/// all that it finds in one list.
 fn is_refused_under_some(findings: &Findings, index: usize) -> bool
     ensures { result ≡ some_refuses findings.now index }
 {

@@ -107,7 +107,7 @@ impl<'f> Sayings<'f> {
             && first.explains_as(second, self.index)
     }
 
-    /// The fingerprints of what a version says, in words for its answer and in a form.
+    /// The fingerprint of the words for a version's answer, and that of its text in this form.
     fn fingerprints<T: Telling>(&self, version: usize) -> (u64, u64)
         requires { version < length self.now.findings.now }
         ensures verdict { result.0 ≡ fingerprint_of 0
@@ -121,7 +121,7 @@ impl<'f> Sayings<'f> {
         )
     }
 
-    /// Whether a version finds the same as the one before, or both of its fingerprints are others.
+    /// Whether a version finds the same as the one before, or differs from it in both fingerprints.
     fn is_told_apart<T: Telling>(
         &self,
         version: usize,
@@ -143,7 +143,7 @@ impl<'f> Sayings<'f> {
         self.find_alike::<T>(version - 1, version)
     }
 
-    /// Whether each version finds the same as the one before, or both of its fingerprints are others.
+    /// Whether each version finds the same as the one before, or differs from it in both fingerprints.
     fn are_told_apart<T: Telling>(&self) -> bool
         ensures verdicts { result ≡ true → AreToldApart 0 (said_by verdict_told self.now) }
         ensures texts { result ≡ true → AreToldApart T.byte_at (said_by T.told self.now) }

@@ -91,7 +91,7 @@ impl Store {
         self.layers
     }
 
-    /// Adds a ruleset at the end, and tells its index.
+    /// Adds a ruleset at the end, and returns its index.
     pub(crate) fn add(&mut self, created: Ruleset) -> Result<usize, AllocError>
         ensures index { IfOk result (λ index. index ≡ length self.old.rulesets) }
         ensures adds { OnOk result (self.new ≡ with_created self.old created) }

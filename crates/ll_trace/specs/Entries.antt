@@ -1,4 +1,4 @@
--- The entries of a trace file: which of them start or end a process, which pid is live, and which entry is at fault after earlier ones.
+-- The entries of a trace file: which of them start or end a process, which pid is live, and which entry is at fault by those before it.
 -- Source: docs/FORMATS.md, "The trace file".
 use Rattle.std.specs.Prelude.{ℕ, ◌+◌, ◌==◌, ◌&&◌, ◌||◌, Bool, true, false, not, nat_le, List, [], ◌∷◌, length, reverse, Option, Some, None, is_some, codes, Result, Ok, if◌then◌else◌}
 use Rattle.ll_lines.specs.declared.fault.Cause.{Cause}
@@ -87,7 +87,7 @@ is_twice past entry = is_live_pid past (started_pid entry)
 abbrev pub is_too_many : List Entry → Entry → Bool
 is_too_many past entry = nat_le MOST_RECORDS (length past) || (is_some (started_pid entry) && nat_le MOST_PROCESSES (process_count past))
 
--- the first cause for which an entry is at fault after the past, where this rule tells of a pid that is used twice
+-- why an entry is at fault, by the entries before it: the first cause, if there is one; this rule tells of a pid that is used twice
 abbrev pub entry_fault_by : (List Entry → Entry → Bool) → List Entry → Entry → Option Cause
 entry_fault_by is_twice past entry =
     if is_unknown past entry then Some UnknownProcess else (

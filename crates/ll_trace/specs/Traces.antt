@@ -9,12 +9,12 @@ use Rattle.ll_trace.specs.Entries.{Entry, entry_fault}
 use Rattle.ll_trace.specs.Records.{records_after, entry_of}
 use Rattle.ll_trace.specs.Processes.{IsNumbered}
 
--- no entry is at fault after those before it
+-- no entry is at fault, by those before it
 abbrev pub AreFaultless : List Entry → List Entry → Type 0
 AreFaultless past [] = Unit {0}
 AreFaultless past (entry ∷ entries) = (entry_fault past entry ≡ None) × AreFaultless (entry ∷ past) entries
 
--- Records can be those of a trace: none is at fault after those before it, and each belongs to the process that it
+-- Records can be those of a trace: none is at fault, by those before it, and each belongs to the process that it
 -- must. So processes are numbered in the order in which they are started.
 pub record AreRecords (records : List Record) : Type 0 where
   pub faultless : AreFaultless [] (map entry_of records)

@@ -32,7 +32,7 @@ pub fn traces_of_single_pids()
         → IsStrictTrace bytes records → IsTrace bytes records }
 {}
 
-/// The records of entries that have their places are numbered. Each number below the count is that of
+/// If no entry is at fault, their records are numbered. Each number below the count is that of
 /// a process that exactly one record starts; this record names its parent, whose number is below its own.
 pub fn processes_are_numbered()
     ensures numbered { (records : List Record) → AreFaultless [] (map entry_of records)

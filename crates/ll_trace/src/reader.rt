@@ -137,8 +137,8 @@ impl Reader {
             || entry.op.started_pid(entry.pid).is_some() && self.processes >= MOST_PROCESSES
     }
 
-    /// The first cause for which an entry is at fault after those that are read; its pid's latest
-    /// process is looked up already.
+    /// Why an entry is at fault, by the entries before it: the first cause, if there is one. The latest process of its
+    /// pid is known.
     fn entry_fault(&self, entry: &Entry, owner: Option<Owner>) -> Option<Cause>
         requires kept { IsKept self.now }
         requires owner { owner ≡ owner_of (past self.now) entry.now.pid }
@@ -167,7 +167,7 @@ impl Reader {
         process_or_first(owner)
     }
 
-    /// Admits an entry as a record, if it is not at fault after those that are read.
+    /// Admits an entry as a record, if the entries before it do not put it at fault.
     pub(crate) fn admit(&mut self, entry: Entry) -> Result<(), Cause>
         requires { IsKept self.old }
         ensures gives { Gives (λ _. entries self.new) result

@@ -136,7 +136,7 @@ impl TraceOrigins {
         &self.trails[process.0 as usize]
     }
 
-    /// Follows the record at an index of a case and its answer. Where memory runs out, what is kept is of no use.
+    /// Follows the record at an index of a case and its answer. If memory runs out, what is kept is of no use.
     pub fn follow(
         &mut self,
         alloc: Global,

@@ -1,4 +1,4 @@
-//! A gate that tests hand in.
+//! A gate that tests give to what they test.
 
 use ll_pool::Gate;
 use ll_trace::ProcessId;

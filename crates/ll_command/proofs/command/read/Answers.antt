@@ -18,6 +18,6 @@ pub returns : goal.returns
 returns c =
     let free = no_misuse _ _ c.in_ok-matches.ensures.0 c.in_ok-matches.ensures.1 (sym c.misuse.ensures ∙ ap is_some c.in_default.is) in (
       request_of-matches _ _ free c.in_ok-matches.ensures.1 ∙ sym c.in-Some-run_of.ensures.request,
-      c.in-Some-run_of.ensures.crew.0,
-      c.in-Some-run_of.ensures.crew.1,
+      c.in-Some-run_of.ensures.count.0,
+      c.in-Some-run_of.ensures.count.1,
     )

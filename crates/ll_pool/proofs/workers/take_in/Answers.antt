@@ -8,7 +8,7 @@ use Rattle.ll_pool.specs.declared.queue.Ledger.{Ledger}
 use Rattle.ll_pool.specs.Rule.{ledger}
 use Rattle.ll_pool.specs.Accounts.{SeenTo, IsAccount}
 use Rattle.crossbeam_queue.specs.Passes.{view}
-use Rattle.ll_pool.proofs.Accounting.{seen_alike, seen_beside}
+use Rattle.ll_pool.proofs.Accounting.{did, seen_alike, seen_beside}
 use Rattle.ll_pool.proofs.workers.take_in.Goals as goal
 
 -- what a worker did goes to what the caller did
@@ -20,8 +20,8 @@ account_joined cv roots v u w mine theirs all is are worked so_far = record {
   pieces_of = All-same (λ (x : Piece). x.case.now ≡ cv) all (mine ++ theirs) are
       (All-append (λ (x : Piece). x.case.now ≡ cv) mine theirs so_far.pieces_of worked.pieces_of);
   seen =
-      subst (λ (xs : List Piece). SeenTo cv (roots ++ w.taken) [] w.given [] xs) (sym are)
-      (subst (λ (g : List ℕ). SeenTo cv (roots ++ w.taken) [] g [] (mine ++ theirs)) (sym (ap (λ (x : Ledger). x.given) is))
+      subst (λ (xs : List Piece). SeenTo cv (roots ++ w.taken) (did [] []) (did w.given xs)) (sym are)
+      (subst (λ (g : List ℕ). SeenTo cv (roots ++ w.taken) (did [] []) (did g (mine ++ theirs))) (sym (ap (λ (x : Ledger). x.given) is))
       (seen_alike cv ((roots ++ v.taken) ++ u.taken) (roots ++ w.taken) [] (v.given ++ u.given) [] (mine ++ theirs)
       (λ weight.
       omega (

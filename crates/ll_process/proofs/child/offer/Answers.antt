@@ -8,12 +8,14 @@ use Rattle.ll_process.specs.Jobs.{HandedOut, processes_of}
 use Rattle.ll_process.proofs.child.offer.Goals.{in-Ok, in-Err}
 use Rattle.ll_process.proofs.child.offer.Goals as goal
 
-kept_one : (child : ℕ) (before after todo : List ℕ) → after ≡ before ++ child ∷ [] → HandedOut (child ∷ []) before after todo todo
+kept_one : (child : ℕ) (before after todo : List ℕ) → after ≡ before ++ child ∷ []
+    → HandedOut (child ∷ []) (record { kept = before; todo = todo }) (record { kept = after; todo = todo })
 kept_one child before after todo grown = record {
   shared = λ weight. let more = ap (sum_by weight) grown ∙ sum_by-append weight before (child ∷ []) in omega (arith, more);
 }
 
-back_one : (child : ℕ) (before after todo more : List ℕ) → after ≡ before → more ≡ todo ++ child ∷ [] → HandedOut (child ∷ []) before after todo more
+back_one : (child : ℕ) (before after todo more : List ℕ) → after ≡ before → more ≡ todo ++ child ∷ []
+    → HandedOut (child ∷ []) (record { kept = before; todo = todo }) (record { kept = after; todo = more })
 back_one child before after todo more same grown = record {
   shared = λ weight. let all = ap (sum_by weight) grown ∙ sum_by-append weight todo (child ∷ []) in omega (arith, all, ap (sum_by weight) same);
 }

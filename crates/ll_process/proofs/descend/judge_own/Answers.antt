@@ -55,7 +55,7 @@ loop-at-preserved g c = record {
 
 pub returns-clause-less : goal.returns-clause-less
 returns-clause-less g c =
-    less_to_do c.args.case.now c.args.job.process.0 (g.H.Hand.kept c.args.hand.now) (g.H.Hand.kept c.loop-at.hand) _ _ c.own_records-indices.ensures.case
+    less_to_do c.args.case.now c.args.job.process.0 _ _ c.own_records-indices.ensures.case
     (handed_all c.args.case.now c.args.job.process.0 c.loop-at.at c.own_records-indices.result.now c.own_records-indices.ensures.indices
     c.loop-at.own c.args.answers.now.items c.loop-at.answers.items
     (g.H.Hand.kept c.args.hand.now) (g.H.Hand.kept c.loop-at.hand) c.args.todo.now.items c.loop-at.todo.items c.loop-at-test.false

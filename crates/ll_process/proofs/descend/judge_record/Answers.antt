@@ -9,8 +9,9 @@ returns g c = record {
   answered = search rules;
   leaves = search rules;
   handed =
-      subst (λ (child : Option ℕ). OnOk c.offer.result (HandedOut (option_to_list child) (g.H.Hand.kept c.args.hand.now) (g.H.Hand.kept c.offer.new.hand)
-      (processes_of c.args.todo.now.items) (processes_of c.offer.new.todo.items)))
+      subst (λ (child : Option ℕ). OnOk c.offer.result (HandedOut (option_to_list child)
+      (record { kept = g.H.Hand.kept c.args.hand.now; todo = processes_of c.args.todo.now.items })
+      (record { kept = g.H.Hand.kept c.offer.new.hand; todo = processes_of c.offer.new.todo.items })))
       c.in_ok-child.ensures.child c.offer.ensures.handed;
   of_case = c.offer.ensures.of_case;
   keeps = c.offer.ensures.keeps;

@@ -45,7 +45,7 @@ fn first_judged(alloc: Global, case: &Case) -> Result<Option<ProcessId>, Fail> {
     })
 }
 
-/// The process with which the first piece begins if so many processes start by themselves.
+/// The process with which the first piece begins if this many processes start by themselves.
 fn first_of_roots(alloc: Global, processes: u32) -> Result<Option<ProcessId>, Fail> {
     let case = case_with(alloc, Forks::Nobody, processes)?;
     first_judged(alloc, &case)

@@ -286,8 +286,8 @@ fn a_tree_of_forks_is_cut_into_single_processes_a_hundred_times(
     Ok(())
 }
 
-/// How many pieces two workers make, how many jobs of two processes from the first on begin, and how many of these wait
-/// in vain.
+/// How many pieces two workers make, how many of the jobs of `first` and of the process after it begin, and how many of
+/// these wait in vain.
 fn judged_at_once<R: Threads + Wait + Sync>(
     rt: &R,
     alloc: Global,

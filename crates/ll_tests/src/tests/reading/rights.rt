@@ -26,7 +26,7 @@ const FILES: [(&str, u32, u64); 16] = [
 /// Each version with the bits of its rights for ports.
 const VERSIONS: [(u64, u32); 5] = [(1, 0), (2, 0), (3, 0), (4, 3), (5, 3)];
 
-/// Whether the version of a number knows a right, and supports it, just where it came with that version or before.
+/// Whether the version of a number knows a right, and supports it, exactly if it came with that version or before.
 fn is_since(abi: Abi, number: u64, right: Fs, bit: u32, since: u64) -> bool {
     let left = if since <= number { bit } else { 0 };
     right.bits() == bit

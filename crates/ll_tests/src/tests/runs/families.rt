@@ -24,7 +24,7 @@ fn is_reported<R: Threads + Wait + AllocGlobal + Sync>(
 }
 
 #[test]
-fn one_report_for_all_crews_and_cuts(rt: HostRuntime) -> Result<(), Fail> {
+fn one_report_for_all_workers_and_cuts(rt: HostRuntime) -> Result<(), Fail> {
     let trace = FAMILY.as_bytes();
     let report = (FAMILY_REPORT.as_bytes(), 3);
     for workers in [1, 3, 8] {

@@ -64,8 +64,8 @@ fn ending_of<R: Threads + Wait + AllocGlobal + Sync, S: Source>(
     Ok(front_ending(rt, rt.alloc(), &words, source, out, err, &Idle))
 }
 
-/// Whether the program ends with a status and a line, which it tells, where its source fails from one call on, and
-/// whether the source counts a failure exactly if a file is unread, at status 3.
+/// Whether the program writes this line and ends with this status if its source fails from one call on, and whether the
+/// source has counted one failure exactly if the status is 3.
 fn is_ended<R: Threads + Wait + AllocGlobal + Sync>(
     rt: &R,
     (good_calls, fault): (u64, SourceFault),

@@ -1,6 +1,6 @@
 use Rattle.std.proofs.Common.{◌∙◌, ap, subst, sym}
 use Rattle.ll_process.specs.Cases.{IsCase}
-use Rattle.ll_audit.specs.Cases.{AddsFinding, judged_in}
+use Rattle.ll_findings.specs.Findings.{AddsFinding, judged_in}
 use Rattle.ll_audit.proofs.GoingOn.{still_that}
 use Rattle.ll_audit.proofs.judged.Judged.next.Goals as goal
 
