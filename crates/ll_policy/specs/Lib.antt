@@ -1,0 +1,5 @@
+pub mod Chains
+pub mod Choices
+pub mod Places
+pub mod Granted
+pub mod Policies
