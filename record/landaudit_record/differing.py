@@ -14,9 +14,10 @@ from collections.abc import Iterable, Iterator, Sequence
 from dataclasses import dataclass, field
 from pathlib import Path
 
-from . import applying, asking, fitting, landaudit, reports
+from . import applying, asking, differing_layers, fitting, landaudit, reports
 from .answers import ALLOWED, MOOT, REFUSED
 from .asking import RULESET
+from .differing_layers import Abis, OfLayers
 from .fitting import FittedLayer, FittedPathRule
 from .jsonl import Record
 from .jsonl import value as json_of
@@ -36,7 +37,6 @@ PROCESSES = 4
 MOUNT = "mount"
 _MAKING = {"reg": "make_reg", "sym": "make_sym", "char": "make_char", "block": "make_block", "fifo": "make_fifo",
            "sock": "make_sock", "dir": "make_dir"}
-Abis = frozenset[int]
 _NONE: Abis = frozenset()
 
 
@@ -59,7 +59,7 @@ class Move:
     to: str
 
 
-Subject = About | Move
+Subject = About | Move | OfLayers
 
 
 @dataclass
@@ -127,6 +127,10 @@ def differences(program: Path, old: Policy, new: Policy, abis: range) -> Differe
                 making.setdefault(subject.region.path, set()).add(subject.right)
         for question, passes in asker.asked(_moves(regions, making)):
             found.add(question.subject, *passes)
+    for differing, one, other in ((found.more, new, old), (found.less, old, new)):
+        differing.update(dict.fromkeys(differing_layers.unscoped(one, other), frozenset(abis)))
+        for subject, at in differing_layers.room(one, other, abis).items():
+            differing[subject] = at
     return found
 
 

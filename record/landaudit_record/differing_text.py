@@ -5,7 +5,8 @@ from __future__ import annotations
 from collections import defaultdict
 from collections.abc import Iterator, Mapping
 
-from .differing import MOUNT, Abis, About, Differences, Move, Subject
+from .differing import MOUNT, About, Differences, Move, Subject
+from .differing_layers import Abis, Room, Unscoped
 from .policies import Policy
 from .regions import Region, Regions, phrases
 from .rights import FILE_RIGHTS, FS, NET
@@ -47,8 +48,9 @@ def _of_one(differing: Mapping[Subject, Abis], regions: Regions, abis: Abis) -> 
         behind = "" if at == abis else f" (at ABI {_abis(at)})"
         rights = [subject for subject in subjects if isinstance(subject, About)]
         moves = [subject for subject in subjects if isinstance(subject, Move)]
-        for text in (*_rights(rights, regions), *_ports(rights, regions), *_mounts(rights), *_moves(moves, regions)):
-            yield text + behind
+        of_layers = [str(subject) for subject in subjects if isinstance(subject, (Unscoped, Room))]
+        of_calls = (*_rights(rights, regions), *_ports(rights, regions), *_mounts(rights), *_moves(moves, regions))
+        yield from (text + behind for text in (*of_calls, *of_layers))
 
 
 def _abis(abis: Abis) -> str:

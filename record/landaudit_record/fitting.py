@@ -67,7 +67,10 @@ def _layer(layer: Layer, abi: int, notes: list[str]) -> FittedLayer | None:
     handled_fs = _known(layer.handled_access_fs, FS, abi, f"{where}, handled_access_fs", notes)
     handled_net = _known(layer.handled_access_net, NET, abi, f"{where}, handled_access_net", notes)
     if not handled_fs and not handled_net:
-        notes.append(f"{where} is left out: ABI {abi} knows nothing that it handles")
+        if not layer.scoped:
+            notes.append(f"{where} is left out: ABI {abi} knows nothing that it handles")
+        elif layer.handles_rights:
+            notes.append(f"{where} has only its scopes: ABI {abi} knows nothing else that it handles")
         return None
     return FittedLayer(
         layer.number,

@@ -95,6 +95,11 @@ class Layer:
     net_port: tuple[PortRule, ...]
     scoped: tuple[str, ...] = ()
 
+    @property
+    def handles_rights(self) -> bool:
+        """Whether it handles a right; a layer may have scopes alone."""
+        return bool(self.handled_access_fs.rights or self.handled_access_net.rights)
+
 
 @dataclass(frozen=True)
 class Policy:

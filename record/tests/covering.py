@@ -120,8 +120,14 @@ def _abis(text: str) -> frozenset[int]:
     return frozenset(abi for first, _, last in spans for abi in range(int(first), int(last or first) + 1))
 
 
+#: The ends of lines on scopes and on the number of layers, which are about no call that is tried.
+OF_LAYERS = re.compile(r".*( \(no scope; from ABI 6 on\)| layers are used, and not [0-9]+)")
+
+
 def _covers(text: str) -> Callable[[Need], bool]:
     """What a line covers, without its ABIs."""
+    if OF_LAYERS.fullmatch(text):
+        return lambda need: False
     if text == "mounts":
         return lambda need: isinstance(need, Mount)
     if found := _MOVES.fullmatch(text):

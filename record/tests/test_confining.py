@@ -127,6 +127,18 @@ class Confining(unittest.TestCase):
         self.assertEqual([call for call in older.calls if call[0] == "create"], [("create", ["refer"], [])])
         self.assertIn("layer 2: the kernel does not know scopes, which need ABI 6: dropped", notes)
 
+    def test_a_layer_of_which_only_the_scope_is_in_force_is_not_said_to_be_left_out(self) -> None:
+        alone = '[[layer]]\nscoped = ["signal"]\n'
+        self.assertEqual(self.confined(alone, Kernel(6), 5), [])
+        self.assertEqual(
+            self.confined(alone, Kernel(5), 5), ["layer 1: the kernel does not know scopes, which need ABI 6: dropped"]
+        )
+        kernel = Kernel(6)
+        notes = self.confined('[[layer]]\nhandled_access_fs = ["refer"]\nscoped = ["signal"]\n', kernel, 1)
+        self.assertEqual(kernel.calls, [("nnp",), ("create", [], None, "signal"), ("restrict",)])
+        self.assertEqual(notes, ["layer 1, handled_access_fs: ABI 1 does not know refer: dropped",
+                                 "layer 1 has only its scopes: ABI 1 knows nothing else that it handles"])
+
     def test_descriptors_are_closed_again(self) -> None:
         before = len(os.listdir("/proc/self/fd"))
         self.confined(LAYERS, Kernel(5), 5)

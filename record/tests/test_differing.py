@@ -153,6 +153,41 @@ class Differing(unittest.TestCase):
         told = "landaudit-policy: note: new: layer 1, path_beneath 4: link leads to /usr on this machine, but is"
         self.assertTrue(errors.startswith(told), errors)
 
+    def test_scopes_are_sets_of_which_less_is_a_difference(self) -> None:
+        scoped = '[[layer]]\nscoped = ["signal", "abstract_unix_socket"]\n'
+        status, lines, errors = self.said(OLD + scoped, OLD + '[[layer]]\nscoped = ["signal"]\n')
+        line = "  connections to abstract UNIX sockets of processes that it does not confine (no scope; from ABI 6 on)"
+        self.assertEqual((status, lines[:2], errors), (1, ["new lets pass what old refuses:", line], ""))
+        self.assertEqual(lines[2], "old lets nothing pass that new refuses")
+        status, lines, _ = self.said(OLD + '[[layer]]\nscoped = []\nhandled_access_fs = ["read"]\n', OLD + scoped)
+        self.assertEqual(status, 1)
+        self.assertIn("  signals to processes that it does not confine (no scope; from ABI 6 on)", lines)
+        # Which of its layers has a scope is all the same to a program that starts under all of them.
+        both = '[[layer]]\nscoped = ["signal"]\n[[layer]]\nscoped = ["abstract_unix_socket"]\n'
+        status, lines, _ = self.said(both, scoped + '[[layer]]\nhandled_access_fs = ["make_sym"]\n')
+        self.assertFalse([line for line in lines if "scope" in line], lines)
+        self.assertEqual(status, 0)
+
+    def test_fewer_layers_leave_room_for_one_of_the_program_s_own(self) -> None:
+        layer = '[[layer]]\nhandled_access_fs = ["read"]\n'
+        status, lines, _ = self.said(16 * layer, 15 * layer)
+        self.assertEqual((status, lines[:3]), (1, [
+            "new lets pass what old refuses:",
+            "  1 more restriction of the program by itself: 15 of at most 16 layers are used, and not 16",
+            "old lets nothing pass that new refuses"]))
+        self.assertEqual(self.said(15 * layer, 16 * layer)[0], 0)
+        # Before ABI 4 the layer of ports is left out, and it handles nothing else.
+        status, lines, _ = self.said(layer + '[[layer]]\nhandled_access_net = ["bind_tcp"]\n', layer)
+        self.assertEqual(status, 1)
+        used = "  1 more restriction of the program by itself: 1 of at most 16 layers are used, and not 2 (at ABI 4-5)"
+        self.assertIn(used, lines)
+        # A layer that has only scopes is there from ABI 6 on, whatever rights are asked about.
+        status, lines, _ = self.said(layer + '[[layer]]\nscoped = ["signal"]\n', layer + layer)
+        self.assertEqual(len([line for line in lines if "more restriction" in line]), 1, lines)
+        status, lines, _ = self.said('[[layer]]\nscoped = ["signal"]\n' + layer, layer + 'scoped = ["signal"]\n')
+        self.assertEqual(status, 1, lines)
+        self.assertIn("  1 more restriction of the program by itself: 1 of at most 16 layers are used, and not 2", lines)
+
     def test_what_does_not_read(self) -> None:
         self.assertEqual(self.said("[[layer]]", OLD)[0], 3)
 

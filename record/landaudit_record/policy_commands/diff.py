@@ -31,9 +31,6 @@ def run(arguments: argparse.Namespace) -> int:
     old, new = policies.read(arguments.old), policies.read(arguments.new)
     for policy in (old, new):
         note(_links(policy), POLICIES)
-    scoped = [frozenset().union(*(layer.scoped for layer in policy.layers)) for policy in (old, new)]
-    if scoped[0] != scoped[1]:
-        note([f"{old.path} and {new.path} have different scopes, which are not judged"], POLICIES)
     found = differing.differences(program, old, new, arguments.abis)
     for line in differing_text.lines(found, old, new, arguments.abis):
         print(line)
