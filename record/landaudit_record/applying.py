@@ -17,14 +17,16 @@ from itertools import islice
 from pathlib import Path
 from typing import Any, BinaryIO
 
-from . import jsonl
+from . import jsonl, resolving
 from .fitting import FittedLayer
 from .jsonl import Record
 from .policies import Policy
 from .problems import Problem
 from .processes import program_run
+from .resolving import LinkLoop, Parent, Walked
 from .rights import FS, NET
-from .trees import LinkLoop, Tree, upwards
+from .trees import Tree, upwards
+from .wording import some_of
 
 MOST_PROGRAMS_SHOWN = 8
 MOST_RECORDS = 1_000_000
@@ -173,7 +175,7 @@ def _number(trace: Path, line: int, record: Record, member: str) -> int:
 def _paths_of(program: str, tree: Tree) -> set[str]:
     """The paths that a program's name stands for: a link of that name leads to the file that is run."""
     names = [program] if "/" in program else [path for path in tree.targets if _last_name(path) == program]
-    return {_resolved(tree, name, f"--program {program}") for name in names}
+    return {_led(tree, name, f"--program {program}", whole=True).path for name in names}
 
 
 def _last_name(path: str) -> str:
@@ -193,9 +195,24 @@ def _nowhere(trace: Path, program: str | None, programs: list[str]) -> str:
     return f"{trace} never runs {program}{meant} it runs {shown}{f' and {left} more' if left > 0 else ''}"
 
 
-def _resolved(tree: Tree, path: str, place: str, *, before_run: bool = False) -> str:
+def not_known(policy: Policy, tree: Tree) -> tuple[str, ...]:
+    """The parents of which is not known where they led when the run began, each once."""
+    return tuple(dict.fromkeys(it.written for it in resolving.parents(policy, tree) if it.led.unknown is not None))
+
+
+def notes_on_way(parent: Parent) -> Iterator[str]:
+    """Notes on a parent that leads elsewhere than its name says, by links of this disk, or that leads nowhere."""
+    led = parent.led
+    if led.blocked is not None and led.unknown is None:
+        yield f"{parent.place}: no rule, since {led.blocked} was no directory when the run began"
+    elif led.now:
+        yield f"{parent.place}: the recording does not have {some_of(led.now)}: on this disk it leads to {led.path}"
+
+
+def _led(tree: Tree, path: str, place: str, *, whole: bool = False) -> Walked:
+    """Where a path leads when the run begins; with `whole`, at some time of the run."""
     try:
-        return tree.resolved(path, before_run=before_run)
+        return tree.walked(path, whole=whole)
     except LinkLoop as loop:
         raise Problem(f"{place}: {path} is a loop of symbolic links in the tree: name another path") from loop
 
@@ -213,8 +230,8 @@ def _of_layer(policy: Policy, layer: FittedLayer, tree: Tree, rs: int) -> Iterat
     yield {"op": "create", "rs": rs, "fs": layer.handled_fs, "net": layer.handled_net, "policy": origin}
     for rule in layer.path_rules:
         for parent in rule.parents:
-            place = f"{policy.path}: layer {layer.number}, {rule.place}, parent"
-            path = _resolved(tree, parent, place, before_run=True)
+            led = _led(tree, parent, f"{policy.path}: layer {layer.number}, {rule.place}, parent")
+            path = led.path if led.is_sure or led.path not in tree.kinds else NOWHERE
             if rule.group is not None and not tree.is_there_before(path):
                 continue
             of_rule: dict[str, Any] = {**origin, "rule": rule.place, "parent": parent}

@@ -16,7 +16,7 @@ from typing import Any
 
 from . import jsonl
 from .problems import Problem
-from .wording import counted
+from .wording import counted, some_of
 
 CONVERTED = "converted.json"
 FORMAT = 1
@@ -127,7 +127,11 @@ def numbered(folder: Path, parts: int) -> list[Part]:
 
 @dataclass(frozen=True)
 class Finished:
-    """The folder of a recording with all its parts; `scoped` are the scopes of the policy that is tried on it."""
+    """The folder of a recording with all its parts.
+
+    Of the policy that is tried on it, `scoped` has the scopes, and `unknown` the parents of which is not known where
+    they led on the machine that recorded.
+    """
 
     folder: Path
     parts: tuple[Part, ...]
@@ -137,6 +141,7 @@ class Finished:
     scopes: Counter[str] = field(default_factory=Counter)
     untraced: tuple[str, ...] = ()
     scoped: tuple[str, ...] = ()
+    unknown: tuple[str, ...] = ()
 
     @property
     def missing(self) -> list[str]:
@@ -147,6 +152,9 @@ class Finished:
             number = counted(self.holes.total(), "call")
             told.append(f"{number} that a policy may refuse could not be recorded: {calls}")
         told.extend(self._of_scopes())
+        if self.unknown:
+            parents = f"{counted(len(self.unknown), 'parent')} of the policy led on the machine that recorded"
+            told.append(f"it is not known where {parents}, so their rules are left out: {some_of(self.unknown)}")
         if not self.ended:
             told.append("the recording is cut: the log stops before the command's end, so record it again")
         return told

@@ -12,7 +12,7 @@ from . import finished, trees, trying
 from .finished import Finished
 from .options import note
 from .policies import Policy
-from .problems import USAGE, Problem
+from .problems import NOT_ALL_JUDGED, USAGE, Problem
 from .reading import Walk
 from .recorder.progress import Progress
 from .summary import Summary
@@ -49,8 +49,19 @@ def opened(names: Sequence[str], policy: Policy | None = None, program: str | No
     members = []
     for name in names:
         recording = replace(finished.opened(name), scoped=() if policy is None else policy.scoped)
-        members.append(Member(name, recording, None if policy is None else trying.tried(recording, policy, program)))
+        tried = None if policy is None else trying.tried(recording, policy, program)
+        members.append(Member(name, recording if tried is None else tried.recording, tried))
     return members
+
+
+def unknown(members: Sequence[Member]) -> frozenset[str]:
+    """The parents of the policy of which is not known where they led when one of the recordings was made."""
+    return frozenset(parent for member in members for parent in member.recording.unknown)
+
+
+def status(members: Sequence[Member]) -> int:
+    """The status of what was done: 0, unless it is not known where parents of the policy led."""
+    return NOT_ALL_JUDGED if unknown(members) else 0
 
 
 def tried_of(members: Sequence[Member]) -> Tried | None:

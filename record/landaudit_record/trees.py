@@ -2,25 +2,18 @@
 
 from __future__ import annotations
 
-from collections.abc import Iterable, Iterator
+from collections.abc import Iterable, Iterator, Sequence
 from dataclasses import dataclass, field
 from functools import cached_property
 from pathlib import Path
 
-from . import jsonl
+from . import jsonl, resolving
 from .problems import Problem
-
-ROOT = "/"
-MOST_LINKS = 40
-
-
-class LinkLoop(Exception):
-    """A path leads through more symbolic links than the kernel follows."""
-
-
-def directory_of(path: str) -> str:
-    """The directory that an object is in; the root is in itself."""
-    return path.rpartition("/")[0] or ROOT
+from .resolving import NOTHING, Known, Met, NothingElse, Walked
+from .resolving import ROOT as ROOT
+from .resolving import LinkLoop as LinkLoop
+from .resolving import directory_of as directory_of
+from .resolving import joined as joined
 
 
 def upwards(path: str) -> Iterator[str]:
@@ -31,17 +24,13 @@ def upwards(path: str) -> Iterator[str]:
     yield ROOT
 
 
-def joined(directory: str, name: str) -> str:
-    """The path of a name in a directory."""
-    return directory + name if directory == ROOT else f"{directory}/{name}"
-
-
 @dataclass(frozen=True)
 class Tree:
     """The kind of each listed path, and the target of each symbolic link whose line has it.
 
     `made` has the paths at which nothing was when the run began; `first` maps each further name of an object to its
     first name, `others` a first name to the further ones, and `shown` a listed name to the real path if that differs.
+    `beside` says what is known of the objects that are not listed.
     """
 
     kinds: dict[str, str] = field(default_factory=lambda: {ROOT: "dir"})
@@ -50,6 +39,7 @@ class Tree:
     first: dict[str, str] = field(default_factory=dict)
     others: dict[str, list[str]] = field(default_factory=dict)
     shown: dict[str, str] = field(default_factory=dict)
+    beside: Known = field(default_factory=NothingElse)
 
     def kind(self, path: str) -> str | None:
         """The kind of the object at a path, None if there is none."""
@@ -93,39 +83,51 @@ class Tree:
         return path in self.put and path in self.kinds and path not in self.made
 
     def resolved(self, path: str, *, before_run: bool = False) -> str:
-        """An absolute path without symbolic links, `.`, `..` and doubled slashes, as the kernel walks it.
+        """Where a path leads; links that the run makes do not exist before the run."""
+        return self.walked(path, whole=not before_run).path
 
-        Links that the run makes do not exist before the run. What follows a component that is not listed stays as it is
-        written.
-        """
-        todo = path.split("/")[::-1]
-        here, links = ROOT, 0
-        while todo:
-            name = todo.pop()
-            if name in ("", "."):
-                continue
-            if name == "..":
-                here = directory_of(here)
-                continue
-            there = joined(here, name)
-            target = None if before_run and there in self.made else self.targets.get(there)
-            if target is None:
-                here = there
-                continue
-            links += 1
-            if links > MOST_LINKS:
-                raise LinkLoop(path)
-            here = ROOT if target.startswith("/") else here
-            todo.extend(target.split("/")[::-1])
-        return here
+    def walked(self, path: str, *, whole: bool = False) -> Walked:
+        """Where a path leads when the run begins, or with `whole` at some time of it, and what of that is not known."""
+        return resolving.walked(path, _Whole(self)) if whole else resolving.walked(path, self)
+
+    def at(self, path: str) -> Met | None:
+        """What is at a path when the run begins."""
+        if path in self.kinds and path not in self.made:
+            return Met(self.kinds[path], self.targets.get(path))
+        if path in self.put or any(over in self.made for over in upwards(path)):
+            return NOTHING
+        return self.beside.at(path)
 
 
-def read(*paths: Path) -> Tree:
+@dataclass(frozen=True)
+class _Whole:
+    """The objects that a tree lists, also those that the run makes."""
+
+    tree: Tree
+
+    def at(self, path: str) -> Met | None:
+        """What is at a path at some time of the run."""
+        kind = self.tree.kind(path)
+        return self.tree.beside.at(path) if kind is None else Met(kind, self.tree.targets.get(path))
+
+
+@dataclass(frozen=True)
+class _Together:
+    """What is known beside one or another of several trees."""
+
+    each: Sequence[Known]
+
+    def at(self, path: str) -> Met | None:
+        """What the first one that knows says of a path."""
+        return next((met for one in self.each if (met := one.at(path)) is not None), None)
+
+
+def read(*paths: Path, beside: Known = NothingElse()) -> Tree:
     """The tree in a file, or in the files of all parts of a recording.
 
-    A line without a path or a kind is a Problem; landaudit looks at the rest.
+    `beside` says what is known of the objects that it does not list. A line without a path or a kind is a Problem; landaudit looks at the rest.
     """
-    tree = Tree()
+    tree = Tree(beside=beside)
     for path in paths:
         for number, entry in jsonl.numbered(path):
             listed, kind, target = entry.get("path"), entry.get("kind"), entry.get("target")
@@ -142,8 +144,9 @@ def read(*paths: Path) -> Tree:
 
 def united(trees: Iterable[Tree]) -> Tree:
     """The objects of several recordings; if two of them differ about a path, the last one counts."""
-    found = Tree()
-    for tree in trees:
+    each = list(trees)
+    found = Tree(beside=_Together([tree.beside for tree in each]))
+    for tree in each:
         found.kinds.update(tree.kinds)
         found.targets.update(tree.targets)
         found.made.update(tree.made)

@@ -7,11 +7,11 @@ import os
 import tempfile
 from collections.abc import Iterable, Iterator
 from contextlib import contextmanager
-from dataclasses import dataclass, field
+from dataclasses import dataclass, field, replace
 from pathlib import Path
 from typing import NamedTuple
 
-from . import applying, cutting, fitting, jsonl, landaudit, trees
+from . import applying, cutting, fitting, jsonl, landaudit, resolving, surroundings, trees
 from .applying import Plan
 from .finished import Finished, Part
 from .jsonl import Record
@@ -30,7 +30,7 @@ _READ_ONLY = (errno.EACCES, errno.EPERM, errno.EROFS)
 
 def tree_of(recording: Finished) -> Tree:
     """All objects of a recording, whichever parts have them."""
-    return trees.read(*(part.tree for part in recording.parts))
+    return trees.read(*(part.tree for part in recording.parts), beside=surroundings.of(recording.folder))
 
 
 class Files(NamedTuple):
@@ -112,7 +112,8 @@ def tried(recording: Finished, policy: Policy, program: str | None) -> Tried:
     """A policy on a recording, before the first program of each process that it starts or before each run of one."""
     tree = tree_of(recording)
     places = applying.plans([part.trace for part in recording.parts], tree, program)
-    return Tried(recording, policy, program, tree, places)
+    unknown = applying.not_known(policy, tree)
+    return Tried(replace(recording, unknown=unknown), policy, program, tree, places)
 
 
 @contextmanager
@@ -237,12 +238,11 @@ def _not_judged(policy: Policy, tree: Tree, *, here: bool) -> Iterator[str]:
     for layer in policy.layers:
         if layer.scoped:
             yield f"layer {layer.number}: scopes are not judged: {', '.join(layer.scoped)}"
-        for rule in layer.path_beneath:
-            named = FS.ordered(rule.allowed_access.outright - FILE_RIGHTS)
-            for parent in rule.parents:
-                if tree.kind(tree.resolved(parent, before_run=True)) is None:
-                    where = f"layer {layer.number}, {rule.place}, parent {parent}"
-                    yield from _notes_on_absent(where, parent, named, here=here)
+    for parent in resolving.parents(policy, tree):
+        yield from applying.notes_on_way(parent)
+        named = FS.ordered(parent.rule.allowed_access.outright - FILE_RIGHTS)
+        if parent.led.is_sure and tree.kind(parent.led.path) is None:
+            yield from _notes_on_absent(parent.place, parent.written, named, here=here)
 
 
 def _notes_on_absent(where: str, parent: str, named: list[str], *, here: bool) -> Iterator[str]:

@@ -2,6 +2,7 @@
 
 from __future__ import annotations
 
+import json
 import os
 import subprocess
 import tempfile
@@ -10,7 +11,7 @@ from pathlib import Path
 
 from landaudit_record import confining, landlock_calls
 
-from .live_actor import CONFINER, PYTHON, wanting
+from .live_actor import CONFINER, PYTHON, RECORDER, wanting
 
 #: Restricts itself once more, by a layer that refuses nothing that it does afterwards.
 RESTRICT = f"""
@@ -24,6 +25,8 @@ try:
 except OSError as error:
     print(error.strerror)
 """
+#: Moves a file to another directory.
+MOVE = "import os, sys; os.rename(sys.argv[1], sys.argv[2])"
 HARMLESS = '[[layer]]\nhandled_access_fs = ["make_block"]\n'
 
 
@@ -50,6 +53,84 @@ class LivePolicies(unittest.TestCase):
         """The status and the lines of a comparison."""
         run = self.said(PYTHON, CONFINER, "diff", self.policy("old", old), self.policy("new", new))
         return run.returncode, run.stdout.replace(f"{self.folder}/", "").splitlines()
+
+    def recorded(self, *command: str | Path) -> None:
+        """Records a command in the folder `rec`."""
+        run = self.said(PYTHON, RECORDER, "run", "rec", "--", *command)
+        self.assertEqual(run.returncode, 0, run.stderr)
+
+    def moved_away(self) -> None:
+        """Makes the recording one of another machine."""
+        file = self.folder / "rec" / "recording.json"
+        file.write_text(json.dumps({**json.loads(file.read_text()), "machine": "another"}))
+
+    def audited(self, policy: Path) -> tuple[int, str]:
+        """The status and the output of an audit."""
+        run = self.said(PYTHON, RECORDER, "audit", "rec", "--policy", policy, "--abi", "5")
+        return run.returncode, run.stdout + run.stderr
+
+    def test_a_parent_that_is_a_link_which_the_run_did_not_touch(self) -> None:
+        (self.folder / "real").mkdir()
+        (self.folder / "real" / "file").write_text("text\n")
+        (self.folder / "link").symlink_to("real")
+        read = '[[layer]]\nhandled_access_fs = ["read_file"]\n[[layer.path_beneath]]\nallowed_access = ["read_file"]\n'
+        policy = self.policy("P.toml", read + 'parent = ["/usr", "/lib64", "/etc", "/proc", "@/link/../link"]\n')
+        self.recorded("cat", "real/file")
+        self.assertEqual(self.under(policy, "cat", "real/file").stdout, "text\n")
+        status, said = self.audited(policy)
+        self.assertEqual(status, 0, said)
+        self.assertIn("link: on this disk it leads to", " ".join(said.split()))
+        tight = self.said(PYTHON, RECORDER, "tighten", "rec", "--policy", policy)
+        self.assertEqual(tight.returncode, 0, tight.stderr)
+        self.assertEqual(self.under(self.policy("T.toml", tight.stdout), "cat", "real/file").stdout, "text\n")
+
+        self.moved_away()
+        status, said = self.audited(policy)
+        self.assertEqual(status, 1, said)
+        self.assertIn("it is not known where 1 parent of the policy led", " ".join(said.split()))
+        tight = self.said(PYTHON, RECORDER, "tighten", "rec", "--policy", policy)
+        self.assertEqual((tight.returncode, "link/../link" in tight.stdout), (5, True), tight.stdout + tight.stderr)
+
+    def test_a_link_at_the_top_is_known_everywhere(self) -> None:
+        if not os.path.islink("/bin"):
+            self.skipTest("/bin is no link here")
+        top = '[[layer]]\nhandled_access_fs = ["execute"]\n[[layer.path_beneath]]\nallowed_access = ["execute"]\n'
+        policy = self.policy("P.toml", top + 'parent = ["/bin", "/lib", "/lib64"]\n')
+        self.recorded("/usr/bin/true")
+        self.assertEqual(self.under(policy, "/usr/bin/true").returncode, 0)
+        self.moved_away()
+        self.assertEqual(self.audited(policy)[0], 0)
+        tight = self.said(PYTHON, RECORDER, "tighten", "rec", "--policy", policy)
+        self.assertEqual(tight.returncode, 0, tight.stderr)
+        self.assertEqual(self.under(self.policy("T.toml", tight.stdout), "/usr/bin/true").returncode, 0)
+
+    def test_a_move_that_gains_by_a_rule_on_a_link(self) -> None:
+        for name in ("from", "to"):
+            (self.folder / name).mkdir()
+        (self.folder / "link").symlink_to("to")
+        (self.folder / "from" / "file").touch()
+        words = (self.folder / "from" / "file", self.folder / "to" / "file")
+        moving = """[[layer]]
+handled_access_fs = ["refer", "execute", "make_reg", "remove_file"]
+[[layer.path_beneath]]
+allowed_access = ["refer", "make_reg", "remove_file"]
+parent = "@"
+[[layer.path_beneath]]
+allowed_access = ["execute"]
+parent = ["/usr", "/lib64", "@/link"]
+"""
+        policy = self.policy("P.toml", moving)
+        run = self.under(policy, PYTHON, "-c", MOVE, *words)
+        self.assertIn("Invalid cross-device link", run.stderr)
+        self.recorded(PYTHON, "-c", MOVE, *words)
+        status, said = self.audited(policy)
+        self.assertEqual(status, 1, said)
+        self.assertRegex(said, r"rename .* EXDEV|EXDEV")
+        self.moved_away()
+        status, said = self.audited(policy)
+        self.assertEqual(status, 5, said)
+        applied = self.said(PYTHON, RECORDER, "apply", policy, "rec", "--out", "tried.jsonl")
+        self.assertEqual(applied.returncode, 5, applied.stderr)
 
     def test_a_scope_less(self) -> None:
         if landlock_calls.kernel_abi() < confining.ABI_OF_SCOPES:

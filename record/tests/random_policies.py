@@ -33,6 +33,12 @@ def plain(path: str) -> str:
     return posixpath.normpath("/" + path.lstrip("/"))
 
 
+def _roundabout(path: str) -> str:
+    """The path in other words, which lead to it if its directory is one."""
+    directory, name = posixpath.split(path)
+    return f"/.{directory}//../{posixpath.basename(directory)}/{name}" if directory != ROOT else f"/..//./{name}"
+
+
 @dataclass(frozen=True)
 class Rule:
     """A rule of one kind or the other: the words for its rights, and the paths or ports that it is on."""
@@ -208,7 +214,7 @@ class Maker:
         if self.of.random() < 0.07:
             return ROOT
         path = "/" + "/".join(self.of.choices(NAMES, k=self.of.choice((1, 1, 2, 2, 3, 4))))
-        return f"/.{path}//../{posixpath.basename(path)}/" if self.of.random() < 0.03 else path
+        return _roundabout(path) if self.of.random() < 0.03 else path
 
     def changed(self, policy: Policy) -> Policy:
         """A policy that differs from another by one to three small changes, or seldom in nothing."""

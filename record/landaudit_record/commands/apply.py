@@ -6,9 +6,9 @@ import argparse
 import sys
 from pathlib import Path
 
-from .. import applying, finished, fitting, policies, trees
+from .. import applying, finished, fitting, policies, resolving, surroundings, trees
 from ..options import add_abi, add_program, note
-from ..problems import USAGE, Problem
+from ..problems import NOT_ALL_JUDGED, USAGE, Problem
 
 NAME = "apply"
 HELP = "write a trace in which the recorded program starts under a policy"
@@ -59,17 +59,23 @@ def run(arguments: argparse.Namespace) -> int:
     policy = policies.read(Path(arguments.policy))
     named = Path(arguments.trace)
     trace = _only_trace(named) if named.is_dir() else named
-    tree = trees.read(Path(arguments.tree) if arguments.tree else _tree_beside(trace))
+    tree = trees.read(
+        Path(arguments.tree) if arguments.tree else _tree_beside(trace), beside=surroundings.of(trace.absolute().parent)
+    )
     layers, notes = fitting.fit(policy, arguments.abi)
     places = applying.plan(trace, tree, arguments.program)
     inserted = applying.records(policy, layers, tree, places.rs)
+    unknown = applying.not_known(policy, tree)
     note(notes)
+    note(text for parent in resolving.parents(policy, tree) for text in applying.notes_on_way(parent))
+    note(f"NOT ALL IS JUDGED: it is not known where {parent} led on the machine that recorded" for parent in unknown)
+    status = NOT_ALL_JUDGED if unknown else 0
     if arguments.out is None:
         applying.write(trace, places, inserted, sys.stdout.buffer)
-        return 0
+        return status
     out = Path(arguments.out)
     if out.exists() and out.samefile(trace):
         raise Problem(f"--out {out} is the trace itself: name another file", USAGE)
     with open(out, "wb") as file:
         applying.write(trace, places, inserted, file)
-    return 0
+    return status

@@ -14,7 +14,7 @@ from contextlib import contextmanager
 from dataclasses import dataclass, replace
 from pathlib import Path
 
-from .. import PROGRAMS, RECORDER, confining, landaudit, policies
+from .. import PROGRAMS, RECORDER, confining, landaudit, policies, surroundings
 from ..options import add_abi
 from ..problems import USAGE, WANTING, Problem
 from ..recorder import formats, recordings, tracing
@@ -71,6 +71,7 @@ def run(arguments: argparse.Namespace) -> int:
     with _made(arguments.out) as folder:
         about = _about(command, _watched(folder, directories), strace, readlink=arguments.readlink)
         about.write(folder)
+        surroundings.keep(folder, None if policy is None else policies.read(policy.policy))
         if policy is not None:
             command = confining.under(policy.kept_in(folder), policy.abi, command)
     outcome = tracing.run(folder / "strace.txt", command, readlink=arguments.readlink)
@@ -176,4 +177,5 @@ def _about(command: list[str], watched: list[str], strace: str, *, readlink: boo
         readlink=readlink,
         formats=formats.registered(),
         hidepid=recordings.hides_processes(),
+        machine=surroundings.machine(),
     )

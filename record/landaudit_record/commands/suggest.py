@@ -64,7 +64,8 @@ def run(arguments: argparse.Namespace) -> int:
     together.note_missing(members)
     for line in suggestion_text.lines(suggestion, policy):
         print(line)
-    return 0 if suggestion.finished and not suggestion.unmended and not suggestion.of_program else 1
+    done = suggestion.finished and not suggestion.unmended and not suggestion.of_program
+    return together.status(members) if done else 1
 
 
 def _number(text: str) -> int:

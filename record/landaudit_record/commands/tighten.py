@@ -4,7 +4,7 @@ from __future__ import annotations
 
 import argparse
 from collections import Counter
-from collections.abc import Iterator, Sequence
+from collections.abc import Iterator, Sequence, Set
 from dataclasses import replace
 from pathlib import Path
 
@@ -55,6 +55,7 @@ def run(arguments: argparse.Namespace) -> int:
         audits[0].progress.say("trying each right")
         done = _tightened(Tightening(program, arguments.abi, asked, best_effort=not arguments.as_recorded), policy,
                           None if arguments.list else trees.united(one.tree for one in tried))
+        done = replace(done, policy=_with_unknown(done.policy, policy, together.unknown(members)))
         after = [_questions(audit, one, done.policy, arguments.abi) for audit, one in zip(audits, tried)]
         if _more(before, after):
             raise Problem("without the rights that no call needs, more calls of the recordings are refused: this is a "
@@ -65,7 +66,20 @@ def run(arguments: argparse.Namespace) -> int:
     together.note_missing(members)
     for line in _table(policy, done, arguments.abi) if arguments.list else _toml(policy, done):
         print(line)
-    return 0
+    return together.status(members)
+
+
+def _with_unknown(tight: Policy, policy: Policy, unknown: Set[str]) -> Policy:
+    """A policy that was tightened, with the rules as they were of which is not known where their parents led."""
+    if not unknown:
+        return tight
+    layers = []
+    for layer, before in zip(tight.layers, policy.layers):
+        whole = tuple(rule for rule in before.path_beneath if unknown & set(rule.parents))
+        kept = {rule.place for rule in whole}
+        others = tuple(rule for rule in layer.path_beneath if rule.place.split(" (")[0] not in kept)
+        layers.append(replace(layer, path_beneath=(*others, *whole)))
+    return replace(tight, layers=tuple(layers))
 
 
 def _tightened(tightening: Tightening, policy: Policy, tree: Tree | None) -> Tightened:

@@ -39,7 +39,7 @@ class About:
     `ended` says that the tracer ended by itself, so that the log is complete; it is set after the run. `looks` says
     that calls which only look at an object and calls which send signals were traced, `readlink` that calls which read
     links were traced. `formats` are those that binfmt_misc had, None if they are not known; `hidepid` says that /proc
-    is mounted with this option (proc(5)).
+    is mounted with this option (proc(5)). `machine` tells the machine from others, "" if it is not known.
     """
 
     command: list[str]
@@ -59,6 +59,7 @@ class About:
     readlink: bool = False
     formats: list[dict[str, Any]] | None = None
     hidepid: bool = False
+    machine: str = ""
 
     @property
     def untraced(self) -> tuple[str, ...]:
