@@ -23,7 +23,7 @@ from .jsonl import Record
 from .policies import Policy
 from .problems import Problem
 from .processes import program_run
-from .resolving import LinkLoop, Parent, Walked
+from .resolving import NOWHERE, LinkLoop, Parent, Walked
 from .rights import FS, NET
 from .trees import Tree, upwards
 from .wording import some_of
@@ -41,8 +41,6 @@ _TELL_NOTHING = frozenset(
 )
 _AGAIN = b'"again":true'
 _BLANKS = b" \t\r\n"
-#: A path that no object has, for the record of a rule that is on no object.
-NOWHERE = "/~new~"
 
 
 @dataclass(frozen=True)

@@ -24,6 +24,7 @@ RULESET = 1
 """The number of each ruleset: it is closed before the next one is made."""
 
 FIRST_DESCRIPTOR = 3
+_ON_DESCRIPTORS = ("open", "ftruncate", "ioctl", "close")
 
 
 def opening(path: str, mode: str, **flags: bool) -> Record:
@@ -39,8 +40,8 @@ def under(policy: Policy, abi: int, tree: Tree) -> list[Record]:
 
 def ask(
     program: Path, abis: range, tree: Tree, confined: Sequence[Sequence[Record]], questions: Sequence[Sequence[Question]]
-) -> list[dict[int, list[Answer]]]:
-    """What landaudit answers to the questions of each process, by ABI.
+) -> list[dict[int, list[tuple[Answer, ...]]]]:
+    """What landaudit answers to the questions of each process, by ABI: for each question, an answer to each record.
 
     Each process first confines itself by its own records; if the kernel would refuse one of these, that is a Problem.
     """
@@ -50,13 +51,13 @@ def ask(
         jsonl.write(files.trace, _trace(confined, questions))
         landaudit.audit(program, abis, files.tree, files.trace, files.report, best_effort=True)
         by_abi = {abi: _answers(files, abi) for abi in abis}
-    found: list[dict[int, list[Answer]]] = [{} for _ in confined]
+    found: list[dict[int, list[tuple[Answer, ...]]]] = [{} for _ in confined]
     for abi, answers in by_abi.items():
         for process, (own, asked) in enumerate(zip(confined, questions)):
             next(answers)
             for _ in own:
                 _see_rule(*next(answers))
-            found[process][abi] = [_decided([next(answers)[1] for _ in question]) for question in asked]
+            found[process][abi] = [tuple(next(answers)[1] for _ in question) for question in asked]
     return found
 
 
@@ -91,7 +92,7 @@ def _trace(confined: Sequence[Sequence[Record]], questions: Sequence[Sequence[Qu
         yield from ({**record, "pid": pid} for record in own)
         for fd, question in enumerate(asked, start=FIRST_DESCRIPTOR):
             for record in question:
-                numbered: dict[str, Any] = {"fd": fd} if record["op"] in ("open", "ftruncate", "ioctl") else {}
+                numbered: dict[str, Any] = {"fd": fd} if record["op"] in _ON_DESCRIPTORS else {}
                 yield {**record, "pid": pid, **numbered}
 
 
@@ -110,6 +111,6 @@ def _see_rule(record: Record, answer: Answer) -> None:
         raise Problem(f"{', '.join(parts)}: the kernel refuses it with {answer.error}: {answer.condition}")
 
 
-def _decided(answers: Sequence[Answer]) -> Answer:
+def decided(answers: Sequence[Answer]) -> Answer:
     """The answer that decides a question: the first that is not allowed, or else the last."""
     return next((answer for answer in answers if not answer.allowed), answers[-1])

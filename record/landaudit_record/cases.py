@@ -15,17 +15,18 @@ a call makes does not exist before. Without `abi`, a case is about every ABI.
 from __future__ import annotations
 
 import argparse
-import os
-from collections.abc import Mapping
+from collections.abc import Iterator, Mapping
 from dataclasses import dataclass, field
 from pathlib import Path
 from typing import Any
 
-from . import documents, options
+from . import documents, options, resolving
 from .asking import Question, opening
 from .documents import Place, check_keys, tables, unknown
 from .policies import HIGHEST_PORT, LONGEST_PATH
 from .recorder import disk
+from .recorder.disk import MOST_INTERPRETERS
+from .resolving import DISK, LinkLoop
 from .rights import NEWEST_ABI, OLDEST_ABI
 from .trees import ROOT, Tree, directory_of, joined
 
@@ -76,6 +77,11 @@ class Case:
     def text(self) -> str:
         """The case in words; the call alone where it has no place."""
         return self.call if self.place == NO_PLACE else f"{self.call} {self.place}"
+
+
+def _running(file: str) -> Question:
+    """What execve(2) asks about a file: the kernel opens it for reading and for execution."""
+    return opening(file, "r"), {"op": "close"}, {"op": "exec", "path": file}
 
 
 @dataclass
@@ -184,7 +190,20 @@ class _Reader:
             return opening(path, "w"), {"op": op}
         if op == "ioctl":
             return opening(path, words[0]), {"op": op, "driver": True}
+        if op == "exec":
+            return tuple(record for file in self._run(path) for record in _running(file))
         return ({"op": op, "path": path},)
+
+    def _run(self, path: str) -> Iterator[str]:
+        """The file that execve(2) runs, and those that run it: the programs after `#!`, and the loader."""
+        for _ in range(MOST_INTERPRETERS + 1):
+            yield path
+            named = disk.interpreter(path)
+            path = "" if named is None or not named.startswith("/") else resolving.walked(named, DISK).path
+            seen = disk.look(path) if path else None
+            if seen is None:
+                return
+            self._list(path, seen.kind, "path")
 
     def _move(self, op: str) -> Question:
         moved = self._there("from", "kind", follows=False)
@@ -221,12 +240,13 @@ class _Reader:
         path = self.table[key]
         if not isinstance(path, str) or not path.startswith("/") or "\0" in path or len(path.encode()) > LONGEST_PATH:
             (self.place / key).fault(f"{path!r} is not an absolute path: write it as \"/usr\"")
-        if follows:
-            return os.path.realpath(path)
         directory, _, name = path.rstrip("/").rpartition("/")
-        if name in ("", ".", ".."):
-            return os.path.realpath(path)
-        return joined(os.path.realpath(directory or ROOT), name)
+        try:
+            if follows or name in ("", ".", ".."):
+                return resolving.walked(path, DISK).path
+            return joined(resolving.walked(directory or ROOT, DISK).path, name)
+        except LinkLoop:
+            (self.place / key).fault(f"{path} is a loop of symbolic links: name another path")
 
     def _list(self, path: str, kind: str, key: str) -> None:
         """Lists an object and the directories above it; one path has one kind in all cases."""

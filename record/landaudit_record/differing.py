@@ -149,7 +149,8 @@ def _with_files(layer: FittedLayer, regions: Regions) -> FittedLayer:
     rules = []
     for rule in layer.path_rules:
         named = [as_named(parent) for parent in rule.parents]
-        files = [regions.as_file(path, kind) for path in named if path != ROOT for kind in RULED_KINDS]
+        as_files = [as_named(parent) for parent in rule.parents if not parent.endswith("/")]
+        files = [regions.as_file(path, kind) for path in as_files for kind in RULED_KINDS]
         rules.append(FittedPathRule(rule.place, (*named, *files), rule.on_directory, rule.on_file))
     return FittedLayer(layer.number, layer.handled_fs, layer.handled_net, tuple(rules), layer.port_rules)
 

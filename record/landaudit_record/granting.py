@@ -15,7 +15,11 @@ from .answers import Answer, Closed, Kept, Missing
 from .asking import Question
 from .policies import Layer, PathRule, Policy, PortRule
 from .rights import NEWEST_ABI, alone
-from .trees import Tree, upwards
+from .trees import ROOT, Tree, upwards
+
+
+_Lacked = tuple[str, str]
+"""A right that a layer lacks, and what it lacks it on."""
 
 
 @dataclass(frozen=True)
@@ -42,7 +46,7 @@ class _Alone:
     def on(self) -> str:
         """What the rule is on."""
         if isinstance(self.rule, PathRule):
-            return self.rule.parents[0]
+            return self.rule.parents[0].rstrip("/") or ROOT
         return f"port {self.rule.ports[0]}" if self.rule is not None else ""
 
     def policy(self, path: Path) -> Policy:
@@ -58,7 +62,7 @@ class _Alone:
         if isinstance(self.rule, PortRule):
             return any(record.get("port") in self.rule.ports for record in question)
         paths = [str(record[key]) for record in question for key in ("path", "from", "to") if key in record]
-        return any(self.rule.parents[0] in upwards(path) for path in paths)
+        return any(self.on in upwards(path) for path in paths)
 
 
 def _parts(policy: Policy) -> Iterator[_Alone]:
@@ -79,10 +83,10 @@ def grants(program: Path, policy: Policy, tree: Tree, questions: Sequence[Questi
     asked = [[questions[number] for number in concerned] for _, concerned in parts]
     answers = asking.ask(program, alone(NEWEST_ABI), tree, confined, asked)
     found: list[list[Grant]] = [[] for _ in questions]
-    bare: dict[tuple[int, int], set[tuple[str, str]]] = {}
+    bare: dict[tuple[int, int], set[_Lacked]] = {}
     for (part, concerned), by_abi in zip(parts, answers):
         for number, answer in zip(concerned, by_abi[NEWEST_ABI]):
-            lacking = _lacking(answer)
+            lacking = set[_Lacked]().union(*map(_lacking, answer))
             if part.rule is None:
                 bare[part.layer.number, number] = lacking
             elif granted := bare[part.layer.number, number] - lacking:
@@ -91,7 +95,7 @@ def grants(program: Path, policy: Policy, tree: Tree, questions: Sequence[Questi
     return found
 
 
-def _lacking(answer: Answer) -> set[tuple[str, str]]:
+def _lacking(answer: Answer) -> set[_Lacked]:
     """The rights that a layer lacks, each with what it lacks it on."""
     objections = [it for layer in answer.layers for it in layer.objections]
     return {

@@ -14,10 +14,13 @@ from collections.abc import Iterator
 from dataclasses import dataclass, replace
 from typing import Protocol
 
-from .policies import PathRule, Policy
+from .policies import Layer, PathRule, Policy
+from .problems import Problem
 
 ROOT = "/"
 MOST_LINKS = 40
+#: A path that no object has, for a rule that is on no object.
+NOWHERE = "/~new~"
 #: What leads elsewhere for each process, so that only the process that a policy confines knows where (proc(5)).
 _OF_A_PROCESS = re.compile(r"/proc/(self|thread-self|[0-9]+(/task/[0-9]+)?/(exe|cwd|root|(fd|ns|map_files)/[^/]+))")
 #: The errors by which the kernel says that nothing is at a path.
@@ -168,19 +171,34 @@ class Parent:
 
 
 def parents(policy: Policy, known: Known) -> Iterator[Parent]:
-    """Each parent of a policy's rules, and where it leads."""
+    """Each parent of a policy's rules, and where it leads; a loop of links is a Problem."""
     for layer in policy.layers:
         for rule in layer.path_beneath:
             for written in rule.parents:
-                yield Parent(layer.number, rule, written, walked(written, known))
+                try:
+                    led = walked(written, known)
+                except LinkLoop as loop:
+                    place = f"{policy.path}: layer {layer.number}, {rule.place}, parent"
+                    raise Problem(f"{place}: {written} is a loop of symbolic links: name another path") from loop
+                yield Parent(layer.number, rule, written, led)
 
 
 def followed(policy: Policy, known: Known) -> Policy:
-    """The policy with what its parents lead to: a rule is on an object, and not on a link to it."""
-    return replace(policy, layers=tuple(
-        replace(layer, path_beneath=tuple(
-            replace(rule, parents=tuple(walked(parent, known).path for parent in rule.parents))
-            for rule in layer.path_beneath
+    """The policy with what its parents lead to: a rule is on an object, and not on a link to it.
+
+    A parent that the kernel can't open is on no object. One that can only be a directory keeps a slash at its end.
+    """
+
+    def led(written: str) -> str:
+        found = walked(written, known)
+        if found.blocked is not None:
+            return NOWHERE
+        return found.path + "/" if found.only_directory and found.path != ROOT else found.path
+
+    def of_layer(layer: Layer) -> Layer:
+        rules = layer.path_beneath
+        return replace(layer, path_beneath=tuple(
+            replace(rule, parents=tuple(led(parent) for parent in rule.parents)) for rule in rules
         ))
-        for layer in policy.layers
-    ))
+
+    return replace(policy, layers=tuple(map(of_layer, policy.layers)))

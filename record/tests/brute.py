@@ -219,7 +219,7 @@ class Recorded:
         for number, run in enumerate(self.runs):
             one = folder / f"rec-{number}"
             one.mkdir()
-            asking.write_tree(one / "tree.jsonl", run.kinds)
+            jsonl.write(one / "tree.jsonl", _listed(run.kinds))
             jsonl.write(one / "trace.jsonl", run.records)
             words.append(str(one))
         return words
@@ -250,6 +250,12 @@ class Recorded:
         answers = judged(program, folder, run.kinds, trace, alone(self.abi))
         passed = {record["call_of_run"] for record, answer in zip(trace, answers) if answer.allowed}
         return list(_own_numbers(run.records, passed))
+
+
+def _listed(kinds: Kinds) -> Iterator[Record]:
+    """The lines of a recording's tree, in which each link leads to nothing."""
+    for path in sorted(kinds.keys() - {ROOT}):
+        yield {"path": path, "kind": kinds[path]} | ({"target": "/~gone~"} if kinds[path] == "sym" else {})
 
 
 def _own_numbers(records: Iterable[Record], passed: Collection[int]) -> Iterator[Record]:

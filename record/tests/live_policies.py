@@ -132,6 +132,42 @@ parent = ["/usr", "/lib64", "@/link"]
         applied = self.said(PYTHON, RECORDER, "apply", policy, "rec", "--out", "tried.jsonl")
         self.assertEqual(applied.returncode, 5, applied.stderr)
 
+    def test_what_execve_asks(self) -> None:
+        """A case about exec holds where the kernel runs the file: it opens it, what runs it, and the loader of that."""
+        script = self.folder / "script"
+        script.write_text("#!/bin/sh\nexit 0\n")
+        script.chmod(0o755)
+        cases = self.policy("cases.toml", '[[allowed]]\ncall = "exec"\npath = "@/script"\n')
+        handled = '[[layer]]\nhandled_access_fs = ["read_file", "execute"]\n'
+        libraries = '[[layer.path_beneath]]\nallowed_access = ["read_file", "execute"]\nparent = ["/usr/lib", "/etc"]\n'
+        own = '[[layer.path_beneath]]\nallowed_access = {}\nparent = ["@/script"]\n'
+        shell = '[[layer.path_beneath]]\nallowed_access = {}\nparent = ["/usr/bin"]\n'
+        all_of_it = '["read_file", "execute"]'
+        for words, runs in (
+            (own.format(all_of_it) + shell.format(all_of_it), True),
+            (own.format('["execute"]') + shell.format(all_of_it), False),
+            (own.format(all_of_it) + shell.format('["execute"]'), False),
+            (own.format(all_of_it) + shell.format('["read_file"]'), False),
+        ):
+            with self.subTest(words):
+                policy = self.policy("P.toml", handled + libraries + words)
+                self.assertEqual(self.under(policy, script).returncode == 0, runs)
+                checked = self.said(PYTHON, CONFINER, "check", policy, cases)
+                self.assertEqual(checked.returncode, 0 if runs else 1, checked.stdout + checked.stderr)
+
+    def test_links_that_policies_name(self) -> None:
+        """A link across layers, and `..` after a link: the new policy lets a file be read, which the old one does not."""
+        (self.folder / "real" / "deep").mkdir(parents=True)
+        (self.folder / "real" / "f").write_text("text\n")
+        (self.folder / "link").symlink_to("real/deep")
+        read = '[[layer.path_beneath]]\nallowed_access = ["read_file"]\nparent = ["/usr", "/lib", "/etc", "/proc"{}]\n'
+        layer = '[[layer]]\nhandled_access_fs = ["read_file"]\n'
+        whole, bare, new = read.format(', "@/real"'), read.format(""), read.format(', "@/link/../f"')
+        for old in (bare, read.format(', "@/f"')):
+            status, lines = self.compared(layer + whole + layer + old, layer + whole + layer + new)
+            ended = [self.under(self.folder / name, "cat", "real/f").returncode for name in ("old", "new")]
+            self.assertEqual((ended, status), ([1, 0], 1), lines)
+
     def test_a_scope_less(self) -> None:
         if landlock_calls.kernel_abi() < confining.ABI_OF_SCOPES:
             self.skipTest("this kernel has no scopes")

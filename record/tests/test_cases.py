@@ -12,6 +12,9 @@ from landaudit_record.cases import Cases
 from landaudit_record.problems import UNREADABLE, Problem
 
 
+RUNNING = [{"op": "open", "path": "@/file", "mode": "r"}, {"op": "close"}, {"op": "exec", "path": "@/file"}]
+
+
 class Reading(unittest.TestCase):
     def setUp(self) -> None:
         self.folder = Path(self.enterContext(tempfile.TemporaryDirectory())).resolve()
@@ -41,7 +44,7 @@ class Reading(unittest.TestCase):
             ("open rw create trunc", "@/file",
              [{"op": "open", "path": "@/file", "mode": "rw", "create": True, "trunc": True}]),
             ("open r", "@/link", [{"op": "open", "path": "@/file", "mode": "r"}]),
-            ("exec", "@/way/../link", [{"op": "exec", "path": "@/file"}]),
+            ("exec", "@/way/../link", RUNNING),
             ("unlink", "@/way/../link", [{"op": "unlink", "path": "@/link"}]),
             ("rmdir", "@/dir/", [{"op": "rmdir", "path": "@/dir"}]),
             ("ftruncate", "@/file", [{"op": "open", "path": "@/file", "mode": "w"}, {"op": "ftruncate"}]),
@@ -49,6 +52,22 @@ class Reading(unittest.TestCase):
         ):
             with self.subTest(call=call, path=path):
                 self.assertEqual(self.case(f'call = "{call}"\npath = "{path}"'), wanted)
+
+    def test_what_runs_a_script_is_asked_too(self) -> None:
+        """By execve(2): the program after `#!`, and its loader, if it has one."""
+        (self.folder / "script").write_text("#! /bin/sh -e\n")
+        asked = self.case('call = "exec"\npath = "@/script"')
+        shell = os.path.realpath("/bin/sh")
+        with open(shell, "rb") as program:
+            loader = program.read(4096).split(b"/lib", 1)[1].split(b"\0", 1)[0].decode()
+        files = ["@/script", shell, os.path.realpath(f"/lib{loader}")]
+        self.assertEqual([it["path"] for it in asked if it["op"] == "exec"], files)
+        self.assertEqual([it["path"] for it in asked if it["op"] == "open"], files)
+
+    def test_a_loop_of_links(self) -> None:
+        os.symlink("loop", self.folder / "loop")
+        with self.assertRaisesRegex(Problem, "refused 1, path: .*/loop is a loop of symbolic links"):
+            self.read('[[refused]]\ncall = "open r"\npath = "@/loop"')
 
     def test_what_a_call_makes_is_not_there(self) -> None:
         for call, wanted in (

@@ -145,13 +145,59 @@ class Differing(unittest.TestCase):
         status, lines, _ = self.said(rule + '["read_file", "read_dir"]', rule + '["read"]')
         self.assertEqual((status, lines[1]), (1, "  read_file on /x as a file"))
 
-    def test_a_path_that_is_a_link_here_is_told(self) -> None:
-        (self.folder / "link").symlink_to("/usr")
-        rule = f'[[layer.path_beneath]]\nallowed_access = ["read"]\nparent = "{self.folder}/link"\n'
-        status, _, errors = self.said(OLD, OLD + rule)
+    def linked(self, parent: str, layers: str = "") -> str:
+        """A policy with a rule on a path in the folder."""
+        rule = f'[[layer.path_beneath]]\nallowed_access = ["read"]\nparent = "{self.folder}/{parent}"\n'
+        return f'[[layer]]\nhandled_access_fs = ["read"]\n{rule}{layers}'
+
+    def test_a_link_is_what_it_leads_to_here_and_told(self) -> None:
+        (self.folder / "real").mkdir()
+        (self.folder / "link").symlink_to("real")
+        status, _, errors = self.said(self.linked("real"), self.linked("link"))
+        told = "landaudit-policy: note: new: layer 1, path_beneath 1, parent link: it is compared as real, to which it "
+        self.assertEqual((status, errors), (0, told + "leads on this machine\n"))
+        status, lines, _ = self.said(self.linked("link"), self.linked("../"))
         self.assertEqual(status, 1)
-        told = "landaudit-policy: note: new: layer 1, path_beneath 4: link leads to /usr on this machine, but is"
-        self.assertTrue(errors.startswith(told), errors)
+        self.assertIn(f"  read_dir under {self.folder.parent}, but for real", lines)
+
+    def test_above_what_is_behind_a_link(self) -> None:
+        """`..` after a link leads to what is above the link's target, and not to what is above the link."""
+        (self.folder / "real" / "deep").mkdir(parents=True)
+        (self.folder / "link").symlink_to("real/deep")
+        self.assertEqual(self.said(self.linked("real/f"), self.linked("link/../f"))[0], 0)
+        status, lines, _ = self.said(self.linked("f"), self.linked("link/../f"))
+        self.assertEqual((status, lines[1]), (1, "  read_file, read_dir under real/f"))
+
+    def test_a_link_across_layers(self) -> None:
+        """What the first layer grants, the second does by a link alone."""
+        (self.folder / "real").mkdir()
+        (self.folder / "link").symlink_to("real")
+        second = '[[layer]]\nhandled_access_fs = ["read"]\n'
+        rule = f'[[layer.path_beneath]]\nallowed_access = ["read"]\nparent = "{self.folder}/link"\n'
+        status, lines, _ = self.said(self.linked("real", second), self.linked("real", second + rule))
+        self.assertEqual((status, lines[1]), (1, "  read_file, read_dir under real"))
+
+    @unittest.skipUnless(Path("/lib").is_symlink(), "/lib is no link here")
+    def test_a_group_across_layers(self) -> None:
+        """A group's path that is a link is what it leads to as well."""
+        base = '[[layer]]\nhandled_access_fs = ["read_file"]\ninclude = "base"\n'
+        on_target = base.replace('include = "base"\n', '[[layer.path_beneath]]\nallowed_access = ["read_file"]\n'
+                                 f'parent = "{Path("/lib").resolve()}"\n')
+        status, lines, errors = self.said(on_target + base.replace('include = "base"\n', ""), on_target + base)
+        self.assertEqual((status, lines[1]), (1, f"  read_file under {Path('/lib').resolve()}"))
+        self.assertIn("new: paths of groups are compared as what they lead to on this machine: ", errors)
+
+    def test_a_path_that_leads_nowhere_here(self) -> None:
+        (self.folder / "file").touch()
+        for parent in ("none/../x", "file/", "file/../x"):
+            with self.subTest(parent):
+                status, _, errors = self.said(self.linked("x"), self.linked(parent))
+                self.assertEqual(status, 3)
+                self.assertIn(f"layer 1, path_beneath 1, parent {parent}: {parent.split('/')[0]} is no directory", errors)
+
+    def test_a_path_with_a_slash_at_its_end_is_no_file(self) -> None:
+        status, lines, _ = self.said(self.linked("x/"), self.linked("x"))
+        self.assertEqual((status, lines[1]), (1, "  read_file on x as a file"))
 
     def test_scopes_are_sets_of_which_less_is_a_difference(self) -> None:
         scoped = '[[layer]]\nscoped = ["signal", "abstract_unix_socket"]\n'

@@ -4,19 +4,19 @@ from __future__ import annotations
 
 import argparse
 import json
-import os
 from collections.abc import Iterator, Sequence
-from dataclasses import asdict, dataclass, replace
+from dataclasses import asdict, dataclass
 from pathlib import Path
 from typing import Any
 
-from .. import answers, asking, cases, granting, landaudit, policies, tap
+from .. import POLICIES, answers, asking, cases, granting, landaudit, policies, resolving, tap
 from ..answers import MOOT, Answer, Kept, Objection
 from ..cases import Case
 from ..granting import Grant
-from ..options import add_landaudit, add_policy
+from ..options import add_landaudit, add_policy, note
 from ..policies import Policy
 from ..problems import Problem
+from ..resolving import DISK
 from ..rights import NEWEST_ABI
 from ..wording import span
 
@@ -45,7 +45,7 @@ def add_arguments(parser: argparse.ArgumentParser) -> None:
 def run(arguments: argparse.Namespace) -> int:
     """Prints a line of TAP for each case with the reasons, or all cases as JSON; the status is 1 if any fails."""
     program = landaudit.find(arguments.landaudit)
-    policy = _followed(policies.read(arguments.policy))
+    policy = _on_objects(policies.read(arguments.policy))
     given = cases.read(arguments.cases)
     outcomes = list(_outcomes(program, policy, given))
     if arguments.json:
@@ -79,21 +79,12 @@ def _data(arguments: argparse.Namespace, outcomes: Sequence[_Outcome]) -> dict[s
     }
 
 
-def _followed(policy: Policy) -> Policy:
-    """The policy with the targets of its parents on this machine: a rule is on an object, and not on a link to it."""
-    return replace(
-        policy,
-        layers=tuple(
-            replace(
-                layer,
-                path_beneath=tuple(
-                    replace(rule, parents=tuple(os.path.realpath(parent) for parent in rule.parents))
-                    for rule in layer.path_beneath
-                ),
-            )
-            for layer in policy.layers
-        ),
-    )
+def _on_objects(policy: Policy) -> Policy:
+    """The policy with what its parents lead to on this machine, with a note on each that leads nowhere."""
+    for parent in resolving.parents(policy, DISK):
+        if parent.led.blocked is not None:
+            note([f"{parent.place}: no rule, since {parent.led.blocked} is no directory on this machine"], POLICIES)
+    return resolving.followed(policy, DISK)
 
 
 @dataclass(frozen=True)
@@ -143,7 +134,7 @@ def _outcomes(program: Path, policy: Policy, given: cases.Cases) -> Iterator[_Ou
     (by_abi,) = asking.ask(program, cases.ALL_ABIS, given.tree, [confined], [questions])
     grants = granting.grants(program, policy, given.tree, questions)
     for number, case in enumerate(given.cases):
-        answers = {abi: by_abi[abi][number] for abi in case.abis}
+        answers = {abi: asking.decided(by_abi[abi][number]) for abi in case.abis}
         for found in answers.values():
             if found.verdict == MOOT:
                 raise Problem(f"{given.path}: {case.text}: Landlock is not asked: {found.reason}")

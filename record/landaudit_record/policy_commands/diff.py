@@ -3,14 +3,15 @@
 from __future__ import annotations
 
 import argparse
-import os
-from collections.abc import Iterator
+from collections.abc import Iterator, Sequence
 from pathlib import Path
 
-from .. import POLICIES, differing, differing_text, landaudit, policies
+from .. import POLICIES, differing, differing_text, landaudit, policies, resolving
 from ..options import add_abis, add_landaudit, note
 from ..policies import Policy
-from ..regions import as_named
+from ..problems import Problem
+from ..resolving import DISK, Parent
+from ..wording import some_of
 
 NAME = "diff"
 HELP = "show what a new policy allows and an old one refuses, and the reverse, for every call on every tree"
@@ -28,22 +29,31 @@ def add_arguments(parser: argparse.ArgumentParser) -> None:
 def run(arguments: argparse.Namespace) -> int:
     """Prints what differs; the status is 1 if the new policy lets something pass that the old one refuses."""
     program = landaudit.find(arguments.landaudit)
-    old, new = policies.read(arguments.old), policies.read(arguments.new)
-    for policy in (old, new):
-        note(_links(policy), POLICIES)
+    old, new = (_on_objects(policies.read(path)) for path in (arguments.old, arguments.new))
     found = differing.differences(program, old, new, arguments.abis)
     for line in differing_text.lines(found, old, new, arguments.abis):
         print(line)
     return 1 if found.more else 0
 
 
-def _links(policy: Policy) -> Iterator[str]:
-    """A note on each path that leads elsewhere on this machine: a rule is on an object, and paths are compared."""
-    for layer in policy.layers:
-        for rule in layer.path_beneath:
-            for parent in rule.parents if rule.group is None else ():
-                path = as_named(parent)
-                real = os.path.realpath(path)
-                if real != path:
-                    yield (f"{policy.path}: layer {layer.number}, {rule.place}: {parent} leads to {real} on this "
-                           f"machine, but is compared by its name: write {real} if you mean that")
+def _on_objects(policy: Policy) -> Policy:
+    """The policy with what its parents lead to on this machine, with a note on each link that is followed."""
+    parents = list(resolving.parents(policy, DISK))
+    for parent in parents:
+        if parent.led.blocked is not None and parent.led.unknown is None:
+            raise Problem(f"{policy.path}: {parent.place}: {parent.led.blocked} is no directory on this machine, so the "
+                          "path leads nowhere: write it without that")
+    note(_links(policy, parents), POLICIES)
+    return resolving.followed(policy, DISK)
+
+
+def _links(policy: Policy, parents: Sequence[Parent]) -> Iterator[str]:
+    """Notes on the parents that are compared as something else than their names, those of groups together."""
+    for parent in parents:
+        if parent.led.unknown is not None:
+            yield f"{policy.path}: {parent.place}: not known where it leads, so it is compared by its name"
+        elif parent.led.now and parent.rule.group is None:
+            yield f"{policy.path}: {parent.place}: it is compared as {parent.led.path}, to which it leads on this machine"
+    of_groups = list(dict.fromkeys(it.written for it in parents if it.led.now and it.rule.group is not None))
+    if of_groups:
+        yield f"{policy.path}: paths of groups are compared as what they lead to on this machine: {some_of(of_groups)}"

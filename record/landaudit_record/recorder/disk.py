@@ -98,6 +98,10 @@ def _libc() -> ctypes.CDLL:
     return ctypes.CDLL(None, use_errno=True)
 
 
+#: The kernel follows this many interpreters of interpreters (execve(2)).
+MOST_INTERPRETERS = 5
+
+
 def interpreter(path: str) -> str | None:
     """The interpreter of a file: the program after `#!`, or the loader that an ELF file names (PT_INTERP)."""
     try:

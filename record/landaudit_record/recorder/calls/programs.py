@@ -5,6 +5,7 @@ from __future__ import annotations
 from dataclasses import replace
 
 from .. import formats, values
+from ..disk import MOST_INTERPRETERS
 from ..processes import Thread
 from ..scene import CLONE_FILES, CLONE_FS, Scene, Spot
 from ..strace_log import Call
@@ -12,8 +13,6 @@ from ..unsaid import NotAsked
 from . import arguments
 from .descriptors import OWN_TABLE
 
-#: The kernel follows this many interpreters of interpreters (execve(2)).
-MOST_INTERPRETERS = 5
 USUAL_PROGRAM = "/bin/sh"
 UNKNOWN_FORMAT = "a program that the kernel runs by a format which is not known (binfmt_misc)"
 
