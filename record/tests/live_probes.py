@@ -7,6 +7,7 @@ from __future__ import annotations
 
 import json
 import shutil
+import socket
 import subprocess
 import tempfile
 import unittest
@@ -15,8 +16,9 @@ from pathlib import Path
 from typing import Any
 
 from landaudit_record.jsonl import numbered
-from landaudit_record.recorder.calls import beyond, descriptors, mounts, others
+from landaudit_record.recorder.calls import beyond, descriptors, landlock, mounts, others
 from landaudit_record.recorder.converting import CORE_FILE
+from landaudit_record.recorder.scene import BY_UNSEEN_LAYER
 
 from .live_actor import CONFINER, HERE, POLICIES, PYTHON, RECORDER, wanting
 
@@ -30,18 +32,26 @@ REFUSALS = frozenset({"EACCES", "EPERM", "EXDEV"})
 class Expected:
     """What a probe meets: the steps that the policy refuses, how the bare recording's audit foretells them (by the
     kinds of its refused calls), and the classes in which it counts calls that may be refused. It is recorded with some
-    options of `run`.
+    options of `run`, and with a TCP socket as standard input if `socket` says so.
     """
 
     met: frozenset[str] = frozenset()
     foretold: frozenset[str] = frozenset()
     holes: frozenset[str] = frozenset()
     options: tuple[str, ...] = ()
+    socket: bool = False
 
 
-def _of(met: str = "", foretold: str = "", holes: tuple[str, ...] = (), options: tuple[str, ...] = ()) -> Expected:
+def _of(
+    met: str = "",
+    foretold: str = "",
+    holes: tuple[str, ...] = (),
+    options: tuple[str, ...] = (),
+    *,
+    socket: bool = False,
+) -> Expected:
     split = (frozenset(filter(None, text.split(", "))) for text in (met, foretold))
-    return Expected(*split, frozenset(holes), options)
+    return Expected(*split, frozenset(holes), options, socket)
 
 
 #: What the rule on ptrace refuses of the process that started a probe.
@@ -54,10 +64,18 @@ LOOKS = (
 EXPECTED = {
     "io_uring": _of("io_uring 18, io_uring 37, io_uring 16", holes=(beyond.BY_IO_URING,)),
     "handles": _of("open_by_handle_at", "open"),
-    "inside": _of("swapon, acct", "open"),
+    "inside": _of("swapon, swapoff, acct", "open"),
     "mounts": _of("mount, pivot_root, fsconfig", "mount"),
     "detached": _of("open in a new mount", holes=(mounts.WITHOUT_PLACE,)),
     "namespaces": _of("open given", "open"),
+    "thirty_two": _of("truncate64, ftruncate64", "truncate, ftruncate"),
+    "supervised": _of("mkdir", holes=(beyond.BY_SUPERVISOR,)),
+    "places": _of(
+        "mkdir by the child's cwd, mkdir by the thread's cwd, mkdir by another thread's cwd, mkdir by its task", "mkdir"
+    ),
+    "roots": _of("mkdir from outside, open from outside, mkdir from inside, mkdir by the child's root", "mkdir, open"),
+    "inheritable": _of(),
+    "sent": _of(holes=(landlock.FOREIGN_RULESET, BY_UNSEEN_LAYER)),
     "received": _of(holes=(descriptors.FOREIGN,)),
     "others": _of("open mem, open ns, open through root, kcmp", holes=(others.INTO_ANOTHER, others.NOT_TRACED)),
     "looks": _of(LOOKS, holes=(others.INTO_ANOTHER,), options=("--readlink",)),
@@ -67,6 +85,8 @@ EXPECTED = {
         "bind 2 on 2 18302, bind 10 on 10 18302, bind 0 on 2 18302, connect 2 on 2 18302, connect 10 on 10 18302",
         "bind, connect",
     ),
+    "given_socket": _of("connect to 18302", "connect", socket=True),
+    "reformed": _of("connect 2", "connect"),
     "sending": _of(holes=(beyond.BY_SENDING,)),
     "threads": _of(foretold="open"),
     "thread_runs": _of(),
@@ -95,16 +115,21 @@ class LiveProbes(unittest.TestCase):
             (self.work / name).write_text(f"{name}\n")
         shutil.copy(HERE / "probes.py", self.work)
 
-    def run_recorded(self, out: str, *command: str, options: tuple[str, ...] = ()) -> subprocess.CompletedProcess[str]:
+    def run_recorded(
+        self, out: str, *command: str, options: tuple[str, ...] = (), stdin: socket.socket | None = None
+    ) -> subprocess.CompletedProcess[str]:
         """Records a command."""
         ports = ["--port-rules", str(self.policy)]
         words = [str(RECORDER), "run", str(self.folder / out), *ports, *options, "--", *command]
-        return subprocess.run(words, cwd=self.work, capture_output=True, text=True, check=False)
+        return subprocess.run(words, cwd=self.work, stdin=stdin, capture_output=True, text=True, check=False)
 
     def record(self, name: str, out: str, *by: str) -> dict[str, list[str]]:
         """Records a probe, and gives what it said of its steps."""
         self.fill()
-        run = self.run_recorded(out, *by, PYTHON, "-S", "probes.py", name, options=EXPECTED[name].options)
+        command = (*by, PYTHON, "-S", "probes.py", name)
+        with socket.socket() as unconnected:
+            stdin = unconnected if EXPECTED[name].socket else None
+            run = self.run_recorded(out, *command, options=EXPECTED[name].options, stdin=stdin)
         if run.returncode == 4:
             self.skipTest(f"this kernel does not let {name} begin: {run.stdout}{run.stderr}")
         self.assertEqual(run.returncode, 0, run.stdout + run.stderr)

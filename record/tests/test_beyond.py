@@ -66,6 +66,21 @@ class Beyond(WrittenLogs):
         self.assertEqual(trace, [])
         self.assertEqual({asks for _, asks in self.unsaid()}, {False})
 
+    def test_the_file_that_swapoff_opens(self) -> None:
+        trace = self.confined(f'swapoff("f") = {EACCES}', f'swapoff("g") = {EPERM}')
+        self.assertEqual(
+            told(trace, "op", "path", "mode", "kernel"),
+            [("open", "/w/f", "rw", "EACCES"), ("close", None, None, None)],
+        )
+        self.assertEqual(self.unsaid(), [("EPERM before Landlock is asked", False)])
+
+    def test_calls_that_a_supervisor_lets_continue(self) -> None:
+        begin, end = "seccomp(0x1 /* SECCOMP_SET_MODE_FILTER */, ", ", {len=4, filter=0x7f}) = "
+        listens = "0x8 /* SECCOMP_FILTER_FLAG_NEW_LISTENER */"
+        self.assert_hole(beyond.BY_SUPERVISOR, f"{begin}{listens}{end}5")
+        self.convert(f"{begin}0{end}0", f"{begin}{listens}{end}{EINVAL}", "seccomp(0, 0x8, NULL) = 0")
+        self.assertEqual(self.unsaid(), [])
+
     def test_what_fanotify_opens(self) -> None:
         self.assert_hole(beyond.BY_FANOTIFY, "fanotify_init(0 /* FAN_CLASS_NOTIF */, 0) = 3<anon_inode:[fanotify]>")
         named = "fanotify_init(0 /* FAN_CLASS_NOTIF */|0x200 /* FAN_REPORT_FID */, 0) = 3<anon_inode:[fanotify]>"

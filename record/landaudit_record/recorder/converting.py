@@ -3,6 +3,7 @@
 from __future__ import annotations
 
 from pathlib import Path
+from typing import Any
 
 from ..finished import Converted
 from ..problems import Problem
@@ -93,10 +94,15 @@ def _started(scene: Scene, about: About, call: Call) -> Thread:
         scene.leave_out(thread, call, NOT_SEEN_TO_START, asks=True)
     scene.start(thread, call, nnp=about.nnp, admin=about.admin)
     for number, known in about.descriptors.items():
-        handle = Handle(known["path"], adopted=known["kind"] or "other")
+        handle = Handle(known["path"], adopted=known["kind"], tcp=known.get("tcp"), foreign=_is_unknown(known))
         process.table[int(number)] = handle
         scene.adopt(thread, call, int(number), handle)
     return thread
+
+
+def _is_unknown(given: dict[str, Any]) -> bool:
+    """Whether a descriptor may be a TCP socket for all that is known of it, as older recordings know it."""
+    return given["kind"] == "other" and given["path"] is None and "tcp" not in given
 
 
 def _take_end(scene: Scene, ended: Ended) -> None:

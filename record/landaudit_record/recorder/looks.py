@@ -11,10 +11,10 @@ from dataclasses import dataclass
 #: Calls that look at an object or change it; some of them are unknown to some machines, or to some versions of strace.
 LOOKS = frozenset(
     """
-    stat lstat newfstatat fstatat64 statx access faccessat faccessat2 statfs
+    stat lstat newfstatat statx access faccessat faccessat2 statfs stat64 lstat64 fstatat64 oldstat oldlstat statfs64
     getxattr lgetxattr listxattr llistxattr setxattr lsetxattr removexattr lremovexattr
     getxattrat listxattrat setxattrat removexattrat file_getattr file_setattr
-    chmod fchmodat fchmodat2 chown lchown fchownat utime utimes futimesat utimensat
+    chmod fchmodat fchmodat2 chown lchown fchownat chown32 lchown32 utime utimes futimesat utimensat utimensat_time64
     inotify_add_watch fanotify_mark quotactl fspick mount_setattr
     """.split()
 )

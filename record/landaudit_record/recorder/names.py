@@ -357,7 +357,7 @@ class _Walk:
     ) -> None:
         self._names = names
         self._links = links
-        self._top = split(root)
+        self._top = list(split(root))
         self._here = list(self._top if path.startswith("/") else split(directory))
         self._left = list(reversed(split(path)))
         self._follows_last = follow or path.endswith("/")
@@ -374,7 +374,7 @@ class _Walk:
             name = self._left.pop()
             if name == "..":
                 self._keeps = self._keeps and self._is_in_directory()
-                self._go_to(self._here[: max(len(self._here) - 1, len(self._top))])
+                self._go_to(self._here if self._here == self._top else self._here[:-1])
             elif self._node is None or self._node.kind != "dir" or not self._step(self._node, name):
                 names = [*self._here, name, *reversed(self._left)]
                 if self._keeps and self._node is not None:

@@ -16,7 +16,8 @@ class Handle:
     `node` is the object that it is open on, if that has a path and is known. `in_trace` says whether a record opened
     or adopted it; `adopted` is the kind with which it is adopted when it is first needed; `ruleset` says whether it is
     a Landlock ruleset; `tcp` is the family of a TCP socket. `foreign` says that the process did not open it, so nobody
-    knows what Landlock kept with it; `placeless` says that it is in a mount that has no place in the tree.
+    knows what Landlock kept with it; `placeless` says that it is in a mount that has no place in the tree, `unsure`
+    that nothing says whether it is open on a device.
     """
 
     path: str | None = None
@@ -28,6 +29,7 @@ class Handle:
     tcp: int | None = None
     foreign: bool = False
     placeless: bool = False
+    unsure: bool = False
 
     def copy(self) -> Handle:
         """The same for another number or process; a fork copies all, and `dataclasses.replace` takes long."""
@@ -41,6 +43,7 @@ class Handle:
             self.tcp,
             self.foreign,
             self.placeless,
+            self.unsure,
         )
 
     def duplicate(self, *, close_on_exec: bool) -> Handle:
@@ -64,7 +67,7 @@ class Process:
 
     `confined` says whether it has a layer, or may have one; `restricted` are the rulesets of its restrictions; `maker`
     is the process that forked it; `threaded` says whether it has or had several threads, `looks` whether it is
-    counted as one that looks at others in /proc.
+    counted as one that looks at others in /proc; `unseen_layer` says that it has a layer of which nothing is known.
     """
 
     pid: int
@@ -77,6 +80,7 @@ class Process:
     maker: Process | None = None
     threaded: bool = False
     looks: bool = False
+    unseen_layer: bool = False
 
     def made_up(self) -> int:
         """A number that no descriptor of the process ever has."""

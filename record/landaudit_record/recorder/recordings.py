@@ -5,6 +5,7 @@ from __future__ import annotations
 import ctypes
 import json
 import os
+import socket
 import stat
 from dataclasses import asdict, dataclass, field
 from pathlib import Path
@@ -33,8 +34,8 @@ class About:
     """How a recording was made.
 
     `started` is the time at which the run began (seconds since 1970), `watched` the directories that were listed before
-    it, `descriptors` those that the command was given, with the kind as which a trace adopts each and its path, `admin`
-    and `nnp` what the first process had, `errata` the errata of Landlock that the kernel has fixed, the first as bit 0.
+    it, `descriptors` those that the command was given, each with the kind as which a trace adopts it, its path, and the
+    family of a TCP socket; `admin` and `nnp` are what the first process had, `errata` the errata of Landlock that the kernel has fixed, the first as bit 0.
     `uid` and `groups` are those of the command, `uid` only if the command has no privilege that overrides file modes.
     `ended` says that the tracer ended by itself, so that the log is complete; it is set after the run. `looks` says
     that calls which only look at an object and calls which send signals were traced, `readlink` that calls which read
@@ -47,7 +48,7 @@ class About:
     started: float
     admin: bool
     nnp: bool
-    descriptors: dict[str, dict[str, str | None]]
+    descriptors: dict[str, dict[str, Any]]
     watched: list[str] = field(default_factory=list)
     strace: str = ""
     kernel: str = ""
@@ -103,9 +104,9 @@ def policy_of(folder: Path) -> Path | None:
     return file if file.is_file() else None
 
 
-def standard_descriptors() -> dict[str, dict[str, str | None]]:
-    """The kinds and paths of standard input, output and error of this process."""
-    found: dict[str, dict[str, str | None]] = {}
+def standard_descriptors() -> dict[str, dict[str, Any]]:
+    """The kinds and paths of standard input, output and error of this process, and the families of TCP sockets."""
+    found: dict[str, dict[str, Any]] = {}
     for number in range(3):
         try:
             status = os.fstat(number)
@@ -115,7 +116,16 @@ def standard_descriptors() -> dict[str, dict[str, str | None]]:
         kinds = {stat.S_IFREG: "reg", stat.S_IFCHR: "device", stat.S_IFBLK: "device"}
         kind = kinds.get(stat.S_IFMT(status.st_mode), "other")
         found[str(number)] = {"kind": kind, "path": path if path.startswith("/") else None}
+        if stat.S_ISSOCK(status.st_mode):
+            found[str(number)]["tcp"] = _tcp(number)
     return found
+
+
+def _tcp(number: int) -> int | None:
+    """The family of a TCP socket over IPv4 or IPv6; None for any other socket."""
+    with socket.socket(fileno=os.dup(number)) as one:
+        is_tcp = one.type == socket.SOCK_STREAM and one.proto == socket.IPPROTO_TCP
+        return int(one.family) if is_tcp and one.family in (socket.AF_INET, socket.AF_INET6) else None
 
 
 def errata() -> int:

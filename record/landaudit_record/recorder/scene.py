@@ -30,11 +30,18 @@ MOST_ENDED = 1_024
 PROC = "proc"
 #: What /proc has of each process is what it has of the one that looks (proc(5)).
 OWN_FILES = "/proc/self"
+#: A ruleset, as strace names the target of its descriptor.
+RULESET = "anon_inode:[landlock-ruleset]"
 NO_PATH = "a file without a path"
+BY_UNSEEN_LAYER = "a call that a layer of an unknown ruleset may have refused"
+ERRORS_OF_LAYERS = frozenset({"EACCES", "EPERM", "EXDEV"})
 SHARED_TABLE = "a descriptor table that two processes share"
+DEVICES = ("char", "block")
+#: A terminal that a program makes, which is gone when the run has ended (pts(4)).
+_TERMINAL = re.compile(r"/dev/pts/\d+")
 #: The class of EACCES in a process without layers, and of EACCES that the mode of an object explains.
 BY_MODES = "EACCES by file modes, whatever a policy says"
-_OF_PROCESS = re.compile(r"/proc/(\d+)(?:/task/\d+)?/(fd/(\d+)|exe|cwd|root|(?:map_files|ns)/[^/]+)")
+_OF_PROCESS = re.compile(r"/proc/(\d+)(?:/task/(\d+))?/(?:fd/(\d+)|(exe|cwd|root)|(?:map_files|ns)/[^/]+)")
 
 
 @dataclass(slots=True)
@@ -135,6 +142,8 @@ class Scene:
             raise CannotSay("a call of a thread with fewer layers than its process")
         if error == "EACCES" and (not process.confined or self._modes_refuse(call, op, members)):
             raise NotAsked(BY_MODES)
+        if process.unseen_layer and error in ERRORS_OF_LAYERS:
+            raise CannotSay(BY_UNSEEN_LAYER)
         self.recording.add(op, process.pid, call.line, error or "ok", members)
 
     def _modes_refuse(self, call: Call, op: str, members: Members) -> bool:
@@ -256,8 +265,25 @@ class Scene:
         self.put(thread, call, of.number, handle)
         return handle
 
+    def device(self, of: Descriptor) -> str | None:
+        """The kind of the device that a descriptor is open on, if it is open on one, as far as that is known.
+
+        strace is not asked: it would look at the object, and wait for a traced process that serves its file system.
+        """
+        if of.device is not None or of.path is None:
+            return of.device
+        node = self.names.at(of.path)
+        kind = node.kind if node is not None else "char" if _TERMINAL.fullmatch(of.path) else None
+        return kind if kind in DEVICES else None
+
+    def is_unsure(self, of: Descriptor) -> bool:
+        """Whether nothing says if a descriptor is open on a device: neither the log nor the disk knows its path."""
+        if of.path is None or of.in_memory or self.device(of) is not None:
+            return False
+        return self.names.at(of.path) is None and self.disk.look(of.path) is None
+
     def _kind(self, of: Descriptor) -> str:
-        if of.device is not None:
+        if self.device(of) is not None:
             return "device"
         if of.path is None:
             return "other"
@@ -329,6 +355,7 @@ class Scene:
             confined=maker.process.confined,
             restricted=list(maker.process.restricted),
             maker=maker.process,
+            unseen_layer=maker.process.unseen_layer,
         )
         process.table = {number: handle.copy() for number, handle in maker.process.table.items()}
         process.next_made_up = maker.process.next_made_up
@@ -354,6 +381,8 @@ class Scene:
         own = f"/proc/{thread.process.pid}"
         if len(thread.process.threads) == 1:
             self.names.put(own, Node("dir", origin=OWN_FILES))
+        elif thread.tid != thread.process.pid:
+            self.names.put(f"/proc/{thread.tid}", Node("dir", origin=OWN_FILES))
         self.names.put(f"{own}/task/{thread.tid}", Node("dir", origin=OWN_FILES))
 
     def start(self, thread: Thread, call: Call, *, nnp: bool, admin: bool) -> None:
@@ -369,6 +398,8 @@ class Scene:
             return
         process = thread.process
         process.threads.discard(tid)
+        if tid != process.pid:
+            self.names.put(f"/proc/{tid}", None)
         if self.have_ended(process.threads) and self.processes.get(process.pid) is process:
             del self.processes[process.pid]
             self._keep_ended(process)
@@ -384,13 +415,13 @@ class Scene:
 
 
 def _is_foreign(of: Descriptor) -> bool:
-    """Whether a descriptor has rights that Landlock gave it elsewhere: a socket, or a file that was opened.
+    """Whether it matters for Landlock where a descriptor comes from: a socket, a ruleset, or a file that was opened.
 
     Memfds, pipes and the like are never refused (memfd_create(2), pipe(2)).
     """
     if of.path is not None:
         return not of.in_memory
-    return of.behind is not None and of.behind.startswith("socket:")
+    return of.behind is not None and (of.behind.startswith("socket:") or of.behind == RULESET)
 
 
 @dataclass(slots=True)
@@ -417,20 +448,21 @@ class ThreadLinks:
         if link is None:
             return None
         self.scene.through.add(int(link[1]))
-        process = self.scene.processes.get(int(link[1]))
-        return self._of_process(process, link[2], link[3]) if process else None
+        named = self.scene.threads.get(int(link[2] or link[1]))
+        return self._of_thread(named, link[4], link[3]) if named is not None else None
 
-    def _of_process(self, process: Process, name: str, number: str | None) -> tuple[str, Node | None] | None:
+    def _of_thread(self, named: Thread, name: str | None, number: str | None) -> tuple[str, Node | None] | None:
+        """Where a link of a thread leads: what is its own is not its reader's."""
         match name:
             case "exe":
-                return (process.program, None) if process.program else None
+                return (named.process.program, None) if named.process.program else None
             case "cwd":
-                return self.thread.place.directory, None
+                return named.place.directory, None
             case "root":
-                return self.thread.place.root, None
+                return named.place.root, None
         if number is None:
             return None
-        handle = process.table.get(int(number))
+        handle = named.process.table.get(int(number))
         if handle is None:
             raise CannotSay("a file by a descriptor of which nothing is known")
         if handle.path is None:

@@ -24,7 +24,7 @@ from .unsaid import NotUnderstood
 from ..problems import Problem
 
 #: Calls that take effect at their beginning: they free numbers, or look up what a number stands for.
-AT_BEGINNING = frozenset({"close", "close_range", "ftruncate", "ioctl"})
+AT_BEGINNING = frozenset({"close", "close_range", "ftruncate", "ftruncate64", "ioctl"})
 _BEGINNINGS = tuple(f"{name}(" for name in sorted(AT_BEGINNING))
 #: The ends of the first half of a call; the second is for a thread that is not the leader and runs a program.
 UNFINISHED = " <unfinished ...>"

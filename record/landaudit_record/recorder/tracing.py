@@ -27,14 +27,16 @@ SETS_NO_NEW_PRIVS = True
 #: a process only if it keeps the signal.
 HARMLESS_SIGNALS = ("SIGCHLD", "SIGCONT", "SIGURG", "SIGWINCH")
 
-#: The calls that a conversion reads; `?` before a name that a strace may not know.
+#: The calls that a conversion reads; `?` before a name that a strace, or a machine, may not know.
 CALLS = """
 execve execveat clone clone3 fork vfork unshare setns chdir fchdir chroot
-open openat ?openat2 creat close ?close_range dup dup2 dup3 fcntl socket bind connect ioctl ftruncate truncate
+open openat ?openat2 creat close ?close_range dup dup2 dup3 fcntl ?fcntl64 socket bind connect ioctl
+ftruncate ?ftruncate64 truncate ?truncate64
 mknod mknodat mkdir mkdirat symlink symlinkat unlink unlinkat rmdir rename renameat renameat2 link linkat
-mount umount2 pivot_root ?move_mount ?fsconfig ?fsmount ?open_tree ?open_tree_attr prctl
+mount ?umount umount2 pivot_root ?move_mount ?fsconfig ?fsmount ?open_tree ?open_tree_attr prctl
 ?landlock_create_ruleset ?landlock_add_rule ?landlock_restrict_self
-?io_uring_setup ?io_uring_enter name_to_handle_at open_by_handle_at swapon acct ?uselib fanotify_init ?bpf mq_open
+?io_uring_setup ?io_uring_enter name_to_handle_at open_by_handle_at swapon swapoff acct
+?uselib fanotify_init ?bpf mq_open ?seccomp
 sendto sendmsg sendmmsg
 ptrace process_vm_readv process_vm_writev kcmp ?move_pages ?migrate_pages ?get_robust_list perf_event_open
 ?process_madvise ?pidfd_getfd
@@ -43,8 +45,8 @@ kill tkill tgkill rt_sigqueueinfo ?rt_tgsigqueueinfo ?pidfd_send_signal
 
 #: Calls of which only the flags are read: their data stay out of the log.
 UNDECODED = ("sendto", "sendmsg", "sendmmsg")
-#: Calls whose results are long: these stay out of the log.
-BRIEF = ("stat", "lstat", "newfstatat", "fstatat64", "statx", "statfs")
+#: Calls with long structures: these stay out of the log.
+BRIEF = ("stat", "lstat", "newfstatat", "statx", "statfs", "stat64", "lstat64", "fstatat64", "statfs64", "seccomp")
 
 #: The time that a command has to end before it is killed, in seconds.
 PATIENCE = 5.0
@@ -81,7 +83,7 @@ def command_line(log: Path, command: list[str], *, readlink: bool = False) -> li
         "--seccomp-bpf",
         "--quiet=attach,personality",
         "--const-print-style=verbose",
-        "--decode-fds=path,dev,pidfd",
+        "--decode-fds=path,pidfd",
         "--decode-pids=pidns",
         f"--raw={','.join(UNDECODED)}",
         f"--signal=!{','.join(HARMLESS_SIGNALS)}",

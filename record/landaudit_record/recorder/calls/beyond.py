@@ -1,7 +1,7 @@
 """Calls for which the kernel asks Landlock in ways that a trace can't express, or only in part.
 
-Some can be written: the file that the kernel opens for swapon(2) or acct(2), and a file that is opened by a handle
-whose path was seen. The others are counted.
+Some can be written: the file that the kernel opens for swapon(2), swapoff(2) or acct(2), and a file that is opened by a
+handle whose path was seen. The others are counted.
 """
 
 from __future__ import annotations
@@ -18,12 +18,14 @@ IORING_SETUP_SQPOLL = 2
 SWAP_FLAGS = 0x7FFFF
 BPF_OBJ_PIN = 6
 MSG_FASTOPEN = 0x20000000
+SECCOMP_SET_MODE_FILTER, SECCOMP_FILTER_FLAG_NEW_LISTENER = 1, 8
 FAN_REPORT_FID, FAN_REPORT_DIR_FID = 0x200, 0x400
 
 BY_IO_URING = "calls that io_uring makes"
 BY_HANDLE = "a file that is opened by its handle"
 BY_FANOTIFY = "files that fanotify opens for its events"
 BY_SENDING = "a connection that a send opens (MSG_FASTOPEN)"
+BY_SUPERVISOR = "calls that a supervisor may let the kernel make unseen (seccomp_unotify)"
 QUEUE = "a message queue that mq_open opens"
 PINNED = "an object that bpf gives a name"
 LIBRARY = "a library that uselib loads"
@@ -64,10 +66,9 @@ def _open_by_handle_at(scene: Scene, thread: Thread, call: Call) -> None:
         raise CannotSay(BY_HANDLE)
     flags = arguments.number_at(call, 2)
     if call.ok and call.value is not None:
-        device = node.kind if node.kind in ("char", "block") else None
         handle_at = Handle(path, close_on_exec=bool(flags & opening.O_CLOEXEC))
         scene.put(thread, call, call.value, handle_at)
-        opening.succeeded(scene, thread, call, Descriptor(call.value, path, device), flags)
+        opening.succeeded(scene, thread, call, Descriptor(call.value, path), flags)
     elif not flags & opening.O_PATH and flags & opening.ACCESS_MODE < len(opening.MODES):
         mode = opening.MODES[flags & opening.ACCESS_MODE]
         _opened_and_closed(scene, thread, call, scene.there(path, node), mode)
@@ -84,6 +85,13 @@ def _opened_and_closed(scene: Scene, thread: Thread, call: Call, spot: Spot, mod
 def _swapon(scene: Scene, thread: Thread, call: Call) -> None:
     """The kernel opens the file or device that it swaps to, for reading and writing."""
     if call.error == "EPERM" or (call.error == "EINVAL" and arguments.number_at(call, 1) & ~SWAP_FLAGS):
+        raise NotAsked(f"{call.error} before Landlock is asked")
+    _opened_inside(scene, thread, call, "rw")
+
+
+def _swapoff(scene: Scene, thread: Thread, call: Call) -> None:
+    """The kernel opens the file or device that it stops to swap to."""
+    if call.error == "EPERM":
         raise NotAsked(f"{call.error} before Landlock is asked")
     _opened_inside(scene, thread, call, "rw")
 
@@ -124,6 +132,13 @@ def _uselib(scene: Scene, thread: Thread, call: Call) -> None:
         raise CannotSay(LIBRARY)
 
 
+def _seccomp(scene: Scene, thread: Thread, call: Call) -> None:
+    """A filter with a listener: calls that its supervisor lets continue are made past the filter of strace."""
+    is_filter = arguments.number_at(call, 0) == SECCOMP_SET_MODE_FILTER
+    if call.ok and is_filter and arguments.number_at(call, 1) & SECCOMP_FILTER_FLAG_NEW_LISTENER:
+        raise CannotSay(BY_SUPERVISOR)
+
+
 def _sent(scene: Scene, thread: Thread, call: Call, flags: int) -> None:
     if not arguments.number_at(call, flags) & MSG_FASTOPEN:
         return
@@ -146,9 +161,11 @@ HANDLERS = {
     "name_to_handle_at": _name_to_handle_at,
     "open_by_handle_at": _open_by_handle_at,
     "swapon": _swapon,
+    "swapoff": _swapoff,
     "acct": _acct,
     "fanotify_init": _fanotify_init,
     "mq_open": _mq_open,
+    "seccomp": _seccomp,
     "bpf": _bpf,
     "uselib": _uselib,
     "sendto": _sendto,

@@ -29,11 +29,13 @@ SOCK_STREAM, SOCK_TYPE = 1, 0xF
 IPPROTO_TCP = 6
 TIOCGPTPEER = 0x5441
 
+FIOCLEX, FIONCLEX = 0x5451, 0x5450
+
 #: Commands that the kernel allows on a device whatever the policy is (docs/FORMATS.md).
 LET_THROUGH = frozenset(
     {
-        0x5451,  # FIOCLEX
-        0x5450,  # FIONCLEX
+        FIOCLEX,
+        FIONCLEX,
         0x5421,  # FIONBIO
         0x5452,  # FIOASYNC
         0x5460,  # FIOQSIZE
@@ -52,6 +54,7 @@ _PORT = re.compile(r"htons\((\d+)\)")
 _PORT_AND_ADDRESS = 6
 OWN_TABLE = "a thread with a descriptor table of its own"
 OTHER_FAMILY = "an address of another family than the socket's"
+MAY_BE_A_DEVICE = "an ioctl on an object of which nothing says whether it is a device"
 FOREIGN = "a descriptor that came from elsewhere: what Landlock kept with it is not known"
 
 
@@ -150,9 +153,17 @@ def _on_port(scene: Scene, thread: Thread, call: Call, op: str) -> None:
     if handle.foreign and _family(call) in (AF_INET, AF_INET6):
         raise CannotSay("a port of a socket that came from elsewhere")
     if handle.tcp is not None:
+        handle.tcp = _family_now(call, handle.tcp)
         port = _port(call, handle.tcp, op)
         if port is not None:
             scene.say(thread, call, op, port=port)
+
+
+def _family_now(call: Call, family: int) -> int:
+    """The family of a socket, which becomes IPv4 by IPV6_ADDRFORM: else it takes no address of that family (ipv6(7))."""
+    if _family(call) == AF_INET and call.error not in ("EINVAL", "EAFNOSUPPORT"):
+        return AF_INET
+    return family
 
 
 def _port(call: Call, family: int, op: str) -> int | None:
@@ -183,11 +194,15 @@ def _port_without_family(address: str) -> int:
 def _ioctl(scene: Scene, thread: Thread, call: Call) -> None:
     of = values.descriptor(call.arguments[0])
     handle = scene.handle(thread, call, of)
+    command = arguments.number_at(call, 1) & 0xFFFFFFFF
+    if handle is not None and call.ok and command in (FIOCLEX, FIONCLEX):
+        handle.close_on_exec = command == FIOCLEX
     if handle is None or call.error == "EBADF" or (not handle.in_trace and handle.adopted == "other"):
         return
-    command = arguments.number_at(call, 1) & 0xFFFFFFFF
     if handle.foreign and handle.adopted == "device" and command not in LET_THROUGH:
         raise CannotSay(FOREIGN)
+    if handle.unsure and command not in LET_THROUGH:
+        raise CannotSay(MAY_BE_A_DEVICE)
     scene.adopt(thread, call, of.number, handle)
     scene.say(thread, call, "ioctl", fd=of.number, driver=command not in LET_THROUGH)
     if command == TIOCGPTPEER and call.ok:
@@ -220,9 +235,11 @@ HANDLERS = {
     "dup2": _dup,
     "dup3": _dup3,
     "fcntl": _fcntl,
+    "fcntl64": _fcntl,
     "socket": _socket,
     "bind": _bind,
     "connect": _connect,
     "ioctl": _ioctl,
     "ftruncate": _ftruncate,
+    "ftruncate64": _ftruncate,
 }

@@ -125,6 +125,7 @@ HANDLERS = {
     "rmdir": _rmdir,
     "unlinkat": _unlinkat,
     "truncate": _truncate,
+    "truncate64": _truncate,
     "chdir": _chdir,
     "fchdir": _fchdir,
     "chroot": _chroot,

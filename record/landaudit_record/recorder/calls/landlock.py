@@ -17,6 +17,9 @@ RULE_NET_PORT = 2
 #: The sizes of landlock_ruleset_attr: with rights for files (ABI 1), for ports (ABI 4), with scopes (ABI 6).
 SIZES = (8, 16, 24)
 
+#: What stands for a ruleset of which nothing is known, in the layers of a process.
+UNSEEN = -1
+FOREIGN_RULESET = "a layer of a ruleset that came from elsewhere"
 NOT_DECODED = " (strace before 6.7 does not decode it: see --port-rules)"
 
 
@@ -77,7 +80,15 @@ def _ruleset(scene: Scene, thread: Thread, call: Call, flags: int) -> int:
     return number if number >= 0 else thread.process.made_up()
 
 
+def _is_foreign(scene: Scene, thread: Thread, call: Call) -> bool:
+    """Whether the ruleset of a call was not made by the process, nor by one that it was forked from."""
+    handle = scene.handle(thread, call, values.descriptor(call.arguments[0]))
+    return handle is not None and handle.foreign
+
+
 def _add_rule(scene: Scene, thread: Thread, call: Call) -> None:
+    if _is_foreign(scene, thread, call):
+        raise NotAsked("a rule of a ruleset that came from elsewhere")
     number = _ruleset(scene, thread, call, 3)
     kind = arguments.number_at(call, 1)
     if call.error == "EFAULT":
@@ -119,6 +130,8 @@ def _add_port(scene: Scene, thread: Thread, call: Call, number: int) -> None:
 
 def _restrict_self(scene: Scene, thread: Thread, call: Call) -> None:
     thread.process.confined |= call.ok
+    if _is_foreign(scene, thread, call):
+        _restricted_unseen(thread, call)
     number = _ruleset(scene, thread, call, 1)
     restricted = thread.process.restricted
     if call.ok and thread.layers < len(restricted):
@@ -130,6 +143,15 @@ def _restrict_self(scene: Scene, thread: Thread, call: Call) -> None:
     if call.ok:
         restricted.append(number)
         thread.layers += 1
+
+
+def _restricted_unseen(thread: Thread, call: Call) -> None:
+    """A thread has a layer of which nothing is known; its number stands for no ruleset of the trace."""
+    if call.ok:
+        thread.process.unseen_layer = True
+        thread.process.restricted.append(UNSEEN)
+        thread.layers += 1
+    raise _unsaid(call, FOREIGN_RULESET)
 
 
 def _prctl(scene: Scene, thread: Thread, call: Call) -> None:

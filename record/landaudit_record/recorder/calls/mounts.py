@@ -120,6 +120,7 @@ def _setns(scene: Scene, thread: Thread, call: Call) -> None:
 
 HANDLERS = {
     "mount": _mount,
+    "umount": _umount,
     "umount2": _umount,
     "pivot_root": _pivot_root,
     "move_mount": _move_mount,

@@ -83,15 +83,16 @@ def succeeded(
     """
     handle = thread.process.table[result.number]
     if result.path is None or flags & O_PATH:
-        handle.adopted = "device" if result.device and not flags & O_PATH else "other"
+        handle.adopted = "other"
         handle.node = gone or (scene.names.at(result.path) if result.path is not None else None)
         return
     if result.in_memory:
         handle.adopted = "reg"
         return
     if flags & ACCESS_MODE == ACCESS_MODE:
-        handle.adopted = "device" if result.device else "other"
+        handle.adopted = "device" if scene.device(result) else "other"
         raise NotAsked("an open for ioctl alone (access mode 3)")
+    handle.unsure = not gone and not flags & (O_CREAT | O_DIRECTORY) and scene.is_unsure(result)
     spot, made = (scene.there(result.path, gone), False) if gone else _opened_spot(scene, result.path, result, flags)
     _say_open(scene, thread, call, spot, result.number, flags, made)
     handle.in_trace = True
@@ -106,10 +107,10 @@ def _opened_spot(scene: Scene, path: str, result: Descriptor, flags: int) -> tup
     node = scene.names.at(path)
     if flags & O_TMPFILE == O_TMPFILE:
         return _without_name(scene, path), False
+    if not flags & O_EXCL and (device := scene.device(result)) is not None:
+        return scene.present(path, device), False
     if flags & O_CREAT and (node is None or flags & O_EXCL):
         return (scene.missing(path) if node is None else scene.absent(path)), True
-    if result.device is not None:
-        return scene.present(path, result.device), False
     if flags & O_DIRECTORY:
         return scene.present(path, "dir"), False
     if node is not None:

@@ -59,11 +59,13 @@ def _each(way: Way, names: str) -> dict[str, tuple[Way, ...]]:
 #: The paths of each call by its name.
 WAYS: dict[str, tuple[Way, ...]] = {
     **_each(_FOLLOWED, "stat access statfs getxattr listxattr setxattr removexattr chmod chown utime utimes"),
-    **_each(_FOLLOWED, "creat truncate execve chdir chroot swapon acct uselib"),
+    **_each(_FOLLOWED, "stat64 oldstat statfs64 chown32 truncate64"),
+    **_each(_FOLLOWED, "creat truncate execve chdir chroot swapon swapoff acct uselib"),
     **_each(_NAMED, "lstat readlink lgetxattr llistxattr lsetxattr lremovexattr lchown mknod mkdir unlink rmdir"),
+    **_each(_NAMED, "lstat64 oldlstat lchown32"),
     **_each(_at(), "faccessat fchmodat futimesat openat2"),
     **_each(_at(2), "statx getxattrat listxattrat setxattrat removexattrat mount_setattr open_tree open_tree_attr"),
-    **_each(_at(3), "newfstatat fstatat64 faccessat2 fchmodat2 utimensat"),
+    **_each(_at(3), "newfstatat fstatat64 faccessat2 fchmodat2 utimensat utimensat_time64"),
     **_each(_at(4), "fchownat file_getattr file_setattr execveat"),
     **_each(Way(0, 1, follows=False), "readlinkat mknodat mkdirat unlinkat"),
     "open": (Way(None, 0, True, 1, opening.O_NOFOLLOW),),
@@ -81,6 +83,7 @@ WAYS: dict[str, tuple[Way, ...]] = {
     "link": (_NAMED, Way(None, 1, follows=False)),
     "linkat": (Way(0, 1, False, 4, arguments.AT_SYMLINK_FOLLOW), Way(2, 3, follows=False)),
     "mount": (_FOLLOWED, Way(None, 1)),
+    "umount": (_FOLLOWED,),
     "umount2": (Way(None, 0, True, 1, _UMOUNT_NOFOLLOW),),
     "pivot_root": (_FOLLOWED, Way(None, 1)),
     "move_mount": (Way(0, 1, False, 4, _MOVE_MOUNT_F_SYMLINKS), Way(2, 3, False, 4, _MOVE_MOUNT_T_SYMLINKS)),
