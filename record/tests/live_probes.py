@@ -16,7 +16,7 @@ from pathlib import Path
 from typing import Any
 
 from landaudit_record.jsonl import numbered
-from landaudit_record.recorder.calls import beyond, descriptors, landlock, mounts, others
+from landaudit_record.recorder.calls import beyond, descriptors, landlock, mounts, others, programs
 from landaudit_record.recorder.converting import CORE_FILE
 from landaudit_record.recorder.scene import BY_UNSEEN_LAYER
 
@@ -68,6 +68,7 @@ EXPECTED = {
     "mounts": _of("mount, pivot_root, fsconfig", "mount"),
     "detached": _of("open in a new mount", holes=(mounts.WITHOUT_PLACE,)),
     "namespaces": _of("open given", "open"),
+    "untraced": _of(holes=(programs.NOT_FOLLOWED,)),
     "thirty_two": _of("truncate64, ftruncate64", "truncate, ftruncate"),
     "supervised": _of("mkdir", holes=(beyond.BY_SUPERVISOR,)),
     "places": _of(
@@ -154,6 +155,7 @@ class LiveProbes(unittest.TestCase):
                 audit = self.said("audit", str(self.folder / "bare"), "--policy", str(self.policy), "--abi", "5")
                 confined = self.record(name, "confined", *self.confine)
                 self.assertEqual(self.met(bare, confined), expected.met)
+                self.assertNotIn("cut", str(audit["not_judged"]))
                 ops = {refusal["call"].split(" ")[0] for refusal in audit["refusals"]}
                 self.assertLessEqual(expected.foretold, ops)
                 self.assertEqual(self.holes("bare"), expected.holes)

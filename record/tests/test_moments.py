@@ -5,6 +5,7 @@ from __future__ import annotations
 import unittest
 
 from landaudit_record import jsonl
+from landaudit_record.recorder.calls import programs
 
 from .written_logs import CWD, THREAD, WrittenLogs, told
 
@@ -137,6 +138,12 @@ class Namespaces(WrittenLogs):
 class Ends(WrittenLogs):
     def test_a_log_that_tells_the_end_of_every_thread_is_whole(self) -> None:
         self.assertTrue(self.conversion("fork() = 11", "11  +++ exited with 0 +++", "+++ exited with 0 +++").ended)
+
+    def test_a_child_that_strace_cannot_follow_cuts_no_log(self) -> None:
+        for flags in ("0x800000 /* CLONE_UNTRACED */|17 /* SIGCHLD */", "0x810f00 /* CLONE_VM|CLONE_THREAD|CLONE_UNTRACED */"):
+            done = self.conversion(f"clone(child_stack=NULL, flags={flags}) = 11", "10  +++ exited with 0 +++")
+            self.assertTrue(done.ended)
+            self.assertEqual(self.unsaid(), [(programs.NOT_FOLLOWED, True)])
 
     def test_a_log_in_which_a_process_goes_on_is_cut(self) -> None:
         self.assertFalse(self.conversion("fork() = 11", "+++ exited with 0 +++").ended)

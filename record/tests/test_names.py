@@ -152,6 +152,13 @@ class Paths(unittest.TestCase):
         self.assertEqual(getattr(names.at("/w/gone"), "kind", None), "fifo")
         self.assertIsNone(names.at("/w/moved"))
 
+    def test_what_was_not_listed_in_a_watched_directory_is_as_the_disk_says(self) -> None:
+        before = {"/w": Seen("dir"), "/w/moved": Seen("dir")}
+        for unlisted, expected in (([], None), (["/w/moved"], "reg")):
+            names = Names(Disk(0.0, DISK), before, ["/"], unlisted=unlisted)
+            self.assertEqual(getattr(names.at("/w/moved/in"), "kind", None), expected)
+            self.assertIsNone(names.at("/usr"))
+
 
 if __name__ == "__main__":
     unittest.main()

@@ -35,6 +35,54 @@ class Running(unittest.TestCase):
         self.assertEqual((status, self.out.exists()), (2, False))
         self.assertEqual(error, f"landaudit-record: --watch {self.folder}: it can't be read\n")
 
+    def test_a_folder_is_not_made_with_the_directories_above_it(self) -> None:
+        status, error = said("run", str(self.out / "deep"), "--", "ls")
+        self.assertEqual((status, self.out.exists()), (2, False))
+        self.assertEqual(error, f"landaudit-record: there is no directory {self.out} for deep: make it first\n")
+
+    def listed(self, *words: str) -> list[str]:
+        """The directories that a run lists."""
+        with mock.patch.object(recordings, "watch", side_effect=KeyboardInterrupt) as watch:
+            said("run", str(self.out), *words, "--", "ls")
+        return list(watch.call_args.args[1])
+
+    def test_the_root_is_listed_as_any_directory(self) -> None:
+        here = os.getcwd()
+        self.assertEqual(self.listed("--watch", "/"), ["/", here])
+        self.assertEqual(self.listed("--watch", "/", "--watch", "."), ["/", here])
+        self.addCleanup(os.chdir, here)
+        os.chdir("/")
+        self.assertEqual(self.listed(), ["/"])
+
+    def test_a_working_directory_that_cannot_be_looked_at_is_told_and_not_taken_for_empty(self) -> None:
+        with mock.patch.object(os, "getcwd", return_value="/closed"):
+            self.assertEqual(self.listed(), ["/closed"])
+        self.out.mkdir()
+        with mock.patch.object(os, "scandir", side_effect=PermissionError):
+            seen = recordings.watch(self.out, ["/closed"])
+        self.assertEqual(seen.unread, ["/closed"])
+
+    def test_a_working_directory_that_is_gone_is_an_error(self) -> None:
+        with mock.patch.object(os, "getcwd", side_effect=FileNotFoundError):
+            status, error = said("run", str(self.out), "--", "ls")
+        self.assertEqual((status, error), (2, "landaudit-record: the working directory is gone: change to another one\n"))
+
+    def test_what_the_kernel_shows_of_itself_is_not_listed(self) -> None:
+        for name in ("proc", "a b", "data"):
+            (self.folder / name).mkdir()
+            (self.folder / name / "in").touch()
+        mounts = self.folder / "mountinfo"
+        mounts.write_text(
+            f"22 1 0:21 / {self.folder}/proc rw,nosuid shared:5 - proc proc rw,hidepid=2\n"
+            f"23 1 0:22 / {self.folder}/a\\040b rw - cgroup2 none rw\n"
+            f"24 1 8:1 / {self.folder}/data rw shared:1 master:2 - ext4 /dev/sda1 rw\n"
+        )
+        self.out.mkdir()
+        seen = recordings.watch(self.out, [str(self.folder)], mounts)
+        self.assertEqual(seen.of_kernel, [f"{self.folder}/proc", f"{self.folder}/a b"])
+        listed = {line["path"].removeprefix(f"{self.folder}/") for _, line in jsonl.numbered(self.out / recordings.BEFORE)}
+        self.assertEqual(listed, {"proc", "a b", "data", "data/in", "mountinfo", "rec"})
+
     def test_a_run_that_ends_before_the_program_leaves_no_folder(self) -> None:
         with mock.patch.object(recordings, "watch", side_effect=KeyboardInterrupt):
             status, _ = said("run", str(self.out), "--", "ls")

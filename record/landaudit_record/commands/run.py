@@ -124,9 +124,11 @@ def _converted(folder: Path, arguments: argparse.Namespace) -> None:
 def _made(folder: Path) -> Iterator[Path]:
     """A new folder, which is removed if it can't be filled before the run."""
     try:
-        folder.mkdir(parents=True)
+        folder.mkdir()
     except FileExistsError:
         raise Problem(f"{folder} exists already: name a new folder", USAGE) from None
+    except FileNotFoundError:
+        raise Problem(f"there is no directory {folder.parent} for {folder.name}: make it first", USAGE) from None
     try:
         yield folder.resolve()
     except BaseException:
@@ -134,31 +136,34 @@ def _made(folder: Path) -> Iterator[Path]:
         raise
 
 
-def _watched(folder: Path, directories: list[str]) -> list[str]:
-    """Lists directories before the run, says for which parts that failed, and returns those that were listed."""
+def _watched(folder: Path, directories: list[str]) -> recordings.Watched:
+    """Lists directories before the run, and says for which parts that failed."""
     seen = recordings.watch(folder, directories)
     for directory in seen.too_large:
         convert.say(f"{directory} holds more than {recordings.MOST_WATCHED:,} objects and is not watched")
     for directory in seen.unread:
         convert.say(f"{directory} can't be read: what the command overwrites, moves and removes there is not known")
-    return seen.watched
+    return seen
 
 
 def _directories(named: list[str]) -> list[str]:
-    """The directories to list: those that are named, and the working directory unless it is the root."""
-    chosen: list[str] = []
-    for name in [*named, "."]:
-        path = os.path.realpath(name)
-        if not os.path.isdir(path):
+    """The directories to list: those that are named, and the working directory."""
+    for name in named:
+        if not os.path.isdir(name):
             raise Problem(f"--watch {name}: there is no such directory", USAGE)
-        if name in named and not os.access(path, os.R_OK | os.X_OK):
+        if not os.access(name, os.R_OK | os.X_OK):
             raise Problem(f"--watch {name}: it can't be read", USAGE)
-        if path != "/" and path not in chosen:
-            chosen.append(path)
-    return chosen
+    return list(dict.fromkeys([*(os.path.realpath(name) for name in named), _working_directory()]))
 
 
-def _about(command: list[str], watched: list[str], strace: str, *, readlink: bool) -> recordings.About:
+def _working_directory() -> str:
+    try:
+        return os.getcwd()
+    except FileNotFoundError:
+        raise Problem("the working directory is gone: change to another one", USAGE) from None
+
+
+def _about(command: list[str], seen: recordings.Watched, strace: str, *, readlink: bool) -> recordings.About:
     return recordings.About(
         command=command,
         directory=os.getcwd(),
@@ -166,7 +171,8 @@ def _about(command: list[str], watched: list[str], strace: str, *, readlink: boo
         admin=recordings.is_admin(),
         nnp=tracing.SETS_NO_NEW_PRIVS,
         descriptors=recordings.standard_descriptors(),
-        watched=watched,
+        watched=seen.watched,
+        unlisted=[*seen.unread, *seen.of_kernel],
         strace=strace,
         kernel=os.uname().release,
         errata=recordings.errata(),

@@ -30,7 +30,7 @@ def convert(folder: Path, ports: Ports, limits: Limits = LIMITS) -> Converted:
     about = read_about(folder)
     log = strace_log.find_log(folder)
     kept = disk.kept(folder / OBJECTS, about.started, about.registered)
-    names = Names(kept, read_before(folder), about.watched, about.whiteouts)
+    names = Names(kept, read_before(folder), about.watched, about.whiteouts, about.unlisted)
     with Recording(folder, Tree(names), limits) as recording, Progress("records") as progress:
         births = strace_log.births(log)
         scene = Scene(

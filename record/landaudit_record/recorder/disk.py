@@ -5,7 +5,7 @@ from __future__ import annotations
 import ctypes
 import os
 import stat
-from collections.abc import Sequence
+from collections.abc import Container, Sequence
 from dataclasses import dataclass
 from functools import cache
 from pathlib import Path
@@ -300,10 +300,12 @@ def kept(file: Path, since: float, formats: Sequence[Format] = ()) -> Disk:
     return Disk(since, seen, loaders, modes, formats=formats, heads=heads)
 
 
-def list_below(top: str, limit: int, unread: list[str]) -> list[tuple[str, Seen]] | None:
+def list_below(
+    top: str, limit: int, unread: list[str], without: Container[str] = ()
+) -> list[tuple[str, Seen]] | None:
     """Everything in a directory and below it, or None if there is more than the limit.
 
-    Directories that can't be read are added to `unread`.
+    Directories that can't be read are added to `unread`; what is below those of `without` is not listed.
     """
     found: list[tuple[str, Seen]] = []
     directories = [top]
@@ -318,7 +320,7 @@ def list_below(top: str, limit: int, unread: list[str]) -> list[tuple[str, Seen]
                     found.append((entry.path, seen))
                     if len(found) > limit:
                         return None
-                    if seen.kind == "dir":
+                    if seen.kind == "dir" and entry.path not in without:
                         directories.append(entry.path)
         except OSError:
             unread.append(directory)

@@ -118,11 +118,19 @@ class Names:
     or one of the names in `_breaks` at which walks broke off.
     """
 
-    def __init__(self, disk: Disk, before: dict[str, Seen], watched: list[str], whiteouts: str = "char") -> None:
+    def __init__(
+        self,
+        disk: Disk,
+        before: dict[str, Seen],
+        watched: list[str],
+        whiteouts: str = "char",
+        unlisted: Sequence[str] = (),
+    ) -> None:
         self.whiteouts = whiteouts
         self._disk = disk
         self._before = before
         self._watched = [top.rstrip("/") + "/" for top in watched]
+        self._unlisted = tuple(top.rstrip("/") + "/" for top in unlisted)
         self._linked: dict[str, Node] = {}
         self.root = Node("dir", origin="", start="", first="/")
         self._starts: dict[str, Node | None] = {"/": self.root}
@@ -179,7 +187,7 @@ class Names:
         return start in self._starts or self._is_watched(start)
 
     def _is_watched(self, path: str) -> bool:
-        return any(path.startswith(top) for top in self._watched)
+        return any(path.startswith(top) for top in self._watched) and not path.startswith(self._unlisted)
 
     def at_start(self, path: str) -> Node | None:
         """The object that is at a path when the run begins, as far as that is known."""

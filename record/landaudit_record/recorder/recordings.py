@@ -7,6 +7,7 @@ import json
 import os
 import socket
 import stat
+from collections.abc import Container
 from dataclasses import asdict, dataclass, field
 from pathlib import Path
 from typing import Any
@@ -16,6 +17,7 @@ from . import disk
 from .disk import Seen
 from .formats import Format
 from .modes import Asker
+from .values import unescaped
 from ..finished import LOOKING, READING_LINKS, SIGNALS
 from ..problems import Problem
 
@@ -25,6 +27,14 @@ OBJECTS = "objects.jsonl"
 POLICY = "policy.toml"
 MOST_WATCHED = 100_000
 CAP_SYS_ADMIN = 21
+MOUNTS = Path("/proc/self/mountinfo")
+#: File systems in which the kernel shows what it has.
+OF_KERNEL = frozenset(
+    """
+    autofs binfmt_misc bpf cgroup cgroup2 configfs debugfs devpts efivarfs fusectl hugetlbfs mqueue nsfs proc pstore
+    rpc_pipefs securityfs selinuxfs sysfs tracefs
+    """.split()
+)
 _SYS_LANDLOCK_CREATE_RULESET = 444
 _LANDLOCK_CREATE_RULESET_ERRATA = 2
 
@@ -34,7 +44,7 @@ class About:
     """How a recording was made.
 
     `started` is the time at which the run began (seconds since 1970), `watched` the directories that were listed before
-    it, `descriptors` those that the command was given, each with the kind as which a trace adopts it, its path, and the
+    it, `unlisted` those below them whose contents were not, `descriptors` those that the command was given, each with the kind as which a trace adopts it, its path, and the
     family of a TCP socket; `admin` and `nnp` are what the first process had, `errata` the errata of Landlock that the kernel has fixed, the first as bit 0.
     `uid` and `groups` are those of the command, `uid` only if the command has no privilege that overrides file modes.
     `ended` says that the tracer ended by itself, so that the log is complete; it is set after the run. `looks` says
@@ -50,6 +60,7 @@ class About:
     nnp: bool
     descriptors: dict[str, dict[str, Any]]
     watched: list[str] = field(default_factory=list)
+    unlisted: list[str] = field(default_factory=list)
     strace: str = ""
     kernel: str = ""
     ended: bool = True
@@ -135,11 +146,20 @@ def errata() -> int:
     return max(0, mended)
 
 
-def hides_processes(mounts: Path = Path("/proc/self/mountinfo")) -> bool:
-    """Whether /proc is mounted so that the directory of a process is not visible to all (proc(5), `hidepid`)."""
+def mounted(types: Container[str], mounts: Path = MOUNTS) -> list[str]:
+    """Where file systems of some types are mounted."""
+    return [unescaped(field[4]) for field in _mounts(mounts) if field[field.index("-") + 1] in types]
+
+
+def _mounts(mounts: Path) -> list[list[str]]:
+    """The fields of all mounts (proc(5), mountinfo)."""
     with open(mounts, encoding="utf-8", errors="surrogateescape") as lines:
-        fields = [line.split() for line in lines]
-    options = [field[-1].split(",") for field in fields if field[4:5] == ["/proc"]]
+        return [line.split() for line in lines if " - " in line]
+
+
+def hides_processes(mounts: Path = MOUNTS) -> bool:
+    """Whether /proc is mounted so that the directory of a process is not visible to all (proc(5), `hidepid`)."""
+    options = [field[-1].split(",") for field in _mounts(mounts) if field[4] == "/proc"]
     hidepid = [option for option in (options[-1] if options else ()) if option.startswith("hidepid=")]
     return bool(hidepid) and hidepid[-1] not in ("hidepid=0", "hidepid=off")
 
@@ -163,19 +183,21 @@ def _capabilities() -> int:
 
 @dataclass
 class Watched:
-    """Directories before a run: those that were listed, those with too many objects, and those that can't be read."""
+    """Directories before a run: those that were listed, those with too many objects, those that can't be read, and
+    those in which the kernel shows what it has, which changes by itself (proc(5), sysfs(5), cgroups(7))."""
 
     watched: list[str] = field(default_factory=list)
     too_large: list[str] = field(default_factory=list)
     unread: list[str] = field(default_factory=list)
+    of_kernel: list[str] = field(default_factory=list)
 
 
-def watch(folder: Path, directories: list[str]) -> Watched:
+def watch(folder: Path, directories: list[str], mounts: Path = MOUNTS) -> Watched:
     """Lists directories before a run."""
     listed: dict[str, Seen] = {}
-    seen = Watched()
+    seen = Watched(of_kernel=mounted(OF_KERNEL, mounts))
     for directory in directories:
-        found = disk.list_below(directory, MOST_WATCHED, seen.unread)
+        found = disk.list_below(directory, MOST_WATCHED, seen.unread, seen.of_kernel)
         if found is None:
             seen.too_large.append(directory)
         else:

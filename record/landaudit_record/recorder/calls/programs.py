@@ -9,11 +9,13 @@ from ..disk import MOST_INTERPRETERS
 from ..processes import Thread
 from ..scene import CLONE_FILES, CLONE_FS, Scene, Spot
 from ..strace_log import Call
-from ..unsaid import NotAsked
+from ..unsaid import CannotSay, NotAsked
 from . import arguments
 from .descriptors import OWN_TABLE
 
+CLONE_UNTRACED = 0x800000
 USUAL_PROGRAM = "/bin/sh"
+NOT_FOLLOWED = "a process that strace can't follow (CLONE_UNTRACED)"
 UNKNOWN_FORMAT = "a program that the kernel runs by a format which is not known (binfmt_misc)"
 
 
@@ -116,6 +118,8 @@ def _forked(scene: Scene, thread: Thread, call: Call) -> None:
     if not call.ok or call.value is None or call.line in scene.begun:
         return
     birth = scene.births.next(call.value)
+    if birth is not None and birth.flags & CLONE_UNTRACED:
+        raise CannotSay(NOT_FOLLOWED)
     if birth is not None:
         scene.begin(birth, call.value, call.line, call.text)
         scene.unmet[call.value] = False
