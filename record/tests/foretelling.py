@@ -10,13 +10,18 @@ from __future__ import annotations
 
 import json
 import re
+import shutil
 import subprocess
 import sys
-from collections.abc import Iterator, Sequence
+import tempfile
+from collections.abc import Iterable, Iterator, Sequence
 from dataclasses import dataclass
 from pathlib import Path
 from typing import Any, NamedTuple
 
+from landaudit_record import finished, jsonl
+from landaudit_record.comparing import OK
+from landaudit_record.kernel_calls import RULESET_CALLS
 from landaudit_record.problems import NOT_ALL_JUDGED
 from landaudit_record.reading import call_text
 
@@ -81,7 +86,7 @@ def compared(bare: Path, confined: Path, policy: Path, abi: int) -> Foretold:
     others = met - said
     made_bare = _made(bare, abi)
     missed = frozenset(refusal for refusal in others if refusal.asked in made_bare)
-    made_confined = _made(confined, abi)
+    made_confined = _made_under_layers(confined, abi)
     let_pass = made_confined - {refusal.asked for refusal in met}
     return Foretold(
         met=met,
@@ -124,6 +129,40 @@ def _made(recording: Path, abi: int) -> frozenset[Asked]:
     """The calls that a run made and that a policy can refuse."""
     audits = (_audit(recording, policy, abi) for policy in DENYING)
     return frozenset(refusal.asked for audit in audits for refusal in _refusals(audit))
+
+
+def _made_under_layers(recording: Path, abi: int) -> frozenset[Asked]:
+    """The calls that a run made under a layer: those of a sandboxer before it restricts itself pass whatever it says."""
+    made: frozenset[Asked] = frozenset()
+    with tempfile.TemporaryDirectory() as scratch:
+        for part in finished.opened(str(recording)).parts:
+            folder = Path(scratch, str(part.number))
+            folder.mkdir()
+            shutil.copy(part.tree, folder / "tree.jsonl")
+            jsonl.write(folder / "trace.jsonl", under_layers(record for _, record in jsonl.numbered(part.trace)))
+            made |= _made(folder, abi)
+    return made
+
+
+def under_layers(records: Iterable[jsonl.Record]) -> Iterator[jsonl.Record]:
+    """A trace without the calls of processes that have no layer, but for the programs before which a policy is put."""
+    confined: set[int] = set()
+    starting: set[int] = set()
+    for record in records:
+        op, pid = record["op"], record["pid"]
+        first = op == "exec" and pid in starting and "role" not in record
+        if pid in confined or "kernel" not in record or op in RULESET_CALLS or first:
+            yield record
+        if op == "start":
+            starting.add(pid)
+        elif op == "fork" and pid in confined:
+            confined.add(record["child"])
+        elif op == "exit":
+            confined.discard(pid)
+        elif op == "restrict" and record.get("kernel", OK) == OK:
+            confined.add(pid)
+        if first:
+            starting.discard(pid)
 
 
 def _met(confined: Path, abi: int) -> frozenset[Refusal]:

@@ -75,6 +75,7 @@ EXPECTED = {
         "mkdir by the child's cwd, mkdir by the thread's cwd, mkdir by another thread's cwd, mkdir by its task", "mkdir"
     ),
     "roots": _of("mkdir from outside, open from outside, mkdir from inside, mkdir by the child's root", "mkdir, open"),
+    "in_root": _of("openat2", "open"),
     "inheritable": _of(),
     "sent": _of(holes=(landlock.FOREIGN_RULESET, BY_UNSEEN_LAYER)),
     "received": _of(holes=(descriptors.FOREIGN,)),

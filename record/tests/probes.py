@@ -64,6 +64,7 @@ CALLS = {
     "fspick": 433,
     "pidfd_open": 434,
     "close_range": 436,
+    "openat2": 437,
     "pidfd_getfd": 438,
     "landlock_create_ruleset": 444,
     "landlock_restrict_self": 446,
@@ -332,6 +333,14 @@ def roots() -> None:
     os.waitpid(child, 0)
 
 
+def in_root() -> None:
+    """Files that are opened with their directory as root (openat2(2), RESOLVE_IN_ROOT)."""
+    here = os.open(".", os.O_PATH)
+    for path in (b"/given", b"../given"):
+        call("openat2", here, path, struct.pack("<QQQ", os.O_WRONLY, 0, 0x10), 24)
+        call("openat2", AT_FDCWD, path, struct.pack("<QQQ", os.O_RDONLY, 0, 0x10), 24)
+
+
 def inheritable() -> None:
     """A ruleset that a program keeps which is run after it was made: only ioctl(2) says that it stays open."""
     ruleset = _ruleset()
@@ -571,6 +580,7 @@ PROBES: dict[str, Callable[[], None]] = {
         supervised,
         places,
         roots,
+        in_root,
         inheritable,
         restricted,
         sent,

@@ -107,6 +107,21 @@ class Calls(StraceLines):
         self.assertEqual(trace, [])
         self.assertEqual(self.unsaid(), ["a path that openat2 may not resolve so"])
 
+    def test_the_root_of_openat2_is_its_directory(self) -> None:
+        how = "{flags=0x1 /* O_WRONLY */, resolve=0x10 /* RESOLVE_IN_ROOT */}"
+        refused = "-1 EACCES (Permission denied)"
+        for base, path, where in (
+            ("5</w/d>", "/in", "/w/d/in"),
+            ("5</w/d>", "../../in", "/w/d/in"),
+            (CWD, "/f", "/w/f"),
+            (CWD, "/d/../to-d/in", "/w/d/in"),
+        ):
+            with self.subTest(path):
+                _, opened, _, made = self.convert(
+                    CONFINED, f'openat2({base}, "{path}", {how}, 24) = {refused}', 'mkdir("/w/n", 0777) = 0'
+                )
+                self.assertEqual((opened["path"], made["shown"]), (where, "/w/n"))
+
     def test_names_and_paths_that_a_trace_cannot_hold(self) -> None:
         long = "/".join(["name"] * 900)
         trace = self.convert(

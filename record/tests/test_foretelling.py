@@ -8,6 +8,8 @@ from pathlib import Path
 from typing import Any
 from unittest import mock
 
+from landaudit_record import jsonl
+
 from . import foretelling
 from .foretelling import Asked, Refusal
 
@@ -28,7 +30,11 @@ def audits(*, said: dict[str, Any], met: dict[str, Any], bare: dict[str, Any], c
         (BARE, foretelling.DENYING[0]): bare,
         (CONFINED, foretelling.DENYING[0]): confined,
     }
-    return mock.patch.object(foretelling, "_audit", lambda *asked: answers.get(asked[:2], refused()))
+    return mock.patch.multiple(
+        foretelling,
+        _audit=lambda *asked: answers.get(asked[:2], refused()),
+        _made_under_layers=foretelling._made,
+    )
 
 
 class Foretelling(unittest.TestCase):
@@ -54,6 +60,27 @@ class Foretelling(unittest.TestCase):
             told = foretelling.compared(BARE, CONFINED, POLICY, 5)
         self.assertEqual(told.false_alarms, {Refusal(Asked("mkdir", "/passes"), "EACCES")})
         self.assertTrue(told.is_wrong)
+
+    def test_calls_before_the_first_layer_are_not_made_under_one(self) -> None:
+        trace: list[jsonl.Record] = [
+            {"op": "start", "pid": 1},
+            {"op": "open", "pid": 1, "path": "/bin/sandbox", "fd": 9, "mode": "r", "kernel": "ok"},
+            {"op": "exec", "pid": 1, "path": "/bin/sandbox", "kernel": "ok"},
+            {"op": "open", "pid": 1, "path": "/etc/sandbox", "fd": 3, "mode": "r", "kernel": "ok"},
+            {"op": "fork", "pid": 1, "child": 2},
+            {"op": "create", "pid": 1, "rs": 4, "fs": ["execute"], "kernel": "ok"},
+            {"op": "restrict", "pid": 1, "rs": 4, "kernel": "ok"},
+            {"op": "mkdir", "pid": 2, "path": "/w/n", "kernel": "ok"},
+            {"op": "fork", "pid": 1, "child": 3},
+            {"op": "exec", "pid": 1, "path": "/bin/ls", "kernel": "ok"},
+            {"op": "mkdir", "pid": 3, "path": "/w/m", "kernel": "ok"},
+        ]
+        kept = [(record["op"], record.get("path")) for record in foretelling.under_layers(trace)]
+        self.assertEqual(
+            [one for one in kept if one[1] is not None],
+            [("exec", "/bin/sandbox"), ("exec", "/bin/ls"), ("mkdir", "/w/m")],
+        )
+        self.assertEqual(len(kept), 8)
 
     def test_names_that_are_made_up_are_alike(self) -> None:
         self.assertEqual(foretelling.alike("/tmp/sortQx7aB2"), foretelling.alike("/tmp/sort9pLmZa"))

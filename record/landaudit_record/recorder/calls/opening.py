@@ -7,7 +7,7 @@ from typing import Any
 
 from .. import values
 from ..names import Node, join, split
-from ..processes import Handle, Thread
+from ..processes import Handle, Place, Thread
 from ..scene import Scene, Spot
 from ..strace_log import Call
 from ..unsaid import CannotSay, NotAsked
@@ -24,6 +24,8 @@ O_PATH = 0o10000000
 O_TMPFILE = 0o20000000 | O_DIRECTORY
 MODES = ("r", "w", "rw")
 ACCESS_MODE = 0o3
+#: With it, the directory of a call is its root (openat2(2)).
+RESOLVE_IN_ROOT = 0x10
 #: The errors with which the `resolve` flags of openat2(2) end a call before Landlock is asked.
 RESOLVE_ERRORS = frozenset({"EAGAIN", "ELOOP", "EXDEV"})
 #: The name of a file that O_TMPFILE would have made if it had been allowed.
@@ -39,10 +41,18 @@ def _openat(scene: Scene, thread: Thread, call: Call) -> None:
 
 
 def _openat2(scene: Scene, thread: Thread, call: Call) -> None:
-    resolve = values.member(call.arguments[2], "resolve")
-    if call.error in RESOLVE_ERRORS and resolve is not None and values.number(resolve):
+    member = values.member(call.arguments[2], "resolve")
+    resolve = values.number(member) if member is not None else 0
+    if call.error in RESOLVE_ERRORS and resolve:
         raise NotAsked("a path that openat2 may not resolve so")
-    _opened(scene, thread, call, 0, 1, flags_of(call))
+    place = thread.place
+    if resolve & RESOLVE_IN_ROOT:
+        directory = values.descriptor(call.arguments[0]).path or place.directory
+        thread.place = Place(directory, directory)
+    try:
+        _opened(scene, thread, call, 0, 1, flags_of(call))
+    finally:
+        thread.place = place
 
 
 def flags_of(call: Call) -> int:
