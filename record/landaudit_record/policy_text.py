@@ -3,8 +3,9 @@
 from __future__ import annotations
 
 import json
-from collections.abc import Callable, Iterator
+from collections.abc import Callable, Iterator, Sequence
 from dataclasses import replace
+from itertools import groupby
 
 from .comments import Comments
 from .policies import Access, Layer, PathRule, Policy, PortRule
@@ -12,43 +13,94 @@ from .rights import FILE_RIGHTS, FS, NET, Family, Rights
 from .trees import Tree
 from .wording import printable
 
-Remark = Callable[[int, str], str | None]
-#: Added to the name of a rule, for its part that is on files.
-_OF_FILES = " (files)"
+Remark = Callable[[int, PathRule | PortRule], str]
+Words = tuple[str, ...]
 
 
-def in_words(policy: Policy, tree: Tree) -> Policy:
-    """The policy with rules that can be written: rules for files are separate if only part of a group is granted.
-
-    On a file, a group stands for the rights that a file can have; a right that is named stands for itself.
-    """
+def apart(policy: Policy, trees: Sequence[Tree]) -> Policy:
+    """The policy with a rule for each path and port; on a file, a group stands for the rights that a file can have."""
     return replace(policy, layers=tuple(
-        replace(layer, path_beneath=tuple(part for rule in layer.path_beneath for part in _by_kind(rule, layer, tree)))
+        replace(layer, path_beneath=tuple(_paths_apart(layer, trees)), net_port=tuple(_ports_apart(layer)))
         for layer in policy.layers
     ))
 
 
-def _by_kind(rule: PathRule, layer: Layer, tree: Tree) -> Iterator[PathRule]:
-    """A rule, or one for its directories and one for its files if the same words can't stand for the rights of both."""
-    access, handled = rule.allowed_access, layer.handled_access_fs.rights
-    named = set(_words(access, FS, handled)) - set(FS.groups)
-    kinds = {parent: tree.kind(tree.resolved(parent, before_run=True)) for parent in rule.parents}
-    files = [parent for parent, kind in kinds.items() if kind not in ("dir", None)]
-    if not files or not (named - access.outright) - FILE_RIGHTS:
-        yield rule
-        return
-    directories = tuple(parent for parent in rule.parents if parent not in files)
-    if directories:
-        yield replace(rule, parents=directories)
-    on_file = Access(access.outright, access.grouped & FILE_RIGHTS)
-    if on_file.rights & handled:
-        yield replace(rule, place=rule.place + _OF_FILES, allowed_access=on_file, parents=tuple(files))
+def _paths_apart(layer: Layer, trees: Sequence[Tree]) -> Iterator[PathRule]:
+    for rule in layer.path_beneath:
+        access = rule.allowed_access
+        on_file = Access(access.outright, access.grouped & FILE_RIGHTS)
+        for parent in dict.fromkeys(rule.parents):
+            one = on_file if _is_file(parent, trees) else access
+            if one.rights & layer.handled_access_fs.rights:
+                yield replace(rule, allowed_access=one, parents=(parent,))
+
+
+def _ports_apart(layer: Layer) -> Iterator[PortRule]:
+    for rule in layer.net_port:
+        yield from (replace(rule, ports=(port,)) for port in dict.fromkeys(rule.ports))
+
+
+def _is_file(path: str, trees: Sequence[Tree]) -> bool:
+    """Whether a path is that of a file in each tree that has it."""
+    kinds = {tree.kind(tree.resolved(path, before_run=True)) for tree in trees} - {None}
+    return bool(kinds) and "dir" not in kinds
+
+
+def joined(policy: Policy, trees: Sequence[Tree]) -> Policy:
+    """The policy that `apart` divided: the parts of a rule are one again where the same words stand for their rights.
+
+    Paths and ports keep their order.
+    """
+    return replace(policy, layers=tuple(
+        replace(layer, path_beneath=tuple(_paths_joined(layer, trees)), net_port=tuple(_ports_joined(layer)))
+        for layer in policy.layers
+    ))
+
+
+def _paths_joined(layer: Layer, trees: Sequence[Tree]) -> Iterator[PathRule]:
+    """The words for a directory may stand for a file too, so those for directories are found first."""
+    handled = layer.handled_access_fs.rights
+    for _, same in groupby(layer.path_beneath, key=lambda rule: rule.place):
+        rules = list(same)
+        files = {rule.parents[0]: _is_file(rule.parents[0], trees) for rule in rules}
+        order = {parent: number for number, parent in enumerate(files)}.__getitem__
+        parts: dict[Words, list[str]] = {}
+        for rule in sorted(rules, key=lambda rule: files[rule.parents[0]]):
+            (parent,), rights = rule.parents, rule.allowed_access.rights & handled
+            found = (words for words in parts if _meant(words, FS, files[parent]) & handled == rights)
+            parts.setdefault(next(found, _words(rule.allowed_access, FS, handled)), []).append(parent)
+        for words, parents in sorted(parts.items(), key=lambda part: min(map(order, part[1]))):
+            yield replace(rules[0], allowed_access=_access(words, FS), parents=tuple(sorted(parents, key=order)))
+
+
+def _ports_joined(layer: Layer) -> Iterator[PortRule]:
+    handled = layer.handled_access_net.rights
+    for _, same in groupby(layer.net_port, key=lambda rule: rule.place):
+        parts: dict[Words, list[PortRule]] = {}
+        for rule in same:
+            parts.setdefault(_words(rule.allowed_access, NET, handled), []).append(rule)
+        for rules in parts.values():
+            yield replace(rules[0], ports=tuple(port for rule in rules for port in rule.ports))
+
+
+def _access(words: Words, family: Family) -> Access:
+    """Rights as words list them."""
+    groups = [family.groups[word] for word in words if word in family.groups]
+    return Access(frozenset(words) - frozenset(family.groups), frozenset().union(*groups))
+
+
+def _meant(words: Words, family: Family, on_file: bool) -> Rights:
+    """What words stand for; nothing if a file can't have what they name."""
+    access = _access(words, family)
+    if not on_file:
+        return access.rights
+    return access.outright | access.grouped & FILE_RIGHTS if access.outright <= FILE_RIGHTS else frozenset()
 
 
 def lines(policy: Policy, comments: Comments, remark: Remark) -> Iterator[str]:
-    """The lines of a policy with its comments; `remark` gives a remark on a rule, by the layer's number and its name.
+    """The lines of a policy with its comments; `remark` gives a remark on a rule of the layer with a number.
 
-    The policy's rules must be as `in_words` makes them.
+    The comments on a rule that is in parts are on the first of them.
     """
     yield from _comments(comments.whole)
     if comments.whole:
@@ -64,45 +116,49 @@ def _layer(layer: Layer, comments: Comments, remark: Remark) -> Iterator[str]:
         if access.rights:
             yield f"handled_access_{key} = {_list(_words(access, family, access.rights))}"
     if layer.scoped:
-        yield f"scoped = {_list(list(layer.scoped))}"
+        yield f"scoped = {_list(layer.scoped)}"
+    before: PathRule | PortRule | None = None
     for rule in layer.path_beneath:
-        yield from _head(layer, rule, comments, remark)
+        yield from _head(layer, rule, before, comments, remark)
         yield "[[layer.path_beneath]]"
         yield f"allowed_access = {_list(_words(rule.allowed_access, FS, layer.handled_access_fs.rights))}"
         yield f"parent = {_one_or_several(list(rule.parents))}"
+        before = rule
     for port_rule in layer.net_port:
-        yield from _head(layer, port_rule, comments, remark)
+        yield from _head(layer, port_rule, before, comments, remark)
         yield "[[layer.net_port]]"
         yield f"allowed_access = {_list(_words(port_rule.allowed_access, NET, layer.handled_access_net.rights))}"
         yield f"port = {_one_or_several(list(port_rule.ports))}"
+        before = port_rule
 
 
-def _head(layer: Layer, rule: PathRule | PortRule, comments: Comments, remark: Remark) -> Iterator[str]:
+def _head(
+    layer: Layer, rule: PathRule | PortRule, before: PathRule | PortRule | None, comments: Comments, remark: Remark
+) -> Iterator[str]:
     """The comments before a rule."""
     yield ""
-    yield from _comments(comments.on_rule(layer.number, rule.place.removesuffix(_OF_FILES)))
+    if before is None or before.place != rule.place:
+        yield from _comments(comments.on_rule(layer.number, rule.place))
     if isinstance(rule, PathRule) and rule.group is not None:
         yield from _comments([f"of the group {rule.group}"])
-    said = remark(layer.number, rule.place)
-    if said is not None:
-        yield from _comments([said])
+    yield from _comments([remark(layer.number, rule)])
 
 
 def _comments(texts: list[str]) -> Iterator[str]:
     yield from (f"# {printable(text)}".rstrip() for text in texts)
 
 
-def _words(access: Access, family: Family, handled: Rights) -> list[str]:
+def _words(access: Access, family: Family, handled: Rights) -> Words:
     """Rights as groups, if all rights of a group are there, and as names; no right that is not handled is named."""
     for name, group in family.groups.items():
         if group == access.grouped:
-            return [name, *family.ordered(access.outright - group)]
+            return name, *family.ordered(access.outright - group)
     groups = [name for name, group in family.groups.items() if group and group <= access.grouped]
     covered: Rights = frozenset().union(*(family.groups[name] for name in groups))
-    return [*groups, *family.ordered((access.outright | access.grouped & handled) - covered)]
+    return *groups, *family.ordered((access.outright | access.grouped & handled) - covered)
 
 
-def _list(words: list[str]) -> str:
+def _list(words: Sequence[str]) -> str:
     return f"[{', '.join(json.dumps(word) for word in words)}]"
 
 

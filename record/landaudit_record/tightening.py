@@ -1,8 +1,8 @@
 """Removes from a policy the rights that recordings don't need.
 
-Rights of rules are removed one by one, until every right that is left is needed. Each policy that is tried has
-processes of its own in one trace, which ask what the recordings asked (`distilling`): so each answer depends only on
-its policy, and one audit tries many policies.
+Each right on each path and port is tried by itself, until every right that is left is needed. Each policy that is tried
+has processes of its own in one trace, which ask what the recordings asked (`distilling`): so each answer depends only
+on its policy, and one audit tries many policies.
 """
 
 from __future__ import annotations
@@ -35,50 +35,61 @@ Refused = frozenset[tuple[int, int]]
 
 @dataclass(frozen=True)
 class Unit:
-    """A right of a rule, by the layer's number and the rule's name."""
+    """A right on a path or a port, by the layer's number and the rule's name."""
 
     layer: int
     rule: str
+    on: str | int
     right: str
+
+
+Place = tuple[int, str, str | int]
+"""What a rule is on: the layer's number, the rule's name, and the path or the port."""
 
 
 @dataclass(frozen=True)
 class Tightened:
-    """A policy, how many calls need each of its rights and rules, and how many rights were taken away.
+    """A policy, with what needs each of its rights, and how many rights were taken away.
 
     `audits` is the number of audits so far, including those for other policies.
     """
 
     policy: Policy
-    needed: Mapping[Unit, int]
-    by_rule: Mapping[tuple[int, str], int]
+    needed: Mapping[Unit, Refused]
     taken: int
     audits: int
 
 
 def units(policy: Policy, abi: int) -> Iterator[Unit]:
-    """Each right of each rule that an ABI knows and its layer handles."""
+    """Each right on each path and port that an ABI knows and the layer handles."""
     known = FS.known(abi) | NET.known(abi)
     for layer in policy.layers:
         handled = (layer.handled_access_fs.rights | layer.handled_access_net.rights) & known
-        allowed = [(rule.place, rule.allowed_access.rights & handled) for rule in layer.path_beneath]
-        allowed += [(rule.place, rule.allowed_access.rights & handled) for rule in layer.net_port]
-        for place, rights in allowed:
-            yield from (Unit(layer.number, place, right) for right in (*FS.ordered(rights), *NET.ordered(rights)))
+        rules: tuple[PathRule | PortRule, ...] = (*layer.path_beneath, *layer.net_port)
+        for rule in rules:
+            rights = rule.allowed_access.rights & handled
+            for on in dict.fromkeys(places(rule)):
+                yield from (Unit(layer.number, rule.place, on, right)
+                            for right in (*FS.ordered(rights), *NET.ordered(rights)))
+
+
+def places(rule: PathRule | PortRule) -> tuple[str | int, ...]:
+    """What a rule is on."""
+    return (*rule.parents,) if isinstance(rule, PathRule) else (*rule.ports,)
 
 
 def without(policy: Policy, taken: Iterable[Unit]) -> Policy:
-    """A policy without some rights; a rule that has no rights left is removed."""
-    gone: dict[tuple[int, str], set[str]] = {}
+    """A policy whose rules are on one path or port each, without some rights; a rule without rights is removed."""
+    gone: dict[Place, set[str]] = {}
     for unit in taken:
-        gone.setdefault((unit.layer, unit.rule), set()).add(unit.right)
+        gone.setdefault((unit.layer, unit.rule, unit.on), set()).add(unit.right)
     return replace(policy, layers=tuple(_layer_without(layer, gone) for layer in policy.layers))
 
 
-def _layer_without(layer: Layer, gone: dict[tuple[int, str], set[str]]) -> Layer:
+def _layer_without(layer: Layer, gone: Mapping[Place, Collection[str]]) -> Layer:
     def left(rule: PathRule | PortRule) -> Access:
-        access, taken = rule.allowed_access, gone.get((layer.number, rule.place), set())
-        return Access(access.outright - taken, access.grouped - taken)
+        access, taken = rule.allowed_access, gone.get((layer.number, rule.place, places(rule)[0]), ())
+        return Access(access.outright.difference(taken), access.grouped.difference(taken))
 
     handled = layer.handled_access_fs.rights | layer.handled_access_net.rights
     rules = layer.path_beneath
@@ -89,14 +100,9 @@ def _layer_without(layer: Layer, gone: dict[tuple[int, str], set[str]]) -> Layer
     )
 
 
-def _wide_first(policy: Policy, some: Iterable[Unit]) -> list[Unit]:
-    """Rights by how near to the root their rules are: of two rules that grant what is needed, the wider is removed."""
-    depths = {
-        (layer.number, rule.place): min(len(PurePosixPath(parent).parts) for parent in rule.parents)
-        for layer in policy.layers
-        for rule in layer.path_beneath
-    }
-    return sorted(some, key=lambda unit: depths.get((unit.layer, unit.rule), 0))
+def _wide_first(some: Iterable[Unit]) -> list[Unit]:
+    """Rights by how near to the root they are: of two rules that grant what is needed, the wider is removed."""
+    return sorted(some, key=lambda unit: len(PurePosixPath(unit.on).parts) if isinstance(unit.on, str) else 0)
 
 
 @dataclass(frozen=True)
@@ -133,18 +139,27 @@ class Asked:
         """How many calls asked a question."""
         return self.counted[self.questions[number]]
 
-    def touched(self, inserted: Iterable[Record], gone: Collection[Unit]) -> list[int]:
-        """The questions whose answers may change if some rights are taken from a policy, by the policy's records.
+    def touched(self, objects: Mapping[Place, Collection[str | int]], gone: Iterable[Unit]) -> list[int]:
+        """The questions whose answers may change if some rights are taken away, by the objects that these are on.
 
         An answer depends on a path only by the rules that are on it and above it.
         """
-        rules = {(unit.layer, unit.rule) for unit in gone}
         numbers: set[int] = set()
-        for record in inserted:
-            origin = record["policy"]
-            if (origin.get("layer"), origin.get("rule")) in rules:
-                numbers |= self.over.get(record.get("path", record.get("port")), frozenset())
+        for place in {(unit.layer, unit.rule, unit.on) for unit in gone}:
+            for named in objects.get(place, ()):
+                numbers |= self.over.get(named, frozenset())
         return sorted(numbers)
+
+
+def _objects(inserted: Iterable[Record]) -> Mapping[Place, Collection[str | int]]:
+    """The paths by which a recording knows what each rule is on, or the port, by the policy's records."""
+    found: dict[Place, list[str | int]] = {}
+    for record in inserted:
+        origin = record["policy"]
+        if "rule" in origin:
+            place = origin["layer"], origin["rule"], origin.get("parent", origin.get("port"))
+            found.setdefault(place, []).append(record.get("path", record.get("port")))
+    return found
 
 
 def _with_what_is_over(place: str | int) -> Iterator[str | int]:
@@ -175,34 +190,24 @@ class Tightening:
         self._audits = 0
 
     def tightened(self, policy: Policy) -> Tightened:
-        """Takes rights away until no more can go: some call needs each right that is left."""
-        taken: list[Unit] = []
+        """Takes rights away until no more can go: some call needs each right that is left.
+
+        Each rule of the policy is on one path or port.
+        """
+        taken = 0
         while True:
             left = list(units(policy, self._abi))
             needed = dict(zip(left, self._refused(policy, [[unit] for unit in left])))
-            free = _wide_first(policy, [unit for unit, refused in needed.items() if not refused])
+            free = _wide_first(unit for unit, refused in needed.items() if not refused)
             if not free:
-                return self._counted(policy, needed, taken)
+                return Tightened(policy, needed, taken, self._audits)
             away = self._away(policy, free)
-            taken += away
+            taken += len(away)
             policy = without(policy, away)
 
-    def _counted(self, policy: Policy, needed: Mapping[Unit, Refused], taken: Sequence[Unit]) -> Tightened:
-        by_rule: dict[tuple[int, str], Refused] = {}
-        for unit, refused in needed.items():
-            rule = unit.layer, unit.rule
-            by_rule[rule] = by_rule.get(rule, frozenset()) | refused
-        return Tightened(
-            policy,
-            {unit: self._calls(refused) for unit, refused in needed.items()},
-            {rule: self._calls(refused) for rule, refused in by_rule.items()},
-            len(taken),
-            self._audits,
-        )
-
-    def _calls(self, refused: Refused) -> int:
-        """The number of calls that asked refused questions."""
-        return sum(self._asked[where].calls(number) for where, number in refused)
+    def calls(self, needed: Iterable[Refused]) -> int:
+        """The number of calls that asked questions which are refused."""
+        return sum(self._asked[where].calls(number) for where, number in frozenset[tuple[int, int]]().union(*needed))
 
     def _away(self, policy: Policy, free: Sequence[Unit]) -> list[Unit]:
         """As many of some rights as can go together: all of them, or else those of one half and then of the other."""
@@ -218,17 +223,18 @@ class Tightening:
         """What is refused without some rights of a policy, for each of several choices of these."""
         found: list[set[tuple[int, int]]] = [set() for _ in gone]
         for where, asked in enumerate(self._asked):
-            whole = asked.tried.inserted(policy, self._abi)
-            trials = (self._trials(asked, policy, whole, choice, some) for choice, some in enumerate(gone))
+            objects = _objects(asked.tried.inserted(policy, self._abi))
+            trials = (self._trials(asked, policy, objects, choice, some) for choice, some in enumerate(gone))
             for choice, number in self._tried(asked, chain.from_iterable(trials)):
                 found[choice].add((where, number))
         return [frozenset(refused) for refused in found]
 
     def _trials(
-        self, asked: Asked, policy: Policy, whole: Sequence[Record], choice: int, some: Sequence[Unit]
+        self, asked: Asked, policy: Policy, objects: Mapping[Place, Collection[str | int]], choice: int,
+        some: Sequence[Unit]
     ) -> Iterator[_Trial]:
-        """The questions to ask without some rights of a policy; `whole` has its records with them."""
-        questions = asked.touched(whole, some)
+        """The questions to ask without some rights of a policy; `objects` has what its rules are on."""
+        questions = asked.touched(objects, some)
         inserted = asked.tried.inserted(without(policy, some), self._abi) if questions else []
         for first in range(0, len(questions), MOST_QUESTIONS):
             yield _Trial(choice, inserted, questions[first : first + MOST_QUESTIONS])

@@ -6,7 +6,8 @@
 Of each pair of policies, random calls on random trees are asked of landaudit under both. Where one policy alone lets a
 call pass, a line of `diff` is to cover something that the call needs; and a line is to cover a call that needs one
 thing alone only where that differs. Of each policy of ten rules `tighten` makes another for random recordings: it is to
-grant nothing more and refuse nothing new, and each right is taken from it by itself, to see that something is refused.
+grant nothing more and refuse nothing new, and each right on each path and port is taken from it by itself, to see that
+something is refused.
 Policies with a rule that the kernel refuses are counted apart: `tighten` is to name such a rule.
 """
 
@@ -35,12 +36,12 @@ from landaudit_record.rights import FS, NET, NEWEST_ABI, OLDEST_ABI, alone  # no
 from landaudit_record.trees import ROOT  # noqa: E402
 from tests import covering  # noqa: E402
 from tests.random_calls import Call, Caller  # noqa: E402
-from tests.random_policies import Kinds, Layer, Maker, Policy, Rule, meant, plain  # noqa: E402
+from tests.random_policies import Kinds, Layer, Maker, Policy, Rule, granted, meant, plain  # noqa: E402
 from tests.random_runs import Run  # noqa: E402
 
 ABIS = range(OLDEST_ABI, NEWEST_ABI + 1)
 TREES = 4
-_ROW = re.compile(r" *([0-9]+)  ([a-z_]+) +layer ([0-9]+), (path_beneath|net_port) ([0-9]+) .*")
+_ROW = re.compile(r" *([0-9]+)  ([a-z_]+) +layer ([0-9]+), (path_beneath|net_port) ([0-9]+) \((?:port ([0-9]+)|(.*))\)")
 _REFUSED_RULE = re.compile(r"layer ([0-9]+), path_beneath ([0-9]+), parent (.*): the kernel refuses this rule, ")
 _TABLES = {"path_beneath": "path", "net_port": "port"}
 RULES = 10
@@ -187,8 +188,8 @@ def faults_of(said: covering.Said, call: Call, old: Abis, new: Abis) -> Iterator
 
 # ---- landaudit-record tighten
 
-Unit = tuple[int, str, str]
-"""A right of a rule: the layer's number, the rule as `path 1`, and the right."""
+Unit = tuple[int, str, str | int, str]
+"""A right on a path or a port: the layer's number, the rule as `path 1`, what it is on, and the right."""
 
 
 @dataclass(frozen=True)
@@ -300,14 +301,21 @@ def parsed(text: str) -> Policy:
     return Policy(tuple(layers))
 
 
-def units(policy: Policy, abi: int) -> Iterator[Unit]:
-    """Each right of each rule that an ABI knows and its layer handles."""
+def units(policy: Policy, kinds: Kinds, abi: int) -> Iterator[Unit]:
+    """Each right on each path and port that an ABI knows and the layer handles, and that an object of its kind can have.
+
+    A path where nothing is counts as that of a directory.
+    """
     for number, layer in enumerate(policy.layers, start=1):
-        for kind, family, words, rules in (("path", FS, layer.fs, layer.paths), ("port", NET, layer.net, layer.ports)):
-            handled = meant(words, family) & family.known(abi)
-            for place, rule in enumerate(rules, start=1):
-                rights = family.ordered(meant(rule.words, family) & handled)
-                yield from ((number, f"{kind} {place}", right) for right in rights)
+        for place, rule in enumerate(layer.paths, start=1):
+            for on in dict.fromkeys(map(str, rule.on)):
+                handled = meant(layer.fs, FS)
+                rights = granted(rule.words, handled, kinds.get(plain(on), "dir")) & handled & FS.known(abi)
+                yield from ((number, f"path {place}", on, right) for right in FS.ordered(rights))
+        for place, rule in enumerate(layer.ports, start=1):
+            rights = meant(rule.words, NET) & meant(layer.net, NET) & NET.known(abi)
+            for port in dict.fromkeys(rule.on):
+                yield from ((number, f"port {place}", port, right) for right in NET.ordered(rights))
 
 
 def without(records: Iterable[Record], gone: Iterable[Unit]) -> list[Record]:
@@ -317,7 +325,8 @@ def without(records: Iterable[Record], gone: Iterable[Unit]) -> list[Record]:
     for record in records:
         if "rule" in record:
             rights = "fs" if "fs" in record else "net"
-            kept = [right for right in record[rights] if (record["layer"], record["rule"], right) not in taken]
+            place = record["layer"], record["rule"], record["on"]
+            kept = [right for right in record[rights] if (*place, right) not in taken]
             if not kept:
                 continue
             record = {**record, rights: kept}
@@ -361,7 +370,7 @@ def _of_tight(
     more = grants(left, abi) - grants(whole, abi)
     if more or len(tight.layers) != len(recorded.policy.layers):
         yield f"grants more: {sorted(more, key=str)}"
-    kept = list(units(tight, abi))
+    kept = list(units(tight, kinds, abi))
     counts = dict(_counts(table))
     listed = [unit for unit, calls in counts.items() if calls]
     of_list = without(whole, [unit for unit, calls in counts.items() if not calls])
@@ -385,11 +394,12 @@ def _of_tight(
 
 
 def _counts(table: str) -> Iterator[tuple[Unit, int]]:
-    """Each right of each rule in a table, with the number of calls that need it."""
+    """Each right on each path and port in a table, with the number of calls that need it."""
     for row in table.splitlines()[1:]:
         found = _ROW.fullmatch(row)
         assert found is not None, row
-        yield (int(found[3]), f"{_TABLES[found[4]]} {found[5]}", found[2]), int(found[1])
+        on = int(found[6]) if found[6] else found[7]
+        yield (int(found[3]), f"{_TABLES[found[4]]} {found[5]}", on, found[2]), int(found[1])
 
 
 # ---- the program

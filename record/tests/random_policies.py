@@ -78,14 +78,15 @@ class Layer:
         handled, handled_net = meant(self.fs, FS), meant(self.net, NET)
         yield {"op": "create", "rs": RULESET, "fs": FS.ordered(handled), "net": NET.ordered(handled_net)}
         for number, rule in enumerate(self.paths, start=1):
-            for path in map(plain, map(str, rule.on)):
-                rights = _granted(rule.words, handled, kinds.get(path))
+            for on in map(str, rule.on):
+                path = plain(on)
+                rights = granted(rule.words, handled, kinds.get(path))
                 if path in kinds and rights:
-                    of_rule: Record = {"op": "add_path", "rs": RULESET, "path": path, "rule": f"path {number}"}
+                    of_rule: Record = {"op": "add_path", "rs": RULESET, "path": path, "rule": f"path {number}", "on": on}
                     yield {**of_rule, "fs": FS.ordered(rights)}
         for number, rule in enumerate(self.ports, start=1):
             for port in rule.on:
-                of_rule = {"op": "add_port", "rs": RULESET, "port": port, "rule": f"port {number}"}
+                of_rule = {"op": "add_port", "rs": RULESET, "port": port, "rule": f"port {number}", "on": port}
                 yield {**of_rule, "net": NET.ordered(meant(rule.words, NET) & handled_net)}
         yield {"op": "restrict", "rs": RULESET}
         yield {"op": "close_rs", "rs": RULESET}
@@ -99,7 +100,7 @@ def _mended(rules: Iterable[Rule], handled_words: Iterable[str], family: Family)
             yield Rule(words, rule.on)
 
 
-def _granted(words: Sequence[str], handled: Rights, kind: str | None) -> Rights:
+def granted(words: Sequence[str], handled: Rights, kind: str | None) -> Rights:
     """What a rule asks for on an object: a group stands for what the layer handles and, on a file, applies to files."""
     groups = meant((word for word in words if word in FS.groups), FS) & handled
     named = frozenset(words) - frozenset(FS.groups)
@@ -111,7 +112,7 @@ def _is_taken(rule: Rule, layer: Layer, kind: str | None, abi: int = NEWEST_ABI)
     handled = meant(layer.fs, FS) & FS.known(abi)
     if kind in ("dir", None) or not meant(rule.words, FS) & handled:
         return True
-    rights = _granted(rule.words, handled, kind) & handled
+    rights = granted(rule.words, handled, kind) & handled
     return bool(rights) and rights <= FILE_RIGHTS
 
 

@@ -127,7 +127,7 @@ class Taken(unittest.TestCase):
 
     def test_written_out_it_is_the_same(self) -> None:
         before = read(ALL + 'include = ["base", "python"]\n')
-        text = "\n".join(policy_text.lines(policy_text.in_words(before, Tree()), Comments(), lambda layer, rule: None))
+        text = "\n".join(policy_text.lines(before, Comments(), lambda layer, rule: ""))
         self.assertIn("# of the group python", text)
         self.assertEqual(self.granted(read(text)), self.granted(before))
 

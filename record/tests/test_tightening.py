@@ -58,11 +58,11 @@ def trace(calls: list[Record]) -> list[Record]:
 
 
 class Text(unittest.TestCase):
-    """A policy written out and read again is the same policy."""
+    """A policy divided, joined, written out and read again is the same policy."""
 
     def again(self, policy: Policy, tree: Tree) -> Policy:
-        written = policy_text.in_words(policy, tree)
-        return self.read("\n".join(policy_text.lines(written, comments.Comments(), lambda layer, rule: None)))
+        written = policy_text.joined(policy, [tree])
+        return self.read("\n".join(policy_text.lines(written, comments.Comments(), lambda layer, rule: "")))
 
     def test_what_is_granted_is_as_before(self) -> None:
         for seed in range(60):
@@ -70,9 +70,20 @@ class Text(unittest.TestCase):
                 maker = Maker(random.Random(seed))
                 made = maker.policy(2, 8)
                 tree = Tree(maker.tree(made.paths))
-                before = self.read(made.toml())
+                whole = self.read(made.toml())
+                before = policy_text.apart(whole, [tree])
+                self.assertEqual(self.granted(before, tree), self.granted(whole, tree))
                 before = without(before, [unit for unit in units(before, NEWEST_ABI) if maker.of.random() < 0.3])
                 self.assertEqual(self.granted(self.again(before, tree), tree), self.granted(before, tree))
+
+    def test_rules_from_which_nothing_is_taken_are_written_as_they_were(self) -> None:
+        """Where a directory and a file have the same words, each group stands for what its object can have."""
+        rules = ('[[layer.path_beneath]]\nallowed_access = ["read", "execute"]\nparent = ["/a/f", "/a", "/g"]\n',
+                 '[[layer.net_port]]\nallowed_access = ["all"]\nport = [443, 80]\n')
+        whole = self.read('[[layer]]\nhandled_access_fs = ["all"]\nhandled_access_net = ["all"]\n' + "".join(rules))
+        tree = Tree({"/": "dir", "/a": "dir", "/a/f": "reg", "/g": "reg"})
+        again = self.again(policy_text.apart(whole, [tree]), tree)
+        self.assertEqual(again.layers, whole.layers)
 
     def read(self, text: str) -> Policy:
         with tempfile.TemporaryDirectory() as folder:
@@ -117,7 +128,7 @@ class Tightening(unittest.TestCase):
         status, out, _ = self.said(self.recording("one", TREE, CALLS))
         self.assertEqual(status, 0)
         head, _, text = out.partition("\n")
-        self.assertRegex(head, r"\A# 15 rights removed that these recordings don't need \(\d+ audits\)\Z")
+        self.assertRegex(head, r"\A# 21 rights removed that these recordings don't need \(\d+ audits\)\Z")
         self.assertEqual(
             text,
             """# Mine.
@@ -130,17 +141,17 @@ handled_access_net = ["all"]
 # needed by 1 call
 [[layer.path_beneath]]
 allowed_access = ["execute"]
-parent = ["/program", "/a"]
-
-# needed by 1 call
-[[layer.path_beneath]]
-allowed_access = ["make_dir"]
-parent = "/a"
+parent = "/program"
 
 # needed by 1 call
 [[layer.path_beneath]]
 allowed_access = ["write_file"]
 parent = "/a/f"
+
+# needed by 1 call
+[[layer.path_beneath]]
+allowed_access = ["make_dir"]
+parent = "/a"
 
 # needed by 2 calls
 [[layer.path_beneath]]
@@ -150,7 +161,7 @@ parent = "/a/f"
 # needed by 1 call
 [[layer.net_port]]
 allowed_access = ["connect_tcp"]
-port = [80, 443]
+port = 443
 """,
         )
 
@@ -158,10 +169,13 @@ port = [80, 443]
         self.policy.write_text(POLICY)
         _, out, _ = self.said("--list", self.recording("one", TREE, CALLS))
         rows = [line.split(maxsplit=2) for line in out.splitlines()[1:]]
-        self.assertEqual(len(rows), len(list(units(policies.read(self.policy), NEWEST_ABI))))
         self.assertEqual([int(row[0]) for row in rows], sorted(int(row[0]) for row in rows))
-        self.assertIn(["1", "connect_tcp", "layer 1, net_port 1 (port 80 ..)"], rows)
-        self.assertIn(["0", "bind_tcp", "layer 1, net_port 1 (port 80 ..)"], rows)
+        needed = [row for row in rows if row[0] != "0"]
+        self.assertEqual((len(rows), len(needed)), (26, 5))
+        self.assertIn(["1", "connect_tcp", "layer 1, net_port 1 (port 443)"], needed)
+        for right, on in (("connect_tcp", "net_port 1 (port 80)"), ("execute", "path_beneath 1 (/a)")):
+            self.assertIn(["0", right, f"layer 1, {on}"], rows)
+        self.assertNotIn(["0", "read_dir", "layer 1, path_beneath 1 (/program)"], rows, "a file can't have it")
 
     def test_what_one_of_several_recordings_needs_is_left(self) -> None:
         self.policy.write_text(POLICY)
@@ -183,6 +197,32 @@ port = [80, 443]
         (layer,) = policies.read(self.policy).layers
         return [(*FS.ordered(rule.allowed_access.rights), *rule.parents) for rule in layer.path_beneath]
 
+    def test_each_right_on_each_path_is_tried_by_itself(self) -> None:
+        """What `sort` needs of three directories: nothing of one, and less of another than of the first."""
+        tree = [{"path": path, "kind": "dir"} for path in ("/usr", "/etc", "/home")]
+        tree += [{"path": path, "kind": "reg"} for path in ("/usr/sort", "/usr/libc", "/etc/passwd", "/etc/cache")]
+        calls: list[Record] = [{"op": "exec", "path": "/usr/sort"}]
+        calls += [{"op": "open", "path": path, "fd": fd, "mode": "r"}
+                  for fd, path in enumerate(("/etc/cache", "/usr/libc", "/etc/passwd"), start=3)]
+        one = self.recording("one", tree, calls)
+        text = self.rules(('["read", "execute"]', '["/etc", "/usr", "/home", "/usr"]'))
+        self.assertEqual(self.left(text, one), [("read_file", "/etc"), ("execute", "read_file", "/usr")])
+
+    def test_paths_with_the_same_rights_are_on_one_rule_in_their_order(self) -> None:
+        tree = [{"path": path, "kind": "dir"} for path in ("/c", "/a", "/b", "/d")]
+        tree += [{"path": f"{path}/f", "kind": "reg"} for path in ("/c", "/a", "/b")]
+        calls: list[Record] = [{"op": "exec", "path": PROGRAM}]
+        calls += [{"op": "open", "path": f"{path}/f", "fd": fd, "mode": "r"}
+                  for fd, path in enumerate(("/a", "/b", "/c"), start=3)]
+        calls += [{"op": "bind", "port": port} for port in (443, 22)]
+        one = self.recording("one", [*tree, {"path": PROGRAM, "kind": "reg"}], [*calls, {"op": "truncate", "path": "/a/f"}])
+        ports = "[[layer.net_port]]\nallowed_access = [\"all\"]\nport = [443, 80, 22]\n"
+        text = self.rules(('["read", "truncate"]', '["/d", "/c", "/a", "/b"]'), ('["execute"]', f'"{PROGRAM}"')) + ports
+        text = text.replace("\n", '\nhandled_access_net = ["all"]\n', 1)
+        self.assertEqual(self.left(text, one), [("read_file", "/c", "/b"), ("read_file", "truncate", "/a"),
+                                                ("execute", PROGRAM)])
+        self.assertIn('allowed_access = ["bind_tcp"]\nport = [443, 22]\n', self.policy.read_text())
+
     def test_of_two_rules_that_grant_what_is_needed_the_wider_goes(self) -> None:
         one = self.recording("one", TREE, [{"op": "exec", "path": PROGRAM}, CALLS[2]])
         program = ('["execute"]', f'"{PROGRAM}"')
@@ -190,8 +230,8 @@ port = [80, 443]
         for some in (rules, rules[::-1]):
             self.assertEqual(self.left(self.rules(program, *some), one), [("execute", PROGRAM), ("read_file", "/a/f")])
 
-    def test_a_rule_on_a_file_and_a_directory_is_written_apart_and_less_of_it_is_left(self) -> None:
-        """The group is there in part, so the file's rule is one of its own: of both, one lets the file be read."""
+    def test_a_rule_on_a_file_and_a_directory_keeps_on_each_what_is_needed(self) -> None:
+        """The rule on the directory lets the file be read too, but the one on the file is nearer."""
         one = self.recording("one", TREE, [{"op": "exec", "path": PROGRAM}, CALLS[2], CALLS[3]])
         rules = self.rules(('["execute"]', f'"{PROGRAM}"'), ('["all"]', '["/a", "/a/f"]'))
         wanted = [("execute", PROGRAM), ("make_dir", "/a"), ("read_file", "/a/f")]
@@ -251,7 +291,8 @@ port = [80, 443]
         self.policy.write_text(self.rules(('["execute"]', f'"{PROGRAM}"'), ('["make_reg", "refer"]', '["/a", "/b"]')))
         _, out, _ = self.said("--list", self.recording("one", tree, calls))
         rows = [line.split()[:2] for line in out.splitlines()[1:]]
-        self.assertEqual(rows, [["1", right] for right in ("execute", "make_reg", "refer")])
+        needed = [row for row in rows if row[0] != "0"]
+        self.assertEqual(needed, [["1", right] for right in ("execute", "refer", "make_reg", "refer")])
 
     def test_a_layer_of_the_programs_own_is_there_for_what_comes_behind_it(self) -> None:
         """What the program's own layer refuses needs no right of the policy."""

@@ -3,21 +3,20 @@
 from __future__ import annotations
 
 import argparse
-from collections import Counter
+from collections import Counter, defaultdict
 from collections.abc import Iterator, Sequence, Set
 from dataclasses import replace
 from pathlib import Path
 
-from .. import RECORDER, comments, landaudit, policies, policy_text, together, trees
+from .. import RECORDER, comments, landaudit, policies, policy_text, together
 from ..distilling import Distilling, Question
 from ..options import add_abi, add_as_recorded, add_landaudit, add_program, add_recordings, note
-from ..policies import Policy
+from ..policies import PathRule, Policy, PortRule
 from ..problems import WANTING, Problem
 from ..rights import alone
-from ..tightening import Asked, Tightened, Tightening, units
-from ..trees import Tree
+from ..tightening import Asked, Place, Refused, Tightened, Tightening, places, units
 from ..trying import Auditing, Tried
-from ..wording import counted
+from ..wording import counted, printable
 
 NAME = "tighten"
 HELP = "print the policy without the rights that no recording needs"
@@ -53,10 +52,12 @@ def run(arguments: argparse.Namespace) -> int:
         before = [_questions(audit, one, policy, arguments.abi) for audit, one in zip(audits, tried)]
         asked = [Asked.of(one, tree, found) for one, of in zip(tried, before) for tree, found in of.items()]
         audits[0].progress.say("trying each right")
-        done = _tightened(Tightening(program, arguments.abi, asked, best_effort=not arguments.as_recorded), policy,
-                          None if arguments.list else trees.united(one.tree for one in tried))
-        done = replace(done, policy=_with_unknown(done.policy, policy, together.unknown(members)))
-        after = [_questions(audit, one, done.policy, arguments.abi) for audit, one in zip(audits, tried)]
+        tightening = Tightening(program, arguments.abi, asked, best_effort=not arguments.as_recorded)
+        of_run = [one.tree for one in tried]
+        whole = policy_text.apart(policy, of_run)
+        done = tightening.tightened(whole)
+        tight = policy_text.joined(_with_unknown(done.policy, whole, together.unknown(members)), of_run)
+        after = [_questions(audit, one, tight, arguments.abi) for audit, one in zip(audits, tried)]
         if _more(before, after):
             raise Problem("without the rights that no call needs, more calls of the recordings are refused: this is a "
                           f"fault of {RECORDER}, please report it", WANTING)
@@ -64,31 +65,24 @@ def run(arguments: argparse.Namespace) -> int:
         note([f"the printed policy allows {counted(passing, 'call')} of these recordings that the policy refuses: "
               "Landlock refuses a move or link by which an object would gain rights, and such rights are removed"])
     together.note_missing(members)
-    for line in _table(policy, done, arguments.abi) if arguments.list else _toml(policy, done):
+    for line in (_table(whole, done, tightening, arguments.abi) if arguments.list
+                 else _toml(replace(done, policy=tight), tightening)):
         print(line)
     return together.status(members)
 
 
-def _with_unknown(tight: Policy, policy: Policy, unknown: Set[str]) -> Policy:
-    """A policy that was tightened, with the rules as they were of which is not known where their parents led."""
-    if not unknown:
-        return tight
+def _with_unknown(tight: Policy, whole: Policy, unknown: Set[str]) -> Policy:
+    """A policy that was tightened, with the rules as they were of which is not known where their parents led.
+
+    Each rule is on one path.
+    """
     layers = []
-    for layer, before in zip(tight.layers, policy.layers):
-        whole = tuple(rule for rule in before.path_beneath if unknown & set(rule.parents))
-        kept = {rule.place for rule in whole}
-        others = tuple(rule for rule in layer.path_beneath if rule.place.split(" (")[0] not in kept)
-        layers.append(replace(layer, path_beneath=(*others, *whole)))
+    for layer, before in zip(tight.layers, whole.layers):
+        left = {(rule.place, rule.parents): rule for rule in layer.path_beneath}
+        rules = (rule if unknown.issuperset(rule.parents) else left.get((rule.place, rule.parents))
+                 for rule in before.path_beneath)
+        layers.append(replace(layer, path_beneath=tuple(rule for rule in rules if rule is not None)))
     return replace(tight, layers=tuple(layers))
-
-
-def _tightened(tightening: Tightening, policy: Policy, tree: Tree | None) -> Tightened:
-    """A policy without the rights that are not needed; with a tree, one whose rules can be written."""
-    done = tightening.tightened(policy)
-    while tree is not None and (written := policy_text.in_words(done.policy, tree)) != done.policy:
-        less = tightening.tightened(written)
-        done = replace(less, taken=done.taken + less.taken)
-    return done
 
 
 def _questions(audit: Auditing, tried: Tried, policy: Policy, abi: int) -> _Asked:
@@ -105,24 +99,25 @@ def _more(some: Sequence[_Asked], others: Sequence[_Asked]) -> int:
     return sum((found - other[tree]).total() for one, other in zip(some, others) for tree, found in one.items())
 
 
-def _toml(policy: Policy, done: Tightened) -> Iterator[str]:
+def _toml(done: Tightened, tightening: Tightening) -> Iterator[str]:
     """The policy with a remark on each rule."""
+    by_place: defaultdict[Place, list[Refused]] = defaultdict(list)
+    for unit, needed in done.needed.items():
+        by_place[unit.layer, unit.rule, unit.on].append(needed)
 
-    def remark(layer: int, rule: str) -> str:
-        return f"needed by {counted(done.by_rule.get((layer, rule), 0), 'call')}"
+    def remark(layer: int, rule: PathRule | PortRule) -> str:
+        calls = tightening.calls(one for on in places(rule) for one in by_place[layer, rule.place, on])
+        return f"needed by {counted(calls, 'call')}" if calls else "kept: it is not known where its parent led"
 
-    written = comments.read(policy.path.read_text(encoding="utf-8"))
+    written = comments.read(done.policy.path.read_text(encoding="utf-8"))
     yield f"# {counted(done.taken, 'right')} removed that these recordings don't need ({done.audits} audits)"
     yield from policy_text.lines(done.policy, written, remark)
 
 
-def _table(policy: Policy, done: Tightened, abi: int) -> Iterator[str]:
-    """A row for each right of each rule, with how many calls need it."""
-    places = {(layer.number, rule.place): str(rule.parents[0]) + (" .." if len(rule.parents) > 1 else "")
-              for layer in policy.layers for rule in layer.path_beneath}
-    places |= {(layer.number, rule.place): f"port {rule.ports[0]}" + (" .." if len(rule.ports) > 1 else "")
-               for layer in policy.layers for rule in layer.net_port}
-    rows = [(done.needed.get(unit, 0), unit) for unit in units(policy, abi)]
+def _table(policy: Policy, done: Tightened, tightening: Tightening, abi: int) -> Iterator[str]:
+    """A row for each right on each path and port, with how many calls need it."""
+    rows = [(tightening.calls([done.needed.get(unit, frozenset())]), unit) for unit in units(policy, abi)]
     yield f"{'calls':>7}  right        rule"
     for calls, unit in sorted(rows, key=lambda row: row[0]):
-        yield f"{calls:>7}  {unit.right:<11}  layer {unit.layer}, {unit.rule} ({places[unit.layer, unit.rule]})"
+        on = unit.on if isinstance(unit.on, str) else f"port {unit.on}"
+        yield f"{calls:>7}  {unit.right:<11}  layer {unit.layer}, {unit.rule} ({printable(on)})"
