@@ -98,9 +98,11 @@ def _trace(confined: Sequence[Sequence[Record]], questions: Sequence[Sequence[Qu
 
 def _answers(files: _Files, abi: int) -> Iterator[tuple[Record, Answer]]:
     """Each record with its answer at an ABI."""
-    records = (record for _, record in jsonl.numbered(files.trace))
-    answers = (row.answer for row in reports.rows(files.report, abi))
-    return iter(list(zip(records, answers, strict=True)))
+    records = [record for _, record in jsonl.numbered(files.trace)]
+    answers = [row.answer for row in reports.rows(files.report, abi)]
+    if len(records) != len(answers):
+        raise Problem("landaudit's report is cut: use landaudit and landaudit-policy of one version")
+    return zip(records, answers)
 
 
 def _see_rule(record: Record, answer: Answer) -> None:

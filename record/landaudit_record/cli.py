@@ -12,9 +12,11 @@ import sys
 from collections.abc import Sequence
 from dataclasses import dataclass
 from types import ModuleType
+from typing import NoReturn
 
-from . import POLICIES, RECORDER, VERSION, commands, policy_commands, stopping
-from .problems import Problem
+from . import POLICIES, RECORDER, VERSION, commands, policy_commands, stopping, streams
+from .problems import WANTING, Problem
+from .wording import plain
 
 
 @dataclass(frozen=True)
@@ -50,9 +52,17 @@ POLICY = Program(
 )
 
 
+class _Parser(argparse.ArgumentParser):
+    """A parser whose errors are on one line: they repeat words of the command line."""
+
+    def error(self, message: str) -> NoReturn:
+        """Prints how to call the program and what is wrong, and ends it."""
+        super().error(plain(message))
+
+
 def parser(program: Program = RECORD, words: Sequence[str] = ()) -> argparse.ArgumentParser:
     """The parser of a program's command line, with all subcommands, or only the one that begins the words."""
-    top = argparse.ArgumentParser(
+    top = _Parser(
         prog=program.name,
         description=program.description,
         epilog="example:\n  " + program.example,
@@ -86,25 +96,30 @@ def parse(words: Sequence[str], program: Program = RECORD) -> argparse.Namespace
 
 def main(words: Sequence[str] | None = None, program: Program = RECORD) -> int:
     """Runs one subcommand of a program and gives the status that it ends with."""
-    arguments = parse(sys.argv[1:] if words is None else words, program)
+    streams.make_whole()
     try:
-        with stopping.in_order():
+        with stopping.in_order(), streams.written():
+            arguments = parse(sys.argv[1:] if words is None else words, program)
             return int(arguments.run(arguments))
     except Problem as problem:
-        print(f"{program.name}: {problem}", file=sys.stderr)
-        return problem.status
+        return _failed(program, str(problem), problem.status)
     except BrokenPipeError:
-        os.dup2(os.open(os.devnull, os.O_WRONLY), sys.stdout.fileno())
+        streams.give_up()
         return 128 + signal.SIGPIPE
     except KeyboardInterrupt as interrupt:
         number = stopping.number_of(interrupt)
-        with contextlib.suppress(OSError):
-            print(f"{program.name}: ended by {signal.Signals(number).name}", file=sys.stderr, flush=True)
-        return 128 + number
+        return _failed(program, f"ended by {signal.Signals(number).name}", 128 + number)
     except OSError as error:
-        where = f"{error.filename}: " if error.filename else ""
-        print(f"{program.name}: {where}{error.strerror}", file=sys.stderr)
-        return 4
+        streams.give_up()
+        where = f"{os.fsdecode(error.filename)}: " if error.filename else ""
+        return _failed(program, f"{where}{error.strerror or error}", WANTING)
+
+
+def _failed(program: Program, why: str, status: int) -> int:
+    """Says why a subcommand ends, if anything can still be said, and gives the status."""
+    with contextlib.suppress(OSError):
+        print(plain(f"{program.name}: {why}"), file=sys.stderr, flush=True)
+    return status
 
 
 def policy_main() -> int:

@@ -10,7 +10,7 @@ from .differing_layers import Abis, Room, Unscoped
 from .policies import Policy
 from .regions import Region, Regions, phrases
 from .rights import FILE_RIGHTS, FS, NET
-from .wording import printable, span
+from .wording import plain, span
 
 _KINDS = {
     "reg": "regular files",
@@ -25,6 +25,10 @@ _KINDS = {
 
 def lines(found: Differences, old: Policy, new: Policy, abis: range) -> Iterator[str]:
     """The lines of a comparison, each without its line feed."""
+    yield from map(plain, _lines(found, old, new, abis))
+
+
+def _lines(found: Differences, old: Policy, new: Policy, abis: range) -> Iterator[str]:
     regions = Regions.of((old, new))
     tried = f"{found.tried:,} calls tried under each, at ABI {span(abis)}"
     if not found.more and not found.less:
@@ -33,7 +37,7 @@ def lines(found: Differences, old: Policy, new: Policy, abis: range) -> Iterator
     for one, differing, other in ((new, found.more, old), (old, found.less, new)):
         if differing:
             yield f"{one.path} lets pass what {other.path} refuses:"
-            yield from (f"  {printable(line)}" for line in _of_one(differing, regions, frozenset(abis)))
+            yield from (f"  {line}" for line in _of_one(differing, regions, frozenset(abis)))
         else:
             yield f"{one.path} lets nothing pass that {other.path} refuses"
     yield tried

@@ -37,7 +37,7 @@ def read(path: Path) -> Mapping[str, Any]:
             return tomllib.load(file)
     except OSError as error:
         raise Problem(f"cannot read {path}: {error.strerror}") from error
-    except (tomllib.TOMLDecodeError, UnicodeDecodeError, RecursionError) as error:
+    except (ValueError, RecursionError) as error:
         raise Problem(f"{path}: not TOML: {error}") from error
 
 

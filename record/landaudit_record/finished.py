@@ -209,6 +209,8 @@ def _converted(folder: Path) -> Converted | None:
         return Converted(parts, said["processes"], said["objects"], *counts, said["ended"], untraced)
     except (FileNotFoundError, NotADirectoryError):
         return None
+    except OSError as error:
+        raise Problem(f"cannot read {file}: {error.strerror}") from error
     except (ValueError, TypeError, KeyError, AttributeError) as error:
         raise Problem(f"{file} is not what a conversion writes: {_mending(folder)}") from error
 

@@ -14,7 +14,7 @@ from dataclasses import dataclass
 from itertools import product
 from typing import TextIO
 
-from .wording import MOST_NAMES, printable
+from .wording import MOST_NAMES, plain
 
 ELLIPSIS = "…"
 #: The width of lines without a terminal, and on a terminal that is too narrow.
@@ -32,8 +32,6 @@ _NATURAL = 1 << 30
 _STACKED = 3
 #: The share of the beginning in a shortened text: the end of a path says more.
 _HEAD = 0.3
-#: Unicode's names of the directions of letters and digits that a terminal may draw from right to left.
-_RIGHT_TO_LEFT = frozenset({"R", "AL", "AN"})
 
 #: The text of a cell for a given width.
 Cell = Callable[[int], str]
@@ -49,17 +47,6 @@ def encodable(line: str, stream: TextIO) -> str:
     """A line in the characters that a stream can encode, with a question mark for each other one."""
     encoding = stream.encoding or "utf-8"
     return line.encode(encoding, "replace").decode(encoding)
-
-
-def plain(text: str) -> str:
-    """A text on one line, with an escape for each character that a terminal acts on or draws from right to left."""
-    shown = printable(text)
-    if shown.isascii():
-        return shown
-    return "".join(
-        one.encode("unicode_escape").decode() if unicodedata.bidirectional(one) in _RIGHT_TO_LEFT else one
-        for one in shown
-    )
 
 
 def wide(text: str) -> int:

@@ -10,6 +10,7 @@ from typing import Any
 
 from . import RECORDER
 from .rights import NEWEST_ABI, OLDEST_ABI
+from .wording import plain
 
 
 #: The words for single ABIs.
@@ -132,4 +133,4 @@ def add_landaudit(parser: argparse.ArgumentParser) -> None:
 def note(notes: Iterable[str], program: str = RECORDER) -> None:
     """Prints a program's notes to standard error, one a line."""
     for text in notes:
-        print(f"{program}: note: {text}", file=sys.stderr)
+        print(plain(f"{program}: note: {text}"), file=sys.stderr)

@@ -2,7 +2,6 @@
 
 from __future__ import annotations
 
-import json
 from collections.abc import Callable, Iterator, Sequence
 from dataclasses import replace
 from itertools import groupby
@@ -11,7 +10,7 @@ from .comments import Comments
 from .policies import Access, Layer, PathRule, Policy, PortRule
 from .rights import FILE_RIGHTS, FS, NET, Family, Rights
 from .trees import Tree
-from .wording import printable
+from .wording import plain, quoted
 
 Remark = Callable[[int, PathRule | PortRule], str]
 Words = tuple[str, ...]
@@ -145,7 +144,7 @@ def _head(
 
 
 def _comments(texts: list[str]) -> Iterator[str]:
-    yield from (f"# {printable(text)}".rstrip() for text in texts)
+    yield from (f"# {plain(text)}".rstrip() for text in texts)
 
 
 def _words(access: Access, family: Family, handled: Rights) -> Words:
@@ -159,14 +158,9 @@ def _words(access: Access, family: Family, handled: Rights) -> Words:
 
 
 def _list(words: Sequence[str]) -> str:
-    return f"[{', '.join(json.dumps(word) for word in words)}]"
+    return f"[{', '.join(quoted(word) for word in words)}]"
 
 
 def _one_or_several(values: list[str] | list[int]) -> str:
-    written = [_text(value) if isinstance(value, str) else str(value) for value in values]
+    written = [quoted(value) if isinstance(value, str) else str(value) for value in values]
     return written[0] if len(written) == 1 else f"[{', '.join(written)}]"
-
-
-def _text(text: str) -> str:
-    """A text as a TOML basic string: the same as in JSON except for the character DEL."""
-    return json.dumps(text, ensure_ascii=False).replace("\x7f", "\\u007F")

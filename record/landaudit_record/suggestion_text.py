@@ -2,7 +2,6 @@
 
 from __future__ import annotations
 
-import json
 from collections import Counter
 from collections.abc import Iterator, Mapping
 
@@ -10,7 +9,7 @@ from .policies import Layer, Policy
 from .rights import FS, NET
 from .suggesting import Suggestion, needs_refer
 from .wants import Rule
-from .wording import counted, printable
+from .wording import counted, plain, quoted
 
 
 def lines(suggestion: Suggestion, policy: Policy) -> Iterator[str]:
@@ -23,7 +22,7 @@ def lines(suggestion: Suggestion, policy: Policy) -> Iterator[str]:
 
 
 def _of_layer(layer: Layer, rules: list[Rule], groups: Mapping[str, int], policy: Policy) -> Iterator[str]:
-    only = "" if len(policy.layers) == 1 else f": paste them under the [[layer]] of that number in {policy.path}"
+    only = "" if len(policy.layers) == 1 else f": paste them under the [[layer]] of that number in {plain(str(policy.path))}"
     with_groups = f" and {counted(len(groups), 'group')}" if groups else ""
     yield f"# {counted(len(rules), 'rule')}{with_groups} for layer {layer.number}{only}"
     if needs_refer(layer, rules):
@@ -38,7 +37,7 @@ def _of_layer(layer: Layer, rules: list[Rule], groups: Mapping[str, int], policy
     for rule in rules:
         yield ""
         yield f"# {counted(rule.calls, 'call')}"
-        yield from (f"# {printable(remark)}" for remark in rule.remarks)
+        yield from (f"# {plain(remark)}" for remark in rule.remarks)
         yield from _rule(rule)
     yield ""
 
@@ -47,7 +46,7 @@ def _rule(rule: Rule) -> Iterator[str]:
     if isinstance(rule.place, str):
         yield "[[layer.path_beneath]]"
         yield f"allowed_access = {_list(FS.ordered(rule.rights))}"
-        yield f"parent = {_text(rule.place)}"
+        yield f"parent = {quoted(rule.place)}"
     else:
         yield "[[layer.net_port]]"
         yield f"allowed_access = {_list(NET.ordered(rule.rights))}"
@@ -75,9 +74,4 @@ def _staying(calls: Counter[str], why: str) -> Iterator[str]:
 
 
 def _list(words: list[str]) -> str:
-    return "[" + ", ".join(map(_text, words)) + "]"
-
-
-def _text(text: str) -> str:
-    """A TOML basic string."""
-    return json.dumps(text, ensure_ascii=False).replace("\x7f", "\\u007f")
+    return "[" + ", ".join(map(quoted, words)) + "]"

@@ -12,11 +12,11 @@ from . import grouping, layout
 from .answers import NOT_OPEN, Closed, Kept, Missing, Objection
 from .by_abi import Kind, Step
 from .grouping import Group, Lacking
-from .layout import Cell, Column, Lack, plain, table, wide, words
+from .layout import Cell, Column, Lack, table, wide, words
 from .recorder.processes import FIRST_MADE_UP
 from .summary import MISSED, Brief, Refusal, RefusingLayer, Summary
 from .trees import directory_of
-from .wording import counted, some_of
+from .wording import counted, plain, some_of
 
 #: The answers in the order in which they are counted.
 VERDICTS = ("allowed", "refused", "moot")

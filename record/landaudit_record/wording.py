@@ -1,11 +1,20 @@
-"""Words for a person: counted things, and texts that are on one line."""
+"""Words for a person: counted things, and texts that are on one line.
+
+Names are not trusted: what is printed of them goes through `plain`, or through `quoted` where a file is printed.
+"""
 
 from __future__ import annotations
 
+import json
+import unicodedata
 from collections.abc import Sequence
 
 #: The number of names that are printed of many.
 MOST_NAMES = 3
+#: Unicode's names of the directions of letters and digits that a terminal may draw from right to left.
+_RIGHT_TO_LEFT = frozenset({"R", "AL", "AN"})
+#: The highest character that has an escape of four digits.
+_FOUR_DIGITS = 0xFFFF
 
 
 def counted(number: int, thing: str) -> str:
@@ -26,4 +35,28 @@ def span(numbers: range) -> str:
 
 def printable(text: str) -> str:
     """A text on one line, with an escape for each character that a terminal would interpret."""
-    return text if text.isprintable() else text.encode("unicode_escape").decode()
+    return text if text.isprintable() else "".join(one if one.isprintable() else _escape(one) for one in text)
+
+
+def plain(text: str) -> str:
+    """A text on one line, with an escape for each character that a terminal acts on or draws from right to left."""
+    shown = printable(text)
+    if shown.isascii():
+        return shown
+    return "".join(_escape(one) if unicodedata.bidirectional(one) in _RIGHT_TO_LEFT else one for one in shown)
+
+
+def _escape(character: str) -> str:
+    """A character by its number, as Python writes it."""
+    return character.encode("unicode_escape").decode()
+
+
+def quoted(text: str) -> str:
+    """A text in double quotes, as TOML and YAML have it, with an escape for each character that is not printable."""
+    return "".join(one if one.isprintable() else _numbered(one) for one in json.dumps(text, ensure_ascii=False))
+
+
+def _numbered(character: str) -> str:
+    """A character by its number, as TOML and YAML write it."""
+    code = ord(character)
+    return f"\\u{code:04x}" if code <= _FOUR_DIGITS else f"\\U{code:08x}"

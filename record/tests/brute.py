@@ -302,7 +302,7 @@ def parsed(text: str) -> Policy:
 
 
 def units(policy: Policy, kinds: Kinds, abi: int) -> Iterator[Unit]:
-    """Each right on each path and port that an ABI knows and the layer handles, and that an object of its kind can have.
+    """Each right on each path and port that an ABI knows, the layer handles and an object of its kind can have.
 
     A path where nothing is counts as that of a directory.
     """

@@ -1,4 +1,4 @@
-"""A tightened policy on a running kernel: the program does its work under it, and not without any right that is left."""
+"""A tightened policy on a running kernel: the program works under it, and not without any right that is left."""
 
 from __future__ import annotations
 

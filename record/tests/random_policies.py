@@ -82,12 +82,12 @@ class Layer:
                 path = plain(on)
                 rights = granted(rule.words, handled, kinds.get(path))
                 if path in kinds and rights:
-                    of_rule: Record = {"op": "add_path", "rs": RULESET, "path": path, "rule": f"path {number}", "on": on}
-                    yield {**of_rule, "fs": FS.ordered(rights)}
+                    of_rule: Record = {"rs": RULESET, "rule": f"path {number}", "on": on}
+                    yield {**of_rule, "op": "add_path", "path": path, "fs": FS.ordered(rights)}
         for number, rule in enumerate(self.ports, start=1):
             for port in rule.on:
-                of_rule = {"op": "add_port", "rs": RULESET, "port": port, "rule": f"port {number}", "on": port}
-                yield {**of_rule, "net": NET.ordered(meant(rule.words, NET) & handled_net)}
+                of_rule = {"rs": RULESET, "rule": f"port {number}", "on": port}
+                yield {**of_rule, "op": "add_port", "port": port, "net": NET.ordered(meant(rule.words, NET) & handled_net)}
         yield {"op": "restrict", "rs": RULESET}
         yield {"op": "close_rs", "rs": RULESET}
 

@@ -4,6 +4,8 @@ from __future__ import annotations
 
 import contextlib
 import io
+import shutil
+import subprocess
 import tempfile
 import unittest
 from pathlib import Path
@@ -32,13 +34,34 @@ parent = "@"
 
 
 class Lines(unittest.TestCase):
-    """By the specification of TAP, version 14."""
+    """By the specification of TAP, version 13."""
 
     def test_a_point_with_diagnostics(self) -> None:
         self.assertEqual(
             list(tap.point(2, False, "a # b\\c\nd", {"why": "x: \"y\"", "layers": ["one", "two"]})),
-            ["not ok 2 - a \\# b\\\\c\\nd", "  ---", '  why: "x: \\"y\\""', "  layers:", '    - "one"', '    - "two"', "  ..."],
+            ["not ok 2 - a \\# b\\\\c\\nd", "  ---", '  "why": "x: \\"y\\""', '  "layers":', '    - "one"', '    - "two"', "  ..."],
         )
+
+    def test_what_a_terminal_acts_on_is_escaped(self) -> None:
+        (point, *_) = tap.point(1, True, "a\x1b[31m\u2028", {})
+        self.assertEqual(point, "ok 1 - a\\x1b[31m\\u2028")
+        lines = list(tap.point(1, True, "a", {"why": "\x9b31m \x7f"}))
+        self.assertEqual(lines[2], '  "why": "\\u009b31m \\u007f"')
+
+    @unittest.skipIf(shutil.which("prove") is None, "prove is not installed")
+    def test_prove_reads_it(self) -> None:
+        """prove(1) ends with status 0 exactly if each test is `ok` and it understands every line."""
+        about = {"abi 1-5": ["layer 1: read_file on /a # b", 'a "quoted" \\ name'], "rules": "no layer: handles it"}
+        for passed in (True, False):
+            lines = [tap.VERSION, tap.plan(2), *tap.point(1, True, "refused: open r /a # skip \x1b", about),
+                     *tap.point(2, passed, "allowed: open w /b", {"abi 2": "allowed"})]
+            with self.subTest(passed), tempfile.NamedTemporaryFile("w", suffix=".tap") as file:
+                file.write("".join(f"{line}\n" for line in lines))
+                file.flush()
+                proved = subprocess.run(["prove", "--exec", "cat", file.name], capture_output=True, text=True)
+                self.assertEqual(proved.returncode == 0, passed, proved.stdout + proved.stderr)
+                self.assertNotIn("Parse errors", proved.stdout + proved.stderr)
+                self.assertNotIn("skipped", proved.stdout)
 
     def test_a_point_without_any(self) -> None:
         self.assertEqual(list(tap.point(1, True, "a", {})), ["ok 1 - a"])
@@ -66,32 +89,32 @@ class Checking(unittest.TestCase):
     def point(self, case: str, policy: str = POLICY) -> tuple[int, list[str]]:
         """The status of a check of one case, and the lines of its point."""
         status, lines, errors = self.checked(case, policy)
-        self.assertEqual(lines[:2], ["TAP version 14", "1..1"], errors)
+        self.assertEqual(lines[:2], ["TAP version 13", "1..1"], errors)
         return status, lines[2:]
 
     def test_what_is_refused_names_the_layer_and_the_missing_right(self) -> None:
         self.assertEqual(
             self.point('[[refused]]\ncall = "open r"\npath = "@/closed/file"\n'),
-            (0, ["ok 1 - refused: open r @/closed/file", "  ---", "  abi 1-5:",
+            (0, ["ok 1 - refused: open r @/closed/file", "  ---", '  "abi 1-5":',
                  '    - "layer 1: read_file on @/closed/file"', "  ..."]),
         )
 
     def test_what_is_allowed_names_the_rule(self) -> None:
         self.assertEqual(
             self.point('[[refused]]\ncall = "open r"\npath = "@/open/file"\n'),
-            (1, ["not ok 1 - refused: open r @/open/file", "  ---", '  abi 1-5: "allowed"', "  rules:",
+            (1, ["not ok 1 - refused: open r @/open/file", "  ---", '  "abi 1-5": "allowed"', '  "rules":',
                  '    - "layer 1: path_beneath 1 on @/open grants read_file"', "  ..."]),
         )
 
     def test_a_parent_that_is_a_link_is_what_it_leads_to(self) -> None:
         status, lines = self.point('[[allowed]]\ncall = "open w"\npath = "@/work/file"\n')
-        self.assertEqual((status, lines[3:5]), (0, ["  rules:", '    - "layer 1: path_beneath 2 on @/work grants write_file"']))
+        self.assertEqual((status, lines[3:5]), (0, ['  "rules":', '    - "layer 1: path_beneath 2 on @/work grants write_file"']))
 
     def test_abis_that_differ(self) -> None:
         self.assertEqual(
             self.point('[[refused]]\ncall = "truncate"\npath = "@/work/file"\nabi = "2-5"\n'),
-            (1, ["not ok 1 - refused: truncate @/work/file at ABI 2-5", "  ---", '  abi 2: "allowed"', "  abi 3-5:",
-                 '    - "layer 2: truncate on @/work/file"', "  rules:",
+            (1, ["not ok 1 - refused: truncate @/work/file at ABI 2-5", "  ---", '  "abi 2": "allowed"', '  "abi 3-5":',
+                 '    - "layer 2: truncate on @/work/file"', '  "rules":',
                  '    - "layer 1: path_beneath 2 on @/work grants truncate"', "  ..."]),
         )
         self.assertEqual(self.point('[[refused]]\ncall = "truncate"\npath = "@/work/file"\nabi = "3-5"\n')[0], 0)
@@ -105,7 +128,7 @@ class Checking(unittest.TestCase):
             "ok 1 - refused: connect port 22 at ABI 4-5", "ok 2 - refused: mount", "ok 3 - allowed: connect port 443",
             "ok 4 - allowed: bind port 80"]))
         self.assertIn('    - "layer 1: net_port 1 on port 443 grants connect_tcp"', lines)
-        self.assertIn('  rules: "no layer handles what the call asks"', lines)
+        self.assertIn('  "rules": "no layer handles what the call asks"', lines)
 
     def test_moves_that_gain(self) -> None:
         move = '[[refused]]\ncall = "rename"\nfrom = "@/work/file"\nto = "@/open/x"\n'

@@ -76,7 +76,7 @@ class CommandLine(unittest.TestCase):
             with self.subTest(word):
                 status, error = said("audit", "rec", f"--abi={word}")
                 self.assertEqual(status, 2)
-                self.assertIn(f"--abi: {word!r} {what}\n", error)
+                self.assertIn(f"--abi: {word!a} {what}\n", error)
                 self.assertEqual(said("audit", "rec", "--abi", word), (status, error))
 
     def test_two_ranges_of_abis(self) -> None:

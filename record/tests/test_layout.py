@@ -8,7 +8,7 @@ import unittest
 from io import BytesIO, StringIO, TextIOWrapper
 from unittest import mock
 
-from landaudit_record import layout
+from landaudit_record import layout, wording
 from landaudit_record.layout import Column, Lack, words
 
 
@@ -47,9 +47,9 @@ class Texts(unittest.TestCase):
         self.assertEqual(layout.shortened("\u6f22" * 9, 6), "…\u6f22\u6f22")
 
     def test_letters_from_right_to_left_are_escaped(self) -> None:
-        self.assertEqual(layout.plain("/a/\u05d0b\u0661"), r"/a/\u05d0b\u0661")
-        self.assertEqual(layout.plain("/a/é\u6f22"), "/a/é\u6f22")
-        self.assertEqual(layout.plain("\u202e\x1b\udcff"), r"\u202e\x1b\udcff")
+        self.assertEqual(wording.plain("/a/\u05d0b\u0661"), r"/a/\u05d0b\u0661")
+        self.assertEqual(wording.plain("/a/é\u6f22"), "/a/é\u6f22")
+        self.assertEqual(wording.plain("\u202e\x1b\udcff"), r"\u202e\x1b\udcff")
 
     def test_a_sentence_is_folded_at_blanks(self) -> None:
         self.assertEqual(layout.folded("one two three four", 9), ["one two", "  three", "  four"])

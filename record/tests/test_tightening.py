@@ -217,7 +217,8 @@ port = 443
         calls += [{"op": "bind", "port": port} for port in (443, 22)]
         one = self.recording("one", [*tree, {"path": PROGRAM, "kind": "reg"}], [*calls, {"op": "truncate", "path": "/a/f"}])
         ports = "[[layer.net_port]]\nallowed_access = [\"all\"]\nport = [443, 80, 22]\n"
-        text = self.rules(('["read", "truncate"]', '["/d", "/c", "/a", "/b"]'), ('["execute"]', f'"{PROGRAM}"')) + ports
+        rules = (('["read", "truncate"]', '["/d", "/c", "/a", "/b"]'), ('["execute"]', f'"{PROGRAM}"'))
+        text = self.rules(*rules) + ports
         text = text.replace("\n", '\nhandled_access_net = ["all"]\n', 1)
         self.assertEqual(self.left(text, one), [("read_file", "/c", "/b"), ("read_file", "truncate", "/a"),
                                                 ("execute", PROGRAM)])

@@ -17,6 +17,7 @@ from ..options import add_abi, add_landaudit, note
 from ..problems import WANTING, Problem
 from ..reading import judged
 from ..rights import alone
+from ..wording import plain
 
 NAME = "compare"
 HELP = "compare landaudit's answers with what the kernel did to a program that was under a layer"
@@ -49,7 +50,7 @@ def run(arguments: argparse.Namespace) -> int:
         print(json.dumps(comparing_text.as_data(tally, arguments.abi), indent=2))
     else:
         for line in comparing_text.lines(tally, f"{arguments.recording} at ABI {arguments.abi}"):
-            print(line)
+            print(plain(line))
     return 1 if tally.unnamed else 0
 
 

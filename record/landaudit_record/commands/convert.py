@@ -10,6 +10,7 @@ from pathlib import Path
 from .. import policies
 from ..recorder import converting, recordings
 from ..recorder.ports import Ports
+from ..wording import plain
 
 NAME = "convert"
 HELP = "write the tree and the trace of a recording again, from the log that it keeps"
@@ -59,4 +60,4 @@ def converted(folder: Path, port_rules: Path | None) -> None:
 def say(text: str) -> None:
     """Prints a line for the user to standard error, if the terminal is still there."""
     with contextlib.suppress(OSError):
-        print(f"landaudit-record: {text}", file=sys.stderr, flush=True)
+        print(plain(f"landaudit-record: {text}"), file=sys.stderr, flush=True)

@@ -16,7 +16,7 @@ from ..problems import WANTING, Problem
 from ..rights import alone
 from ..tightening import Asked, Place, Refused, Tightened, Tightening, places, units
 from ..trying import Auditing, Tried
-from ..wording import counted, printable
+from ..wording import counted, plain
 
 NAME = "tighten"
 HELP = "print the policy without the rights that no recording needs"
@@ -120,4 +120,4 @@ def _table(policy: Policy, done: Tightened, tightening: Tightening, abi: int) ->
     yield f"{'calls':>7}  right        rule"
     for calls, unit in sorted(rows, key=lambda row: row[0]):
         on = unit.on if isinstance(unit.on, str) else f"port {unit.on}"
-        yield f"{calls:>7}  {unit.right:<11}  layer {unit.layer}, {unit.rule} ({printable(on)})"
+        yield f"{calls:>7}  {unit.right:<11}  layer {unit.layer}, {unit.rule} ({plain(on)})"

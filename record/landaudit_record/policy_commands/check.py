@@ -29,7 +29,7 @@ CASES = """
 Cases are TOML: each [[refused]] or [[allowed]] has a call in the words of a
 trace (open r, open w create, exec, mknod fifo, rename, connect, ..) with path,
 from and to, or port; abi (one or a range) unless the case is about all ABIs;
-and kind for a path that is not on this machine. The output is TAP, version 14,
+and kind for a path that is not on this machine. The output is TAP, version 13,
 or JSON with --json."""
 
 

@@ -112,14 +112,22 @@ def read_about(folder: Path) -> About:
 def policy_of(folder: Path) -> Path | None:
     """The policy under which a recording was made, if it was made with `run --policy`."""
     file = folder / POLICY
-    return file if file.is_file() else None
+    try:
+        return file if file.is_file() else None
+    except OSError as error:
+        raise Problem(f"cannot read {file}: {error.strerror}") from error
 
 
 def standard_descriptors() -> dict[str, dict[str, Any]]:
-    """The kinds and paths of standard input, output and error of this process, and the families of TCP sockets."""
+    """The kinds and paths of standard input, output and error, and the families of TCP sockets among them.
+
+    Those that a command does not inherit are left out.
+    """
     found: dict[str, dict[str, Any]] = {}
     for number in range(3):
         try:
+            if not os.get_inheritable(number):
+                continue
             status = os.fstat(number)
             path = os.readlink(f"/proc/self/fd/{number}")
         except OSError:
