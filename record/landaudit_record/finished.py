@@ -125,6 +125,10 @@ def numbered(folder: Path, parts: int) -> list[Part]:
     return [Part(folder)] if parts == 1 else [Part(folder, number) for number in range(1, parts + 1)]
 
 
+#: What the line of a record has by which a process restricts itself.
+_RESTRICT = b'"restrict"'
+
+
 @dataclass(frozen=True)
 class Finished:
     """The folder of a recording with all its parts.
@@ -158,6 +162,15 @@ class Finished:
         if not self.ended:
             told.append("the recording is cut: the log stops before the command's end, so record it again")
         return told
+
+    def has_layers(self) -> bool:
+        """Whether a process of the recording restricts itself."""
+        for part in self.parts:
+            with open(part.trace, "rb") as lines:
+                for number, line in enumerate(lines, start=1):
+                    if _RESTRICT in line and jsonl.read(part.trace, number, line).get("op") == "restrict":
+                        return True
+        return False
 
     def _of_scopes(self) -> Iterator[str]:
         """The calls that the policy's scopes may refuse: there are no records for them, they are only counted."""

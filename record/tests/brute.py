@@ -42,7 +42,7 @@ from tests.random_runs import Run  # noqa: E402
 ABIS = range(OLDEST_ABI, NEWEST_ABI + 1)
 TREES = 4
 _ROW = re.compile(r" *([0-9]+)  ([a-z_]+) +layer ([0-9]+), (path_beneath|net_port) ([0-9]+) \((?:port ([0-9]+)|(.*))\)")
-_REFUSED_RULE = re.compile(r"layer ([0-9]+), path_beneath ([0-9]+), parent (.*): the kernel refuses this rule, ")
+_REFUSED_RULE = re.compile(r"layer ([0-9]+), path_beneath ([0-9]+), parent (.*): the kernel refuses this rule: ")
 _TABLES = {"path_beneath": "path", "net_port": "port"}
 RULES = 10
 APART = 1000

@@ -12,6 +12,7 @@ from pathlib import Path
 from unittest import mock
 
 from landaudit_record import cli
+from landaudit_record.finished import Finished
 
 from .recorded import PID, missing_on, moot, refused, write_lines
 
@@ -91,6 +92,7 @@ class StandIn(unittest.TestCase):
         files = {"answers": str(self.folder / "answers.json"), "runs": str(self.runs), "record": str(RECORD)}
         self.landaudit.write_text(LANDAUDIT.format(**files))
         self.landaudit.chmod(0o755)
+        self.enterContext(mock.patch.object(Finished, "has_layers", return_value=True))
 
     def called(self, *words: object) -> tuple[int, str, str]:
         """The status of a call, and what it wrote to standard output and standard error."""

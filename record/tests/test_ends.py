@@ -13,6 +13,7 @@ from collections.abc import Iterator, Sequence
 from pathlib import Path
 
 from landaudit_record import commands, policy_commands
+from landaudit_record.jsonl import Record
 from landaudit_record.landaudit import BUILT
 
 from .live_actor import CONFINER, RECORDER
@@ -67,8 +68,8 @@ class Ends(unittest.TestCase):
     def ended(self, words: Sequence[str | Path], how: str = "exec \"$@\"") -> subprocess.CompletedProcess[str]:
         """A command that a shell starts, from the folder; it ends without a traceback, with a line if it fails."""
         variables = {"PATH": os.environ["PATH"], "LC_ALL": "C.UTF-8"}
-        run = subprocess.run(["sh", "-c", how, "sh", *words], cwd=self.folder, capture_output=True, text=True, timeout=60,
-                             env=variables)
+        run = subprocess.run(["sh", "-c", how, "sh", *words], cwd=self.folder, capture_output=True, text=True,
+                             timeout=60, env=variables)
         self.assertNotIn("Traceback", run.stderr, words)
         self.assertNotIn("Exception ignored", run.stderr, words)
         return run
@@ -160,10 +161,27 @@ class Ends(unittest.TestCase):
                                                              for it in words]])
                 self.assertEqual([one for one in run.stderr if not one.isprintable() and one != "\n"], [])
 
+    def test_an_audit_without_a_policy_of_a_program_that_confines_nothing(self) -> None:
+        """A forgotten option is no success; what the program's own layers refuse is asked where there is one."""
+        other = self.folder / "other"
+        other.mkdir()
+        write_lines(other / "tree.jsonl", TREE)
+        layer: list[Record] = [{"op": "create", "rs": 3, "pid": 10, "fs": ["make_sym"]},
+                               {"op": "restrict", "rs": 3, "pid": 10}]
+        write_lines(other / "trace.jsonl", [TRACE[0], {"op": "nnp", "pid": 10}, *layer, *TRACE[1:]])
+        audited = [sys.executable, RECORDER, "audit"]
+        run = self.ended([*audited, "rec"])
+        self.assertEqual((run.returncode, run.stdout), (2, ""))
+        self.assertRegex(run.stderr, r"\Alandaudit-record: rec: .*--policy.*--as-recorded\n\Z")
+        for words in (["rec", "--as-recorded"], ["other"], ["rec", "other"], ["rec", "--policy", "policy.toml"]):
+            with self.subTest(words):
+                self.assertEqual(self.ended([*audited, *words]).returncode, int("--policy" in words))
+
     def test_huge_numbers(self) -> None:
         """In each file that is TOML, and in a trace and a tree."""
         texts = {"policy.toml": f"x = {HUGE}\n{POLICY}", "cases.toml": CASES.replace("443", HUGE),
-                 "rec/trace.jsonl": f'{{"op":"start","pid":{HUGE}}}\n', "rec/tree.jsonl": f'{{"path":{HUGE},"kind":"reg"}}\n'}
+                 "rec/trace.jsonl": f'{{"op":"start","pid":{HUGE}}}\n',
+                 "rec/tree.jsonl": f'{{"path":{HUGE},"kind":"reg"}}\n'}
         for name, text in texts.items():
             file = self.folder / name
             before = file.read_text()

@@ -100,7 +100,7 @@ class Judging(KeptLogs):
         program, terminal = self.landaudit(), Terminal()
         always = mock.patch.object(reading, "EVERY", 1), mock.patch.object(progress, "EVERY", 0)
         with always[0], always[1], redirect_stderr(terminal), redirect_stdout(StringIO()):
-            cli.main(["audit", str(self.recording), "--landaudit", program])
+            cli.main(["audit", str(self.recording), "--as-recorded", "--landaudit", program])
         *shown, last = terminal.getvalue().split("\r\033[K")
         self.assertEqual(shown[:2], ["", "judging at ABI 1-5, part 1 of 2"])
         self.assertLess(shown.index("13 answers read"), shown.index("judging at ABI 1-5, part 2 of 2"))
@@ -122,7 +122,8 @@ class Judging(KeptLogs):
         for name, waits in {"SIGINT": "trace-1.jsonl", "SIGTERM": "trace-2.jsonl"}.items():
             self.started.unlink(missing_ok=True)
             program = self.landaudit(f"if trace.name == {waits!r}: wait_for({str(self.go)!r})")
-            words = [sys.executable, RECORD / "landaudit-record", "audit", self.recording, "--landaudit", program]
+            words = [sys.executable, RECORD / "landaudit-record", "audit", self.recording, "--as-recorded", "--landaudit",
+                     program]
             audit = subprocess.Popen(words, stdout=subprocess.DEVNULL, stderr=subprocess.PIPE, text=True)
             number = signal.Signals[name]
             with self.subTest(name), audit:
@@ -147,6 +148,7 @@ class Judging(KeptLogs):
             program = self.landaudit(f"if trace.name == 'trace-2.jsonl': {does}")
             error = StringIO()
             with self.subTest(told), redirect_stderr(error):
-                self.assertEqual(cli.main(["audit", str(self.recording), "--landaudit", program]), WANTING)
+                words = ["audit", str(self.recording), "--as-recorded", "--landaudit", program]
+                self.assertEqual(cli.main(words), WANTING)
                 self.assertEqual(error.getvalue(), f"landaudit-record: {told} ({where})\n")
                 self.assert_nothing_is_left()

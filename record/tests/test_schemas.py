@@ -342,11 +342,11 @@ class Built(KeptLogs):
         for name in ("descriptors", "forks", "moves", "objects", "policy", "script", "threads"):
             folder = self.folder(name)
             converting.convert(folder, Ports())
-            for words in ((), ("--policy", policy)):
+            for words in (("--as-recorded",), ("--policy", policy)):
                 with self.subTest(name, words=words):
                     data = self.called(cli.RECORD, "audit", folder, *words)
                     self.assertEqual((AUDIT.faults(data), AUDIT.undescribed(data)), ([], []))
-                    self.assertTrue(data["refusals"] or not words)
+                    self.assertTrue(data["refusals"] or data["as_recorded"])
 
     def test_a_check(self) -> None:
         data = self.called(cli.POLICY, "check", self.file("policy.toml", POLICY), self.file("cases.toml", CASES))

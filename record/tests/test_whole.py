@@ -55,7 +55,8 @@ class Whole(KeptLogs):
         out, errors = StringIO(), StringIO()
         wide = mock.patch.dict(os.environ, COLUMNS=WIDE)
         with redirect_stdout(out), redirect_stderr(errors), wide:
-            status = cli.main(["audit", str(self.recording), "--landaudit", str(self.landaudit), *words])
+            alone = [] if "--policy" in words else ["--as-recorded"]
+            status = cli.main(["audit", str(self.recording), "--landaudit", str(self.landaudit), *alone, *words])
         return status, out.getvalue(), errors.getvalue()
 
     def test_one_part_has_the_files_of_one(self) -> None:

@@ -11,7 +11,7 @@ from typing import Any
 
 from .. import accepting, by_abi, landaudit, layout, page, policies, summary_text, together
 from ..options import add_abis, add_as_recorded, add_landaudit, add_program, add_recordings, note
-from ..problems import NOT_ALL_JUDGED
+from ..problems import NOT_ALL_JUDGED, USAGE, Problem
 from ..rights import NEWEST_ABI
 from ..summary import Summaries, Summary, as_data
 from ..summary_text import Beside
@@ -77,6 +77,9 @@ def run(arguments: argparse.Namespace) -> int:
     accepted = [*(accepting.read(policy.path, only=False) if policy else ()),
                 *(accepting.read(arguments.accepted) if arguments.accepted else ())]
     members = together.opened(arguments.recordings, policy, arguments.program)
+    if policy is None and not arguments.as_recorded and not any(member.recording.has_layers() for member in members):
+        raise Problem(f"{', '.join(arguments.recordings)}: no program puts a layer on itself, so nothing can be refused: "
+                      "give a policy to try with --policy, or give --as-recorded", USAGE)
     notes = together.policy_notes(members, arguments.abis, here=not arguments.json) + together.recording_notes(members)
     with together.audits(members, program, NAME, best_effort=not arguments.as_recorded) as audits:
         each = [(it, _summaries(it, auditing, arguments.abis)) for it, auditing in zip(members, audits)]
