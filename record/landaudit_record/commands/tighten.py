@@ -4,7 +4,7 @@ from __future__ import annotations
 
 import argparse
 from collections import Counter, defaultdict
-from collections.abc import Iterator, Sequence, Set
+from collections.abc import Iterator, Sequence
 from dataclasses import replace
 from pathlib import Path
 
@@ -71,7 +71,7 @@ def run(arguments: argparse.Namespace) -> int:
     return together.status(members)
 
 
-def _with_unknown(tight: Policy, whole: Policy, unknown: Set[str]) -> Policy:
+def _with_unknown(tight: Policy, whole: Policy, unknown: frozenset[str]) -> Policy:
     """A policy that was tightened, with the rules as they were of which is not known where their parents led.
 
     Each rule is on one path.
