@@ -132,7 +132,7 @@ def _made(recording: Path, abi: int) -> frozenset[Asked]:
 
 
 def _made_under_layers(recording: Path, abi: int) -> frozenset[Asked]:
-    """The calls that a run made under a layer: those of a sandboxer before it restricts itself pass whatever it says."""
+    """The calls that a run made under a layer: those of a sandboxer before its own restrict always pass."""
     made: frozenset[Asked] = frozenset()
     with tempfile.TemporaryDirectory() as scratch:
         for part in finished.opened(str(recording)).parts:

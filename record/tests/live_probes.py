@@ -18,7 +18,7 @@ from typing import Any
 from landaudit_record.jsonl import numbered
 from landaudit_record.recorder.calls import beyond, descriptors, landlock, mounts, others, programs
 from landaudit_record.recorder.converting import CORE_FILE
-from landaudit_record.recorder.scene import BY_UNSEEN_LAYER
+from landaudit_record.recorder.scene import BY_UNSEEN_LAYER, MOVING
 
 from .live_actor import CONFINER, HERE, POLICIES, PYTHON, RECORDER, wanting
 
@@ -178,6 +178,16 @@ class LiveProbes(unittest.TestCase):
         self.assertEqual(cut, {"EACCES"})
         interrupted = (self.folder / "confined" / "strace.txt").read_text("latin-1").count("<... close resumed>")
         self.assertGreater(interrupted, 100)
+
+    def test_a_working_folder_that_another_thread_changes(self) -> None:
+        self.fill()
+        run = self.run_recorded("confined", *self.confine, PYTHON, "-S", "probes.py", "moving")
+        self.assertEqual(run.returncode, 0, run.stderr)
+        compared = self.said("compare", str(self.folder / "confined"))
+        self.assertEqual(compared["differences"], [])
+        made = [record for _, record in numbered(self.folder / "confined" / "trace.jsonl") if record["op"] == "mkdir"]
+        self.assertEqual({record["kernel"] for record in made}, {"ok", "EACCES"})
+        self.assertEqual(self.holes("confined"), {MOVING})
 
     def met(self, bare: dict[str, list[str]], confined: dict[str, list[str]]) -> frozenset[str]:
         """The steps that a policy refused, and nothing else did."""

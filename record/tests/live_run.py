@@ -22,6 +22,14 @@ from landaudit_record.recorder.writing import UNDONE
 RECORDER = Path(__file__).resolve().parents[1] / "landaudit-record"
 SOON = 20.0
 SLEEPS = "sleep 1000.25"
+#: A file server, what works in its file system with open files and a working folder there, and the server's end.
+SERVES = """
+bindfs -f served mounted & server=$!
+until mountpoint -q mounted; do sleep 0.1; done
+exec 3<mounted/given; cat <&3; ls -l mounted >&2; cp mounted/given mounted/copy; cat mounted/copy
+mkdir mounted/d; cd mounted/d; echo x > y; rm y; cd ../..; exec 3<&-
+umount mounted; wait $server; echo ended
+"""
 STUBBORN = "import signal, time; signal.signal(signal.SIGTERM, signal.SIG_IGN); print('ready', flush=True); time.sleep(99)"
 
 
@@ -116,6 +124,23 @@ class LiveRun(unittest.TestCase):
         self.assertEqual(run.returncode, 128 + signal.SIGTERM, error)
         self.assertIn(f"next: landaudit-record convert {self.out}\n", error)
         self.assertIn("landaudit-record: ended by SIGTERM\n", error)
+
+    @unittest.skipIf(shutil.which("bindfs") is None or not os.access("/dev/fuse", os.W_OK), "no file server can be run")
+    def test_a_file_server_in_the_recording_ends_as_it_does_bare(self) -> None:
+        """If strace waited for the server, no signal would end it: then the file system is taken away by force."""
+        mounted = self.folder / "mounted"
+        self.addCleanup(subprocess.run, ["umount", "--force", mounted], stderr=subprocess.DEVNULL, check=False)
+        for folder in (mounted, self.folder / "served"):
+            folder.mkdir()
+        (self.folder / "served" / "given").write_text("given\n")
+        (self.folder / "serve.sh").write_text(SERVES)
+        run = self.begin("sh", "serve.sh")
+        output, error = run.communicate(timeout=SOON)
+        self.assertEqual((run.returncode, output), (0, "given\ngiven\nended\n"), error)
+        self.assertIs(self.recording()["ended"], True)
+        records = [json.loads(line) for line in (self.out / "trace.jsonl").read_text().splitlines()]
+        opened = {record.get("shown") or record["path"] for record in records if record["op"] == "open"}
+        self.assertLessEqual({str(mounted / "given"), str(self.folder / "served" / "given")}, opened)
 
     def test_nothing_is_written_over_the_programs_terminal(self) -> None:
         script = "printf 'Password: '; sleep 1.5; printf 'thanks\\n'"

@@ -7,6 +7,7 @@ They run in a folder of their own, whose file `given` is there and whose folder 
 from __future__ import annotations
 
 import argparse
+import contextlib
 import ctypes
 import errno
 import fcntl
@@ -310,6 +311,31 @@ def places() -> None:
     os.waitpid(child, 0)
 
 
+def moving() -> None:
+    """Threads that make folders where they work, while another one goes from one folder to another all the time."""
+    folders = [os.open(name, os.O_PATH) for name in ("out", "kept")]
+    over = threading.Event()
+
+    def goes() -> None:
+        for number in range(ROUNDS * 4):
+            os.fchdir(folders[number % 2])
+        over.set()
+
+    def works(number: int) -> None:
+        rounds = 0
+        while not over.is_set():
+            for name in (f"{number}-{rounds}", f"./{number}-{rounds}-again"):
+                with contextlib.suppress(PermissionError):
+                    os.mkdir(name)
+            rounds += 1
+
+    workers = [threading.Thread(target=goes), *(threading.Thread(target=works, args=(one,)) for one in range(3))]
+    for worker in workers:
+        worker.start()
+    for worker in workers:
+        worker.join()
+
+
 def roots() -> None:
     """Folders that are made by the root of a child, and from a working folder that is outside of the root."""
     if os.geteuid():
@@ -579,6 +605,7 @@ PROBES: dict[str, Callable[[], None]] = {
         thirty_two,
         supervised,
         places,
+        moving,
         roots,
         in_root,
         inheritable,

@@ -27,6 +27,8 @@ DISK: list[jsonl.Record] = [
     {"path": "/w/to-d", "kind": "sym", "target": "d"},
     {"path": "/w/loop", "kind": "sym", "target": "loop"},
     {"path": "/w/secret", "kind": "reg", "mode": [0o600, 0, 0]},
+    {"path": "/w/ours", "kind": "reg", "mode": [0o640, 0, 27]},
+    {"path": "/w/theirs", "kind": "reg", "mode": [0o600, 7, 7]},
     {"path": "/w/hard-1", "kind": "reg", "inode": "1:7"},
     {"path": "/w/hard-2", "kind": "reg", "inode": "1:7"},
     {"path": "/proc", "kind": "dir"},
@@ -40,6 +42,7 @@ class StraceLines(unittest.TestCase):
     watched = False
     errata = 0
     uid: int | None = None
+    euid: int | None = None
 
     def setUp(self) -> None:
         folder = tempfile.TemporaryDirectory()
@@ -48,7 +51,7 @@ class StraceLines(unittest.TestCase):
 
     def convert(self, *calls: str) -> list[jsonl.Record]:
         """The records that calls become, without those of the start and of the first program."""
-        about = recordings.About(["p"], "/w", 0.0, False, True, {}, errata=self.errata, uid=self.uid)
+        about = recordings.About(["p"], "/w", 0.0, False, True, {}, errata=self.errata, uid=self.uid, euid=self.euid)
         if self.watched:
             about.watched.append("/w")
             jsonl.write(self.out / recordings.BEFORE, [line for line in DISK if line["path"].startswith("/w/")])

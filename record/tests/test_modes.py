@@ -79,5 +79,61 @@ class Privileged(StraceLines):
         self.assertEqual([record["path"] for record in trace if record["op"] == "open"], ["/w/secret"])
 
 
+class Users(StraceLines):
+    """A program that root starts and that becomes another user (credentials(7), capabilities(7), setpriv(1))."""
+
+    euid = 0
+    ALL = "effective=0xfeffffff /* 1<<CAP_CHOWN|1<<CAP_DAC_OVERRIDE|1<<CAP_DAC_READ_SEARCH */|0x1ff, permitted=0x7"
+    BECOMES = "setresuid(65534, 65534, 65534) = 0"
+    RUNS = 'execve("/w/p", ["p"], 0x1 /* 2 vars */) = 0'
+
+    def judged(self, *calls: str, of: str = "secret") -> bool:
+        """Whether a refused call counts as one that Landlock may have refused."""
+        opens = f'openat({CWD}, "{of}", 0 /* O_RDONLY */) = -1 EACCES (Permission denied)'
+        trace = self.convert(CONFINED, *calls, opens)
+        return any(record.get("path") == f"/w/{of}" for record in trace)
+
+    def test_modes_count_for_another_user(self) -> None:
+        self.assertTrue(self.judged())
+        for becomes in (self.BECOMES, "setuid(65534) = 0", "setreuid(-1, 65534) = 0", "setuid32(65534) = 0"):
+            self.assertFalse(self.judged(becomes))
+            self.assertFalse(self.judged(becomes, self.RUNS))
+        self.assertTrue(self.judged("setresuid(65534, -1, -1) = 0"))
+        self.assertTrue(self.judged("setuid(65534) = -1 EPERM (Operation not permitted)"))
+        self.assertTrue(self.judged("setfsuid(65534) = 0", "setfsuid(0) = 65534"))
+
+    def test_groups_count_too(self) -> None:
+        for groups in ("setgid(27) = 0", "setresgid(-1, 27, -1) = 0", "setgroups(2, [5, 27]) = 0"):
+            self.assertTrue(self.judged(groups, self.BECOMES, of="ours"))
+        self.assertFalse(self.judged("setgroups(0, []) = 0", self.BECOMES, of="ours"))
+        self.assertTrue(self.judged("setgroups(2, 0x7ffe) = 0", self.BECOMES, of="ours"))
+
+    def test_privileges_that_are_kept_end_with_an_exec(self) -> None:
+        kept = f"capset({{version=0x20080522, pid=10}}, {{{self.ALL}}}) = 0"
+        self.assertTrue(self.judged(self.BECOMES, kept))
+        self.assertFalse(self.judged(self.BECOMES, kept, self.RUNS))
+        none = "capset({version=0x20080522, pid=10}, {effective=0, permitted=0x7, inheritable=0}) = 0"
+        self.assertFalse(self.judged(none, of="theirs"))
+        self.assertTrue(self.judged(none, self.RUNS, of="theirs"))
+
+    def test_what_is_not_followed_is_not_known(self) -> None:
+        for losing in (
+            "unshare(0x10000000 /* CLONE_NEWUSER */) = 0",
+            "setns(3<user:[4026531837]>, 0) = 0",
+            "prctl(0x1c /* PR_SET_SECUREBITS */, 0x4) = 0",
+            "prctl(0x2f /* PR_CAP_AMBIENT */, 0x2 /* PR_CAP_AMBIENT_RAISE */, 0x1, 0, 0) = 0",
+        ):
+            self.assertTrue(self.judged(losing, self.BECOMES))
+        asks = "prctl(0x2f /* PR_CAP_AMBIENT */, 0x1 /* PR_CAP_AMBIENT_IS_SET */, 0, 0, 0) = 0"
+        self.assertFalse(self.judged(asks, self.BECOMES))
+
+    def test_a_child_is_of_its_makers_user(self) -> None:
+        opens = f'openat({CWD}, "secret", 0 /* O_RDONLY */) = -1 EACCES (Permission denied)'
+        for flags, left in (("17", 1), ("0x10000000 /* CLONE_NEWUSER */|17", 0)):
+            fork = f"clone(child_stack=NULL, flags={flags}) = 11"
+            self.convert(CONFINED, self.BECOMES, fork, f"{opens}\n11  {opens}")
+            self.assertEqual(len(self.unsaid()), 1 + left)
+
+
 if __name__ == "__main__":
     unittest.main()

@@ -140,7 +140,7 @@ class Ends(WrittenLogs):
         self.assertTrue(self.conversion("fork() = 11", "11  +++ exited with 0 +++", "+++ exited with 0 +++").ended)
 
     def test_a_child_that_strace_cannot_follow_cuts_no_log(self) -> None:
-        for flags in ("0x800000 /* CLONE_UNTRACED */|17 /* SIGCHLD */", "0x810f00 /* CLONE_VM|CLONE_THREAD|CLONE_UNTRACED */"):
+        for flags in ("0x800000 /* CLONE_UNTRACED */|17", "0x810f00 /* CLONE_VM|CLONE_THREAD|CLONE_UNTRACED */"):
             done = self.conversion(f"clone(child_stack=NULL, flags={flags}) = 11", "10  +++ exited with 0 +++")
             self.assertTrue(done.ended)
             self.assertEqual(self.unsaid(), [(programs.NOT_FOLLOWED, True)])

@@ -65,7 +65,8 @@ class Running(unittest.TestCase):
     def test_a_working_directory_that_is_gone_is_an_error(self) -> None:
         with mock.patch.object(os, "getcwd", side_effect=FileNotFoundError):
             status, error = said("run", str(self.out), "--", "ls")
-        self.assertEqual((status, error), (2, "landaudit-record: the working directory is gone: change to another one\n"))
+        self.assertEqual(status, 2)
+        self.assertEqual(error, "landaudit-record: the working directory is gone: change to another one\n")
 
     def test_what_the_kernel_shows_of_itself_is_not_listed(self) -> None:
         for name in ("proc", "a b", "data"):
@@ -80,7 +81,8 @@ class Running(unittest.TestCase):
         self.out.mkdir()
         seen = recordings.watch(self.out, [str(self.folder)], mounts)
         self.assertEqual(seen.of_kernel, [f"{self.folder}/proc", f"{self.folder}/a b"])
-        listed = {line["path"].removeprefix(f"{self.folder}/") for _, line in jsonl.numbered(self.out / recordings.BEFORE)}
+        paths = (line["path"] for _, line in jsonl.numbered(self.out / recordings.BEFORE))
+        listed = {path.removeprefix(f"{self.folder}/") for path in paths}
         self.assertEqual(listed, {"proc", "a b", "data", "data/in", "mountinfo", "rec"})
 
     def test_a_run_that_ends_before_the_program_leaves_no_folder(self) -> None:

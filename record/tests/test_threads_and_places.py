@@ -14,7 +14,7 @@ from pathlib import Path
 from landaudit_record import jsonl
 from landaudit_record.recorder import recordings, tracing
 from landaudit_record.recorder.calls import descriptors, landlock
-from landaudit_record.recorder.scene import BY_UNSEEN_LAYER
+from landaudit_record.recorder.scene import BY_UNSEEN_LAYER, MOVING
 
 from .written_logs import CONFINED, CWD, THREAD, WrittenLogs, told
 
@@ -60,11 +60,13 @@ class Calls32(WrittenLogs):
         self.assertEqual([record["op"] for record in trace], ["open", "ftruncate", "close"])
 
 
-class Places(WrittenLogs):
+class Folders(WrittenLogs):
     def made(self, *lines: str) -> list[str]:
         """Where the folders are that lines make."""
         return [record.get("shown") or record["path"] for record in self.convert(*lines) if record["op"] == "mkdir"]
 
+
+class Places(Folders):
     def test_the_folders_of_a_child(self) -> None:
         moved = ("fork() = 11", '11  chdir("d") = 0', '11  chroot("/bin") = 0')
         self.assertEqual(self.made(*moved, 'mkdir("/proc/11/cwd/n", 0777) = 0'), ["/w/d/n"])
@@ -90,10 +92,57 @@ class Places(WrittenLogs):
         self.assertIn("~new~", made["path"])
 
     def test_what_is_outside_of_the_root(self) -> None:
-        for path, where in (("n", "/w/n"), ("../n", "/n"), ("../../n", "/n"), ("d/../../n", "/w/d/n"), ("/../n", "/w/d/n")):
+        ways = (("n", "/w/n"), ("../n", "/n"), ("../../n", "/n"), ("d/../../n", "/w/d/n"), ("/../n", "/w/d/n"))
+        for path, where in ways:
             with self.subTest(path):
                 self.assertEqual(self.made('chroot("d") = 0', f'mkdir("{path}", 0777) = 0'), [where])
         self.assertEqual(self.made('chroot("d") = 0', 'chdir("/") = 0', 'mkdir("../n", 0777) = 0'), ["/w/d/n"])
+
+
+class Moving(Folders):
+    """Threads that go to another directory while others name something in the one where all of them work."""
+
+    SHARED = (f"10  {THREAD} = 11", 'mkdir("d/e", 0777) = 0')
+    GOES = "11  fchdir(3</w/d>"
+
+    def moved(self, *lines: str) -> list[str]:
+        """Where the folders are that lines make after a thread was made."""
+        return [path for path in self.made(*self.SHARED, *lines) if path != "/w/d/e"]
+
+    def assert_unsure(self, times: int) -> None:
+        self.assertEqual(self.unsaid(), [(MOVING, True)] * times)
+
+    def test_a_call_while_another_thread_goes_elsewhere(self) -> None:
+        ends = "11  <... fchdir resumed>) = 0"
+        self.assertEqual(self.moved(f"{self.GOES} <unfinished ...>", 'mkdir("n", 0777) = 0', ends), [])
+        self.assert_unsure(1)
+        around = ('10  mkdir("n", 0777 <unfinished ...>', f"{self.GOES}) = 0", "10  <... mkdir resumed>) = 0")
+        self.assertEqual(self.moved(*around, 'mkdir("m", 0777) = 0'), ["/w/d/m"])
+        self.assert_unsure(1)
+
+    def test_a_call_before_or_after_it_and_one_of_another_place(self) -> None:
+        goes = (f"{self.GOES} <unfinished ...>", 'mkdir("/w/m", 0777) = 0', "11  <... fchdir resumed>) = 0")
+        self.assertEqual(self.moved('mkdir("n", 0777) = 0', *goes), ["/w/n", "/w/m"])
+        self.assertEqual(self.moved(*goes, 'mkdir("n", 0777) = 0'), ["/w/m", "/w/d/n"])
+        fails = (f"{self.GOES} <unfinished ...>", 'mkdir("n", 0777) = 0', f"11  <... fchdir resumed>) = {EACCES}")
+        self.assertEqual(self.moved(*fails), ["/w/n"])
+        apart = ("11  unshare(0x200 /* CLONE_FS */) = 0", *goes[:1], 'mkdir("n", 0777) = 0', *goes[2:])
+        self.assertEqual(self.moved(*apart), ["/w/n"])
+        self.assert_unsure(0)
+
+    def test_where_a_call_began_tells_nothing_of_later_ones(self) -> None:
+        begins = f'10  openat({CWD}, "f", 0 /* O_RDONLY */ <unfinished ...>'
+        ends = "10  <... openat resumed>) = 5</w/f>"
+        self.assertEqual(self.moved(begins, f"{self.GOES}) = 0", ends, 'mkdir("n", 0777) = 0'), ["/w/d/n"])
+
+    def test_two_threads_that_go_elsewhere_at_the_same_time(self) -> None:
+        begins, ends = "10  fchdir(4</w/d/e> <unfinished ...>", "10  <... fchdir resumed>) = 0"
+        both = (begins, f"{self.GOES}) = 0", ends, 'mkdir("n", 0777) = 0', 'chdir("e") = 0', 'mkdir("m", 0777) = 0')
+        self.assertEqual(self.moved(*both), [])
+        self.assert_unsure(3)
+        told = 'mkdirat(-100 /* AT_FDCWD */</w/d>, "k", 0777) = 0'
+        self.assertEqual(self.moved(*both, told, 'mkdir("l", 0777) = 0'), ["/w/d/k", "/w/d/l"])
+        self.assertEqual(self.moved(*both, 'chdir("/w") = 0', 'mkdir("l", 0777) = 0'), ["/w/l"])
 
 
 class Sockets(WrittenLogs):
@@ -205,10 +254,12 @@ class Rulesets(WrittenLogs):
             told(trace, "op", "pid", "path"),
             [("create", 10, None), ("fork", 10, None), ("open", 11, "/w/f"), ("open", 10, "/w/g")],
         )
-        self.assertEqual([reason for reason, asks in self.unsaid() if asks], [landlock.FOREIGN_RULESET, BY_UNSEEN_LAYER])
+        asking = [reason for reason, asks in self.unsaid() if asks]
+        self.assertEqual(asking, [landlock.FOREIGN_RULESET, BY_UNSEEN_LAYER])
 
     def test_a_call_that_fails_makes_no_layer(self) -> None:
-        trace = self.convert(*CONFINED, f"landlock_restrict_self(5{RULESET}, 0) = {EINVAL}", f'truncate("f", 0) = {EACCES}')
+        restrict = f"landlock_restrict_self(5{RULESET}, 0) = {EINVAL}"
+        trace = self.convert(*CONFINED, restrict, f'truncate("f", 0) = {EACCES}')
         self.assertEqual(told(trace[-1:], "op", "kernel"), [("truncate", "EACCES")])
         self.assertEqual(self.unsaid(), [(landlock.FOREIGN_RULESET, False)])
 

@@ -177,6 +177,7 @@ def _about(command: list[str], seen: recordings.Watched, strace: str, *, readlin
         kernel=os.uname().release,
         errata=recordings.errata(),
         uid=recordings.user(),
+        euid=os.geteuid(),
         groups=[os.getegid(), *os.getgroups()],
         ended=False,
         looks=True,

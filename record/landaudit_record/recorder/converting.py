@@ -9,6 +9,7 @@ from ..finished import Converted
 from ..problems import Problem
 from . import disk, strace_log
 from .calls import HANDLERS, others
+from .modes import NOBODY_KNOWN
 from .names import Names
 from .ports import Ports
 from .processes import Handle, Place, Process, Thread
@@ -33,9 +34,7 @@ def convert(folder: Path, ports: Ports, limits: Limits = LIMITS) -> Converted:
     names = Names(kept, read_before(folder), about.watched, about.whiteouts, about.unlisted)
     with Recording(folder, Tree(names), limits) as recording, Progress("records") as progress:
         births = strace_log.births(log)
-        scene = Scene(
-            names, kept, recording, births, ports, about.asker, reads_links=about.readlink, hides=about.hidepid
-        )
+        scene = Scene(names, kept, recording, births, ports, reads_links=about.readlink, hides=about.hidepid)
         for event in strace_log.events(log, births.ends, scene.near):
             if isinstance(event, Call):
                 _take_call(scene, about, event)
@@ -72,6 +71,7 @@ def _take_call(scene: Scene, about: About, call: Call) -> None:
         if thread is None or scene.unmet:
             thread = scene.known(call.tid, call.line, call.text) or _started(scene, about, call)
         thread.forked = None
+        scene.call = call
         if scene.through:
             scene.through.clear()
         looked = scene.near.is_look(call.text) and others.look(scene, thread, call)
@@ -86,7 +86,7 @@ def _take_call(scene: Scene, about: About, call: Call) -> None:
 
 def _started(scene: Scene, about: About, call: Call) -> Thread:
     """A thread that no fork made: that of the first process, or of a process whose start was not seen."""
-    process = Process(call.tid)
+    process = Process(call.tid, user=NOBODY_KNOWN if scene.recording.records else about.user)
     thread = Thread(call.tid, process, Place("/", "/"))
     scene.go_to(thread, about.directory)
     if scene.recording.records:

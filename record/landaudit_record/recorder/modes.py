@@ -3,12 +3,13 @@
 from __future__ import annotations
 
 from collections.abc import Callable, Iterator, Mapping
-from dataclasses import dataclass
+from dataclasses import dataclass, replace
 from typing import Any
 
 from ..trees import ROOT, directory_of, upwards
 
 READ, WRITE, RUN = 4, 2, 1
+ROOT_USER = 0
 _OF_MODE = {"r": READ, "w": WRITE, "rw": READ | WRITE}
 
 
@@ -34,6 +35,39 @@ class Asker:
             return True
         shift = 6 if mode.uid == self.uid else 3 if mode.gid in self.groups else 0
         return mode.bits >> shift & wanted == wanted
+
+
+@dataclass(frozen=True, slots=True)
+class User:
+    """As whom a process asks for files; `overrides` says that it has privileges by which modes do not count for it.
+
+    If it is not `known`, nothing is: neither which user it is, nor with which privileges.
+    """
+
+    uid: int
+    gid: int
+    groups: frozenset[int]
+    overrides: bool
+    known: bool = True
+
+    @property
+    def asker(self) -> Asker | None:
+        """The user and groups, if modes count for them."""
+        counts = self.known and not self.overrides
+        return Asker(self.uid, self.groups | {self.gid}) if counts else None
+
+    def become(self, uid: int) -> User:
+        """The same as another user: root's privileges come and go with the number 0 (capabilities(7))."""
+        overrides = uid == ROOT_USER or (self.overrides and self.uid != ROOT_USER)
+        return replace(self, uid=uid, overrides=overrides)
+
+    def running(self) -> User:
+        """The same after an exec, which leaves privileges to root alone (capabilities(7))."""
+        return replace(self, overrides=self.uid == ROOT_USER)
+
+
+#: Of a process of which nothing is known.
+NOBODY_KNOWN = User(0, 0, frozenset(), True, known=False)
 
 
 def refuse(

@@ -4,6 +4,7 @@ from __future__ import annotations
 
 from dataclasses import dataclass, field
 
+from .modes import NOBODY_KNOWN, User
 from .names import Node
 
 FIRST_MADE_UP = 1_000_001
@@ -55,10 +56,16 @@ class Handle:
 
 @dataclass(slots=True)
 class Place:
-    """Root and working directory, shared by the threads of a process."""
+    """Root and working directory, shared by the threads of a process.
+
+    `since` is the line of the log on which a thread last came to the working directory; `unsure` says that another
+    thread may have gone elsewhere at the same time.
+    """
 
     root: str
     directory: str
+    since: int = 0
+    unsure: bool = False
 
 
 @dataclass(slots=True, eq=False)
@@ -67,7 +74,8 @@ class Process:
 
     `confined` says whether it has a layer, or may have one; `restricted` are the rulesets of its restrictions; `maker`
     is the process that forked it; `threaded` says whether it has or had several threads, `looks` whether it is
-    counted as one that looks at others in /proc; `unseen_layer` says that it has a layer of which nothing is known.
+    counted as one that looks at others in /proc; `unseen_layer` says that it has a layer of which nothing is known,
+    `user` as whom it asks for files.
     """
 
     pid: int
@@ -81,6 +89,7 @@ class Process:
     threaded: bool = False
     looks: bool = False
     unseen_layer: bool = False
+    user: User = NOBODY_KNOWN
 
     def made_up(self) -> int:
         """A number that no descriptor of the process ever has."""

@@ -16,7 +16,7 @@ from .. import jsonl
 from . import disk
 from .disk import Seen
 from .formats import Format
-from .modes import Asker
+from .modes import NOBODY_KNOWN, ROOT_USER, User
 from .values import unescaped
 from ..finished import LOOKING, READING_LINKS, SIGNALS
 from ..problems import Problem
@@ -44,9 +44,11 @@ class About:
     """How a recording was made.
 
     `started` is the time at which the run began (seconds since 1970), `watched` the directories that were listed before
-    it, `unlisted` those below them whose contents were not, `descriptors` those that the command was given, each with the kind as which a trace adopts it, its path, and the
-    family of a TCP socket; `admin` and `nnp` are what the first process had, `errata` the errata of Landlock that the kernel has fixed, the first as bit 0.
-    `uid` and `groups` are those of the command, `uid` only if the command has no privilege that overrides file modes.
+    it, `unlisted` those below them whose contents were not, `descriptors` those that the command was given, each with
+    the kind as which a trace adopts it, its path, and the family of a TCP socket; `admin` and `nnp` are what the first
+    process had, `errata` the errata of Landlock that the kernel has fixed, the first as bit 0. `uid` and `groups` are
+    those of the command, `uid` only if the command has no privilege that overrides file modes; `euid` is the user in
+    any case.
     `ended` says that the tracer ended by itself, so that the log is complete; it is set after the run. `looks` says
     that calls which only look at an object and calls which send signals were traced, `readlink` that calls which read
     links were traced. `formats` are those that binfmt_misc had, None if they are not known; `hidepid` says that /proc
@@ -71,6 +73,7 @@ class About:
     readlink: bool = False
     formats: list[dict[str, Any]] | None = None
     hidepid: bool = False
+    euid: int | None = None
     machine: str = ""
 
     @property
@@ -90,9 +93,12 @@ class About:
         return "reg" if self.errata & 8 else "char"
 
     @property
-    def asker(self) -> Asker | None:
-        """The user of all processes: without privileges, none can become another user (credentials(7))."""
-        return None if self.uid is None else Asker(self.uid, frozenset(self.groups))
+    def user(self) -> User:
+        """As whom the command asks for files; the privileges of a user that is not root may outlast an exec."""
+        if self.uid is None and self.euid != ROOT_USER:
+            return NOBODY_KNOWN
+        gid, *groups = self.groups or [ROOT_USER]
+        return User(self.uid or ROOT_USER, gid, frozenset(groups), overrides=self.uid is None)
 
     def write(self, folder: Path) -> None:
         (folder / ABOUT).write_text(json.dumps(asdict(self), indent=2) + "\n", encoding="utf-8")

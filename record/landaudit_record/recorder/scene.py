@@ -3,6 +3,7 @@
 from __future__ import annotations
 
 import re
+from bisect import bisect_left
 from collections.abc import Iterable
 from contextlib import suppress
 from dataclasses import dataclass, replace
@@ -12,9 +13,10 @@ from ..living import Members
 from . import modes
 from .disk import Disk
 from .looks import Near
+from .modes import NOBODY_KNOWN
 from .names import Found, Names, Node, join, split
 from .ports import Ports
-from .processes import Handle, Process, Thread
+from .processes import Handle, Place, Process, Thread
 from .strace_log import Birth, Births, Call
 from .unsaid import CannotSay, NotAsked
 from .values import Descriptor
@@ -24,6 +26,7 @@ AT_FDCWD = -100
 CLONE_FS = 0x200
 CLONE_FILES = 0x400
 CLONE_THREAD = 0x10000
+CLONE_NEWUSER = 0x10000000
 #: The number of ended processes whose parents are kept.
 MOST_ENDED = 1_024
 #: The directory of processes.
@@ -35,6 +38,7 @@ RULESET = "anon_inode:[landlock-ruleset]"
 NO_PATH = "a file without a path"
 BY_UNSEEN_LAYER = "a call that a layer of an unknown ruleset may have refused"
 ERRORS_OF_LAYERS = frozenset({"EACCES", "EPERM", "EXDEV"})
+MOVING = "a relative path while another thread changes the working directory"
 SHARED_TABLE = "a descriptor table that two processes share"
 DEVICES = ("char", "block")
 #: A terminal that a program makes, which is gone when the run has ended (pts(4)).
@@ -85,13 +89,12 @@ class Spot:
 class Scene:
     """The state of a conversion.
 
-    `asker` is as whom all processes ask for files, if file modes are known to count for them. `ruled` has each name on
-    which a record of the program puts a rule, with the object. `unmet` are the threads of which the log has nothing
-    yet but the fork that made them, each with whether that fork's result is to be doubted. `placeless` says whether
-    there was a descriptor that is in a mount without a place. `through` are the processes whose links in /proc a path
-    of this call goes through, `near` says which paths may, `reads_links` whether readlink(2) was traced, and `hides`
-    whether all of a process in /proc is only for those who may trace it. `abstract` has the process that bound an
-    abstract name of UNIX sockets, `ended` the processes that ended last.
+    `call` is the present call. `ruled` has each name on which a record of the program puts a rule, with the object. `unmet` are the threads of
+    which the log has nothing yet but the fork that made them, each with whether that fork's result is to be doubted.
+    `placeless` says whether there was a descriptor that is in a mount without a place. `through` are the processes
+    whose links in /proc a path of this call goes through, `near` says which paths may, `reads_links` whether
+    readlink(2) was traced, and `hides` whether all of a process in /proc is only for those who may trace it. `abstract`
+    has the process that bound an abstract name of UNIX sockets, `ended` the processes that ended last.
     """
 
     def __init__(
@@ -101,17 +104,16 @@ class Scene:
         recording: Recording,
         births: Births,
         ports: Ports,
-        asker: modes.Asker | None = None,
         *,
         reads_links: bool = False,
         hides: bool = False,
     ) -> None:
         self.names = names
+        self.call: Call | None = None
         self.disk = disk
         self.recording = recording
         self.births = births
         self.ports = ports
-        self.asker = asker
         self.tree = recording.tree
         self.threads: dict[int, Thread] = {}
         self.processes: dict[int, Process] = {}
@@ -140,16 +142,16 @@ class Scene:
         process, error = thread.process, call.error
         if thread.layers < len(process.restricted):
             raise CannotSay("a call of a thread with fewer layers than its process")
-        if error == "EACCES" and (not process.confined or self._modes_refuse(call, op, members)):
+        if error == "EACCES" and (not process.confined or self._modes_refuse(process, call, op, members)):
             raise NotAsked(BY_MODES)
         if process.unseen_layer and error in ERRORS_OF_LAYERS:
             raise CannotSay(BY_UNSEEN_LAYER)
         self.recording.add(op, process.pid, call.line, error or "ok", members)
 
-    def _modes_refuse(self, call: Call, op: str, members: Members) -> bool:
+    def _modes_refuse(self, process: Process, call: Call, op: str, members: Members) -> bool:
         """Whether file modes refuse a call, as far as they are known."""
-        runs = call.name in ("execve", "execveat")
-        return self.asker is not None and modes.refuse(self.asker, self.disk.mode, op, members, runs)
+        runs, asker = call.name in ("execve", "execveat"), process.user.asker
+        return asker is not None and modes.refuse(asker, self.disk.mode, op, members, runs)
 
     def note(self, thread: Thread, call: Call, op: str, **members: Any) -> None:
         """Writes a record that only keeps the state right, without the kernel's answer."""
@@ -182,9 +184,9 @@ class Scene:
 
     def find(self, thread: Thread, base: Descriptor | None, path: str, follow: bool) -> Found:
         """Resolves a path for a thread, and lists the links on its way."""
-        if base is not None and base.number == AT_FDCWD and base.path is not None:
-            thread.place.directory = base.path
         directory = base.path if base is not None and base.path is not None else thread.place.directory
+        if not path.startswith("/") and (base is None or base.number == AT_FDCWD):
+            directory = self._working_directory(thread, base)
         links = self._links
         if links is None or links.thread is not thread:
             links = self._links = ThreadLinks(self, thread)
@@ -192,6 +194,28 @@ class Scene:
         if found.broken is not None and found.names[:1] == [PROC] and (link := _OF_PROCESS.match(found.path)):
             self.through.add(int(link[1]))
         return found
+
+    def _working_directory(self, thread: Thread, base: Descriptor | None) -> str:
+        """The working directory of the present call, which strace tells for some calls as it was when they began."""
+        place, call = thread.place, self.call
+        if call is not None and (call.line < place.since or self._is_moving(call, place)):
+            raise CannotSay(MOVING)
+        if base is not None and base.path is not None:
+            place.directory, place.unsure = base.path, False
+        if place.unsure:
+            raise CannotSay(MOVING)
+        return place.directory
+
+    def _is_moving(self, call: Call, place: Place) -> bool:
+        """Whether another thread with the same working directory goes elsewhere during a call."""
+        for tid, moves in self.births.moves.items():
+            thread = self.threads.get(tid)
+            if tid == call.tid or thread is None or thread.place is not place:
+                continue
+            last = bisect_left(moves, (call.end, 0)) - 1
+            if last >= 0 and moves[last][1] > call.line:
+                return True
+        return False
 
     def list_links(self, thread: Thread, base: Descriptor | None, path: str) -> None:
         """Lists the symbolic links on the way of a path, once for each directory and path."""
@@ -205,7 +229,11 @@ class Scene:
 
     def go_to(self, thread: Thread, directory: str) -> None:
         """A thread works in a directory from now on."""
-        thread.place.directory = directory
+        place, call = thread.place, self.call
+        if call is not None:
+            place.unsure = call.line < place.since or self._is_moving(call, place)
+            place.since = call.end
+        place.directory = directory
         self.near.relative = self.near.relative or split(directory)[:1] == (PROC,)
 
     def written(self, found: Found) -> Spot:
@@ -356,6 +384,7 @@ class Scene:
             restricted=list(maker.process.restricted),
             maker=maker.process,
             unseen_layer=maker.process.unseen_layer,
+            user=maker.process.user if not birth.flags & CLONE_NEWUSER else NOBODY_KNOWN,
         )
         process.table = {number: handle.copy() for number, handle in maker.process.table.items()}
         process.next_made_up = maker.process.next_made_up

@@ -61,6 +61,7 @@ _FORK = re.compile(
 _FORK_BEGINS = re.compile(rf"(\d+) +{_FORKS}\(.*<unfinished \.\.\.>$")
 _BEGINS = re.compile(rf"(\d+) +({'|'.join(sorted(AT_BEGINNING))})\(.* <unfinished \.\.\.>$")
 _ENDS = re.compile(rf"(\d+) +<\.\.\. (?:{'|'.join(sorted(AT_BEGINNING))}) resumed>(.*)$")
+_MOVE_BEGINS = re.compile(r"(\d+) +f?chdir\(.* <unfinished \.\.\.>$")
 _FLAGS = re.compile(r"flags=([^,}]+)")
 
 
@@ -80,6 +81,7 @@ class Arguments(dict[int, str]):
 class Call:
     """A system call that took effect: its thread, where it began, its arguments as strace wrote them, its result.
 
+    `end` is the line on which it ended; a call that takes effect at its beginning is told with the line of that.
     `value` is what the kernel returned (None where it returned nothing, as a call that is restarted),
     `error` the name of its error, `note` what strace says behind the result (the path of a descriptor).
     """
@@ -92,6 +94,7 @@ class Call:
     error: str | None
     note: str
     text: str
+    end: int = 0
 
     @property
     def ok(self) -> bool:
@@ -145,11 +148,14 @@ class Birth:
 class Births:
     """For each new thread, the forks that made a thread of its number, the first one last.
 
-    `ends` has the second halves of the calls that take effect at their beginning, by the lines of the calls.
+    `ends` has the second halves of the calls that take effect at their beginning, by the lines of the calls. `moves`
+    has for each thread the lines on which its calls began and ended that go to another directory, if other lines are
+    between these.
     """
 
     forks: dict[int, list[Birth]] = field(default_factory=dict)
     ends: dict[int, str] = field(default_factory=dict)
+    moves: dict[int, list[tuple[int, int]]] = field(default_factory=dict)
 
     def next(self, tid: int) -> Birth | None:
         """The fork that makes the next thread of this number."""
@@ -175,15 +181,17 @@ def find_log(folder: Path) -> Path:
 def births(path: Path) -> Births:
     """The results of a first reading of a log: all forks, and the ends of calls that take effect at their beginning."""
     found = Births()
-    forks, ends = _Forks(found), _Ends(found)
+    forks, ends, moves = _Forks(found), _Ends(found), _Moves(found)
     with open_log(path) as lines:
         for number, line in enumerate(lines, start=1):
             if "clone" in line or "fork" in line:
                 forks.read(number, line)
             if line[-5:] == "...>\n":
                 ends.begin(number, line)
-            elif ends.wanted and "resumed>" in line:
+                moves.begin(number, line)
+            elif (ends.wanted or moves.begun) and "resumed>" in line:
                 ends.end(line)
+                moves.end(number, line)
     for made in found.forks.values():
         made.reverse()
     return found
@@ -207,6 +215,25 @@ class _Ends:
             first = self.wanted.pop(ends[1], None)
             if first is not None:
                 self._found.ends[first] = sys.intern(ends[2])
+
+
+class _Moves:
+    """The calls that go to another directory and that other lines interrupt; `begun` has those that have not ended."""
+
+    def __init__(self, found: Births) -> None:
+        self._found = found
+        self.begun: dict[str, int] = {}
+
+    def begin(self, number: int, line: str) -> None:
+        """Follows a first half, if it is that of such a call."""
+        if begins := _MOVE_BEGINS.match(line):
+            self.begun[begins[1]] = number
+
+    def end(self, number: int, line: str) -> None:
+        """Follows a second half: it is that of the thread's last call."""
+        tid = line.partition(" ")[0]
+        if tid in self.begun and line.endswith("= 0\n"):
+            self._found.moves.setdefault(int(tid), []).append((self.begun.pop(tid), number))
 
 
 class _Forks:
@@ -306,7 +333,7 @@ class _Reader:
             return None if resumed[1] in DROPPED else Unread(number, tid, text)
         end = _DONE if tid in self._superseding else text[resumed.end() :]
         self._superseding.discard(tid)
-        return _call(begun[0], tid, begun[1] + end)
+        return _call(begun[0], tid, begun[1] + end, number)
 
     def _end(self, number: int, tid: int, text: str) -> Event:
         """The end of a thread, or of the leader of a process in which another thread runs a program.
@@ -325,12 +352,12 @@ class _Reader:
         return Superseded(number, tid, by)
 
 
-def _call(number: int, tid: int, text: str) -> Event:
+def _call(number: int, tid: int, text: str, end: int | None = None) -> Event:
     said = _said(text)
     if said is None:
         return Unread(number, tid, text)
     name, arguments, value, error, note = said
-    return Call(number, tid, name, arguments, value, error, note, text)
+    return Call(number, tid, name, arguments, value, error, note, text, number if end is None else end)
 
 
 #: The parts of a call's text, as `Call` has them: name, arguments, value, error and note.

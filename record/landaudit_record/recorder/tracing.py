@@ -40,6 +40,8 @@ mount ?umount umount2 pivot_root ?move_mount ?fsconfig ?fsmount ?open_tree ?open
 sendto sendmsg sendmmsg
 ptrace process_vm_readv process_vm_writev kcmp ?move_pages ?migrate_pages ?get_robust_list perf_event_open
 ?process_madvise ?pidfd_getfd
+setuid setreuid setresuid setfsuid setgid setregid setresgid setfsgid setgroups capset
+?setuid32 ?setreuid32 ?setresuid32 ?setfsuid32 ?setgid32 ?setregid32 ?setresgid32 ?setfsgid32 ?setgroups32
 kill tkill tgkill rt_sigqueueinfo ?rt_tgsigqueueinfo ?pidfd_send_signal
 """.split()
 

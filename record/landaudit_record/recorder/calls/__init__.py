@@ -7,7 +7,7 @@ from collections.abc import Callable, Mapping
 from ..processes import Thread
 from ..scene import Scene
 from ..strace_log import Call
-from . import beyond, descriptors, files, landlock, mounts, moves, opening, others, programs, scopes
+from . import beyond, descriptors, files, landlock, mounts, moves, opening, others, programs, scopes, users
 
 Handler = Callable[[Scene, Thread, Call], None]
 
@@ -23,5 +23,6 @@ HANDLERS: Mapping[str, Handler] = {
     **others.HANDLERS,
     **programs.HANDLERS,
     **scopes.HANDLERS,
+    **users.HANDLERS,
     **{name: mounts.from_a_place(opening.HANDLERS[name], base) for name, (base, _) in opening.GIVEN.items()},
 }

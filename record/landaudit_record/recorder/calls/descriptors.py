@@ -160,7 +160,7 @@ def _on_port(scene: Scene, thread: Thread, call: Call, op: str) -> None:
 
 
 def _family_now(call: Call, family: int) -> int:
-    """The family of a socket, which becomes IPv4 by IPV6_ADDRFORM: else it takes no address of that family (ipv6(7))."""
+    """The family of a socket, which becomes IPv4 by IPV6_ADDRFORM: else it takes no such address (ipv6(7))."""
     if _family(call) == AF_INET and call.error not in ("EINVAL", "EAFNOSUPPORT"):
         return AF_INET
     return family

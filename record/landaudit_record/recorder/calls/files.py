@@ -10,7 +10,7 @@ from ..names import Node
 from ..processes import Thread
 from ..scene import Scene, Spot
 from ..strace_log import Call
-from ..unsaid import NotAsked
+from ..unsaid import CannotSay, NotAsked
 from . import arguments
 
 AT_REMOVEDIR = 0x200
@@ -99,8 +99,14 @@ def _truncate(scene: Scene, thread: Thread, call: Call) -> None:
 
 
 def _chdir(scene: Scene, thread: Thread, call: Call) -> None:
-    if call.ok:
-        scene.go_to(thread, arguments.spot_at(scene, thread, call, None, 0, True).real)
+    if not call.ok:
+        return
+    try:
+        directory = arguments.spot_at(scene, thread, call, None, 0, True).real
+    except CannotSay:
+        thread.place.unsure = True
+        raise
+    scene.go_to(thread, directory)
 
 
 def _fchdir(scene: Scene, thread: Thread, call: Call) -> None:

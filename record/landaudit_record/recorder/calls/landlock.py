@@ -8,7 +8,7 @@ from ...rights import FS, NET, Family
 from ..scene import Scene
 from ..strace_log import Call
 from ..unsaid import CannotSay, NotAsked
-from . import arguments
+from . import arguments, users
 
 PR_SET_NO_NEW_PRIVS = 38
 RULE_PATH_BENEATH = 1
@@ -155,6 +155,7 @@ def _restricted_unseen(thread: Thread, call: Call) -> None:
 
 
 def _prctl(scene: Scene, thread: Thread, call: Call) -> None:
+    users.controlled(thread, call)
     if call.ok and arguments.number_at(call, 0) == PR_SET_NO_NEW_PRIVS and arguments.number_at(call, 1) == 1:
         scene.note(thread, call, "nnp")
 

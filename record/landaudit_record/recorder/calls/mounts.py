@@ -10,10 +10,10 @@ from collections.abc import Callable
 
 from .. import values
 from ..processes import Handle, Thread
-from ..scene import Scene
+from ..scene import CLONE_NEWUSER, Scene
 from ..strace_log import Call
 from ..unsaid import CannotSay, NotAsked
-from . import arguments, others
+from . import arguments, others, users
 
 MS_NOUSER = 1 << 31
 MNT_EXPIRE = 4
@@ -114,6 +114,8 @@ def _setns(scene: Scene, thread: Thread, call: Call) -> None:
     """Another mount namespace has other objects under the same names; other namespaces change no path."""
     behind = values.descriptor(call.arguments[0]).behind or ""
     others.by_pidfd(scene, thread, call)
+    if call.ok and (behind.startswith("user:") or _has(call, 1, CLONE_NEWUSER)):
+        users.lose(thread)
     if call.ok and (behind.startswith("mnt:") or _has(call, 1, CLONE_NEWNS)):
         raise CannotSay(OTHER_NAMESPACE)
 

@@ -3,11 +3,12 @@
 from __future__ import annotations
 
 from contextlib import suppress
+from dataclasses import replace
 from typing import Any
 
 from .. import values
 from ..names import Node, join, split
-from ..processes import Handle, Place, Thread
+from ..processes import Handle, Thread
 from ..scene import Scene, Spot
 from ..strace_log import Call
 from ..unsaid import CannotSay, NotAsked
@@ -48,7 +49,7 @@ def _openat2(scene: Scene, thread: Thread, call: Call) -> None:
     place = thread.place
     if resolve & RESOLVE_IN_ROOT:
         directory = values.descriptor(call.arguments[0]).path or place.directory
-        thread.place = Place(directory, directory)
+        thread.place = replace(place, root=directory, directory=directory)
     try:
         _opened(scene, thread, call, 0, 1, flags_of(call))
     finally:

@@ -7,10 +7,10 @@ from dataclasses import replace
 from .. import formats, values
 from ..disk import MOST_INTERPRETERS
 from ..processes import Thread
-from ..scene import CLONE_FILES, CLONE_FS, Scene, Spot
+from ..scene import CLONE_FILES, CLONE_FS, CLONE_NEWUSER, Scene, Spot
 from ..strace_log import Call
 from ..unsaid import CannotSay, NotAsked
-from . import arguments
+from . import arguments, users
 from .descriptors import OWN_TABLE
 
 CLONE_UNTRACED = 0x800000
@@ -109,6 +109,7 @@ def _became(scene: Scene, thread: Thread, call: Call, spot: Spot) -> None:
         scene.threads.pop(tid, None)
     process.threads = {thread.tid}
     process.program = spot.real
+    process.user = process.user.running()
     for number in sorted(process.table):
         if process.table[number].close_on_exec:
             scene.close(thread, call, number)
@@ -129,6 +130,8 @@ def _forked(scene: Scene, thread: Thread, call: Call) -> None:
 def _unshared(scene: Scene, thread: Thread, call: Call) -> None:
     """A thread that no longer shares its working directory or its descriptors (unshare(2))."""
     flags = arguments.number_at(call, 0)
+    if call.ok and flags & CLONE_NEWUSER:
+        users.lose(thread)
     if call.ok and flags & CLONE_FS:
         thread.place = replace(thread.place)
     if call.ok and flags & CLONE_FILES and len(thread.process.threads) > 1:
