@@ -30,6 +30,26 @@ exec 3<mounted/given; cat <&3; ls -l mounted >&2; cp mounted/given mounted/copy;
 mkdir mounted/d; cd mounted/d; echo x > y; rm y; cd ../..; exec 3<&-
 umount mounted; wait $server; echo ended
 """
+SFTP = Path("/usr/lib/openssh/sftp-server")
+#: A file that is removed while it is open, in the file system of a server: strace asks the server about it.
+REMOVES = """
+import contextlib, os, socket, subprocess, sys, time
+here, there = socket.socketpair()
+serves = subprocess.Popen([sys.argv[1]], stdin=here, stdout=here)
+mounts = subprocess.Popen(["sshfs", "-f", "-o", "passive", ":" + os.path.abspath("served"), "mounted"], stdin=there, stdout=there)
+here.close(), there.close()
+while not os.path.ismount("mounted"):
+    time.sleep(0.1)
+opened = os.open("mounted/x", os.O_RDWR | os.O_CREAT)
+os.unlink("mounted/x")
+print("removed", flush=True)
+with contextlib.suppress(OSError):
+    os.dup(opened)
+subprocess.run(["umount", "mounted"], stderr=subprocess.DEVNULL)
+mounts.wait()
+serves.wait()
+print("ended", flush=True)
+"""
 STUBBORN = "import signal, time; signal.signal(signal.SIGTERM, signal.SIG_IGN); print('ready', flush=True); time.sleep(99)"
 
 
@@ -141,6 +161,18 @@ class LiveRun(unittest.TestCase):
         records = [json.loads(line) for line in (self.out / "trace.jsonl").read_text().splitlines()]
         opened = {record.get("shown") or record["path"] for record in records if record["op"] == "open"}
         self.assertLessEqual({str(mounted / "given"), str(self.folder / "served" / "given")}, opened)
+
+    @unittest.skipUnless(shutil.which("sshfs") and SFTP.exists() and os.geteuid() == 0, "no sshfs, or not root")
+    def test_a_wait_for_a_server_that_strace_has_stopped_ends(self) -> None:
+        mounted = self.folder / "mounted"
+        self.addCleanup(subprocess.run, ["umount", "--force", mounted], stderr=subprocess.DEVNULL, check=False)
+        for folder in (mounted, self.folder / "served"):
+            folder.mkdir()
+        (self.folder / "removes.py").write_text(REMOVES)
+        run = self.begin(sys.executable, "removes.py", str(SFTP))
+        output, error = run.communicate(timeout=SOON)
+        self.assertEqual((run.returncode, output), (0, "removed\nended\n"), error)
+        self.assertIn(f"strace waited for the file server of {mounted}", error)
 
     def test_nothing_is_written_over_the_programs_terminal(self) -> None:
         script = "printf 'Password: '; sleep 1.5; printf 'thanks\\n'"

@@ -75,9 +75,10 @@ def run(arguments: argparse.Namespace) -> int:
         if policy is not None:
             command = confining.under(policy.kept_in(folder), policy.abi, command)
     outcome = tracing.run(folder / "strace.txt", command, readlink=arguments.readlink)
-    if outcome.ended:
-        replace(about, ended=True).write(folder)
-    else:
+    replace(about, ended=outcome.ended, taken=list(outcome.taken)).write(folder)
+    for place in outcome.taken:
+        convert.say(f"strace waited for the file server of {place}: to end that, the file system was taken away")
+    if not outcome.ended:
         convert.say("strace was ended, and with it all that it traced: the recording is not complete")
     _converted(folder, arguments)
     if policy is not None:

@@ -21,6 +21,7 @@ from .unsaid import NOT_UNDERSTOOD, CannotSay
 from .writing import LIMITS, Limits, Recording, Tree
 
 CORE_FILE = "a core file that the kernel was to write"
+TAKEN_AWAY = "a file system that was taken from its server, for which strace waited: its use failed from then on"
 NOT_SEEN_TO_START = "a process whose start was not seen"
 #: The number of lines after which progress may be shown again.
 LINES_APART = 64
@@ -47,6 +48,8 @@ def convert(folder: Path, ports: Ports, limits: Limits = LIMITS) -> Converted:
             raise Problem(f"{log} is not a log that 'landaudit-record run' wrote: record the program with it")
         if recording.records == 0:
             raise Problem(f"{log} has no call of a program: record it again")
+        for place in about.taken:
+            recording.leave_out(TAKEN_AWAY, 0, 0, place, asks=True)
         kept.keep(folder / OBJECTS)
         ended = about.ended and scene.have_ended(scene.threads)
         return recording.finish(ended, scene.further_names(), about.untraced)

@@ -7,17 +7,15 @@ import json
 import os
 import socket
 import stat
-from collections.abc import Container
 from dataclasses import asdict, dataclass, field
 from pathlib import Path
 from typing import Any
 
 from .. import jsonl
-from . import disk
+from . import disk, mounted
 from .disk import Seen
 from .formats import Format
 from .modes import NOBODY_KNOWN, ROOT_USER, User
-from .values import unescaped
 from ..finished import LOOKING, READING_LINKS, SIGNALS
 from ..problems import Problem
 
@@ -27,14 +25,6 @@ OBJECTS = "objects.jsonl"
 POLICY = "policy.toml"
 MOST_WATCHED = 100_000
 CAP_SYS_ADMIN = 21
-MOUNTS = Path("/proc/self/mountinfo")
-#: File systems in which the kernel shows what it has.
-OF_KERNEL = frozenset(
-    """
-    autofs binfmt_misc bpf cgroup cgroup2 configfs debugfs devpts efivarfs fusectl hugetlbfs mqueue nsfs proc pstore
-    rpc_pipefs securityfs selinuxfs sysfs tracefs
-    """.split()
-)
 _SYS_LANDLOCK_CREATE_RULESET = 444
 _LANDLOCK_CREATE_RULESET_ERRATA = 2
 
@@ -52,7 +42,8 @@ class About:
     `ended` says that the tracer ended by itself, so that the log is complete; it is set after the run. `looks` says
     that calls which only look at an object and calls which send signals were traced, `readlink` that calls which read
     links were traced. `formats` are those that binfmt_misc had, None if they are not known; `hidepid` says that /proc
-    is mounted with this option (proc(5)). `machine` tells the machine from others, "" if it is not known.
+    is mounted with this option (proc(5)), and `taken` has the places of file systems that were taken from their servers
+    during the run. `machine` tells the machine from others, "" if it is not known.
     """
 
     command: list[str]
@@ -74,6 +65,7 @@ class About:
     formats: list[dict[str, Any]] | None = None
     hidepid: bool = False
     euid: int | None = None
+    taken: list[str] = field(default_factory=list)
     machine: str = ""
 
     @property
@@ -160,20 +152,9 @@ def errata() -> int:
     return max(0, mended)
 
 
-def mounted(types: Container[str], mounts: Path = MOUNTS) -> list[str]:
-    """Where file systems of some types are mounted."""
-    return [unescaped(field[4]) for field in _mounts(mounts) if field[field.index("-") + 1] in types]
-
-
-def _mounts(mounts: Path) -> list[list[str]]:
-    """The fields of all mounts (proc(5), mountinfo)."""
-    with open(mounts, encoding="utf-8", errors="surrogateescape") as lines:
-        return [line.split() for line in lines if " - " in line]
-
-
-def hides_processes(mounts: Path = MOUNTS) -> bool:
+def hides_processes(mounts: Path = mounted.MOUNTS) -> bool:
     """Whether /proc is mounted so that the directory of a process is not visible to all (proc(5), `hidepid`)."""
-    options = [field[-1].split(",") for field in _mounts(mounts) if field[4] == "/proc"]
+    options = [mount.options for mount in mounted.mounts(mounts) if mount.place == "/proc"]
     hidepid = [option for option in (options[-1] if options else ()) if option.startswith("hidepid=")]
     return bool(hidepid) and hidepid[-1] not in ("hidepid=0", "hidepid=off")
 
@@ -206,10 +187,10 @@ class Watched:
     of_kernel: list[str] = field(default_factory=list)
 
 
-def watch(folder: Path, directories: list[str], mounts: Path = MOUNTS) -> Watched:
+def watch(folder: Path, directories: list[str], mounts: Path = mounted.MOUNTS) -> Watched:
     """Lists directories before a run."""
     listed: dict[str, Seen] = {}
-    seen = Watched(of_kernel=mounted(OF_KERNEL, mounts))
+    seen = Watched(of_kernel=mounted.of_kernel(mounted.mounts(mounts)))
     for directory in directories:
         found = disk.list_below(directory, MOST_WATCHED, seen.unread, seen.of_kernel)
         if found is None:

@@ -16,6 +16,7 @@ from types import FrameType
 
 from ..problems import WANTING, Problem
 from ..stopping import SIGNALS
+from .freeing import Freeing
 from .looks import LOOKS, READLINKS
 
 OLDEST = (6, 1)
@@ -101,10 +102,14 @@ def command_line(log: Path, command: list[str], *, readlink: bool = False) -> li
 
 @dataclass(frozen=True)
 class Outcome:
-    """The result of a run: the command's status as a shell gives it, and whether the tracer ended by itself."""
+    """The result of a run: the command's status as a shell gives it, and whether the tracer ended by itself.
+
+    `taken` has the places of file systems that were taken from their servers, since the tracer waited for these.
+    """
 
     status: int
     ended: bool
+    taken: tuple[str, ...] = ()
 
 
 def run(log: Path, command: list[str], *, readlink: bool = False) -> Outcome:
@@ -119,9 +124,11 @@ def run(log: Path, command: list[str], *, readlink: bool = False) -> Outcome:
     with passing.installed():
         tracer = subprocess.Popen(command_line(log, command, readlink=readlink))
         passing.tracer = tracer.pid
-        tracer.returncode = _wait(tracer.pid)
+        with Freeing(tracer.pid, lambda: _traced_by(tracer.pid)) as freeing:
+            tracer.returncode = _wait(tracer.pid)
     left = _kill_children() if tracer.returncode < 0 else 0
-    return Outcome(tracer.returncode if tracer.returncode >= 0 else 128 - tracer.returncode, left == 0)
+    status = tracer.returncode if tracer.returncode >= 0 else 128 - tracer.returncode
+    return Outcome(status, left == 0, tuple(freeing.taken))
 
 
 def _adopt_orphans() -> None:
