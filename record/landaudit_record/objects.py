@@ -10,10 +10,11 @@ from dataclasses import dataclass
 from .rights import FILE_RIGHTS
 from .trees import ROOT, Tree, upwards
 
-#: Directories that are not counted: they change all the time, or have no end.
-UNCOUNTED = (ROOT, "/proc", "/sys")
-#: The number of objects that these count as, and the most that a disk counts as.
+#: The most objects that a disk counts as.
 WITHOUT_END = 10_000_000
+#: Directories that are not counted, since they change all the time or have no end, and what they count as: each as more
+#: than all that is counted in it.
+UNCOUNTED = {ROOT: 10 * WITHOUT_END, "/proc": WITHOUT_END, "/sys": WITHOUT_END}
 _DEVICES = ("char", "block")
 
 
@@ -62,7 +63,7 @@ class Objects:
     def under(self, path: str) -> Count:
         """What is at a path and under it."""
         if path in UNCOUNTED:
-            return Count(WITHOUT_END, WITHOUT_END, WITHOUT_END)
+            return Count(*[UNCOUNTED[path]] * 3)
         if path not in self._found:
             self._found[path] = found = Count()
             found.add(self._on_disk(path))

@@ -1,16 +1,17 @@
 """Reduces rules to a number: joins rules into one on a directory, where that grants least besides what is needed.
 
-A rule's grants are counted in objects: for each of its rights, the objects to which the right applies.
+A rule's grants are counted in objects: for each of its rights, the objects to which the right applies. Rules are joined
+into one that reaches what `sensitive` warns of only where no other rules can be joined.
 """
 
 from __future__ import annotations
 
 from collections import Counter, defaultdict
-from collections.abc import Iterator
+from collections.abc import Iterator, Mapping
 from dataclasses import dataclass
 from itertools import combinations_with_replacement
 
-from . import wants
+from . import sensitive, wants
 from .objects import UNCOUNTED, Objects, kind_of
 from .rights import FS, NET, NONE, Rights
 from .trees import directory_of, upwards
@@ -23,12 +24,21 @@ _CALLED = {"files": "file", "directories": "directory", "devices": "device"}
 
 @dataclass(frozen=True)
 class _Merger:
-    """Rights on a directory instead of rules under it: how many rules fewer, and what more is granted."""
+    """Rights on a directory instead of rules under it: how many rules fewer, and what more is granted.
+
+    `replaced` are the rules that have some of the rights, with their own.
+    """
 
     directory: str
     rights: Rights
     fewer: int
     cost: int
+    replaced: Mapping[str, Rights]
+
+    def reaches_secrets(self) -> bool:
+        """Whether there is a warning on it that is on none of the rules that it replaces."""
+        before = {text for place, rights in self.replaced.items() for text in sensitive.warnings(place, rights)}
+        return bool(set(sensitive.warnings(self.directory, self.rights)) - before)
 
 
 def rules(wanted: Wanted, objects: Objects, most: int) -> list[Rule]:
@@ -62,7 +72,8 @@ def _cheapest(paths: OnPaths, objects: Objects, excess: int) -> _Merger:
             under[over].append(place)
     mergers = (it for directory, places in under.items() if len(places) > 1
                for it in _mergers(directory, places, paths, objects))
-    return min(mergers, key=lambda it: (it.cost / min(it.fewer, excess), -len(it.directory), it.directory, it.cost))
+    ordered = sorted(mergers, key=lambda it: (it.cost / min(it.fewer, excess), -len(it.directory), it.directory, it.cost))
+    return next((it for it in ordered if not it.reaches_secrets()), ordered[0])
 
 
 def _mergers(directory: str, places: list[str], paths: OnPaths, objects: Objects) -> Iterator[_Merger]:
@@ -80,7 +91,9 @@ def _mergers(directory: str, places: list[str], paths: OnPaths, objects: Objects
         fewer = sum(times for some, times in sets.items() if some <= rights) - 1
         if fewer > 0:
             new = objects.under(directory)
-            yield _Merger(directory, rights, fewer, sum(new.of(right) - covered[right] for right in rights - above))
+            cost = sum(max(new.of(right) - covered[right], 0) for right in rights - above)
+            replaced = {place: frozenset(paths[place]) for place in places if rights & paths[place].keys()}
+            yield _Merger(directory, rights, fewer, cost, replaced)
 
 
 def _branch(directory: str, place: str) -> str:

@@ -7,8 +7,9 @@ import tempfile
 import unittest
 from dataclasses import replace
 from pathlib import Path
+from unittest import mock
 
-from landaudit_record import wants, widening
+from landaudit_record import sensitive, wants, widening
 from landaudit_record.objects import Count, Objects
 from landaudit_record.trees import ROOT, Tree, upwards
 from landaudit_record.wants import Lacking, Rule, Wanted
@@ -132,6 +133,28 @@ class Widening(Disk):
                                         "warning: read_file on everything that there is"))
         wanted.paths["/usr/y"] = asked("read_file", call=3)
         self.assertEqual({rule.place for rule in widening.rules(wanted, Objects([]), 2)}, {"/usr", "/proc/x"})
+
+    def test_the_root_is_never_free(self) -> None:
+        """Not even beside a rule on /proc, which has objects without end as the root has."""
+        paths = {"/proc": asked("read_file"), self.path("few/f0"): asked("read_file", call=2),
+                 self.path("some/f0"): asked("read_file", call=3), self.path("many/f0"): asked("read_file", call=4)}
+        found = widening.rules(Wanted(paths, [], {}), Objects([]), 3)
+        self.assertEqual({rule.place for rule in found}, {"/proc", str(self.top)})
+
+    def test_a_join_that_reaches_secrets_is_the_last(self) -> None:
+        """That of two files in a folder of five is cheaper than that in one of thirty, but one of the five is secret."""
+        names = ("some/f0", "some/f1", "many/f0", "many/f1")
+        with mock.patch.object(sensitive, "SECRETS", (self.path("some/f4"),)):
+            self.assertEqual(set(self.granted(3, *names)), {"some/f0", "some/f1", "many"})
+            self.assertEqual(set(self.granted(2, *names)), {"some", "many"})
+        self.assertEqual(set(self.granted(3, *names)), {"some", "many/f0", "many/f1"})
+
+    def test_a_rule_that_reaches_secrets_only_with_more_rights(self) -> None:
+        paths = {"some": asked("read_dir"), "some/f0": asked("read_file", call=2), "many/f0": asked("read_file", call=3),
+                 "many/f1": asked("read_file", call=4)}
+        with mock.patch.object(sensitive, "SECRETS", (self.path("some/f4"),)):
+            places = {rule.place for rule in self.rules(3, paths)}
+        self.assertEqual(places, {self.path(name) for name in ("some", "some/f0", "many")})
 
     def test_ports(self) -> None:
         ports = {80: asked("connect_tcp"), 443: asked("connect_tcp", call=2), 8080: asked("bind_tcp", call=3)}
