@@ -11,7 +11,7 @@ from __future__ import annotations
 import json
 import tempfile
 from collections.abc import Iterable, Iterator, Sequence
-from dataclasses import dataclass, field
+from dataclasses import dataclass, field, replace
 from pathlib import Path
 
 from . import applying, asking, differing_layers, fitting, landaudit, reports
@@ -42,7 +42,7 @@ _NONE: Abis = frozenset()
 
 @dataclass(frozen=True)
 class About:
-    """What a question is about: a right, in a region or on a port, or a mount."""
+    """What a question is about: a right, in a region or on a port and those like it, or a mount."""
 
     right: str
     region: Region | None = None
@@ -152,7 +152,9 @@ def _with_files(layer: FittedLayer, regions: Regions) -> FittedLayer:
         as_files = [as_named(parent) for parent in rule.parents if not parent.endswith("/")]
         files = [regions.as_file(path, kind) for path in as_files for kind in RULED_KINDS]
         rules.append(FittedPathRule(rule.place, (*named, *files), rule.on_directory, rule.on_file))
-    return FittedLayer(layer.number, layer.handled_fs, layer.handled_net, tuple(rules), layer.port_rules)
+    tried = regions.tried_ports.keys()
+    ports = (replace(rule, ports=tuple(port for port in rule.ports if port in tried)) for rule in layer.port_rules)
+    return FittedLayer(layer.number, layer.handled_fs, layer.handled_net, tuple(rules), tuple(ports))
 
 
 # ---- the questions
@@ -180,8 +182,8 @@ def _rights(regions: Regions) -> Iterator[_Question]:
     for path in regions.ruled:
         as_file = Region(path, as_file=True)
         yield from _on_files(as_file, regions.as_file(path, "reg"), regions.as_file(path, "char"), fds)
-    for port in (*regions.ports, regions.other_port):
-        named = port if port in regions.ports else None
+    for port in dict.fromkeys((*regions.tried_ports, regions.other_port)):
+        named = port if port in regions.tried_ports else None
         for op in ("bind", "connect"):
             yield _Question(About(f"{op}_tcp", port=named), (_record(op, port=port),))
     yield _Question(About(MOUNT), (_record(MOUNT),))

@@ -3,7 +3,7 @@
 from __future__ import annotations
 
 from collections import defaultdict
-from collections.abc import Iterator, Mapping
+from collections.abc import Iterable, Iterator, Mapping
 
 from .differing import MOUNT, About, Differences, Move, Subject
 from .differing_layers import Abis, Room, Unscoped
@@ -21,6 +21,10 @@ _KINDS = {
     "fifo": "named pipes",
     "sock": "sockets",
 }
+
+
+#: Two neighbouring ports are named one by one.
+_PAIR = 2
 
 
 def lines(found: Differences, old: Policy, new: Policy, abis: range) -> Iterator[str]:
@@ -96,10 +100,23 @@ def _ports(subjects: list[About], regions: Regions) -> Iterator[str]:
 def _of_ports(differing: set[int | None], regions: Regions) -> str:
     """Some ports in words: `port 80`, or `every port, but for port 22` if ports without a rule are among them."""
     every = None in differing
-    named = ", ".join(f"port {port}" for port in regions.ports if (port in differing) != every)
+    named = _listed(port for tried, ports in regions.tried_ports.items() if (tried in differing) != every
+                    for port in ports)
     if not every:
         return named
     return f"every port, but for {named}" if named else "every port"
+
+
+def _listed(ports: Iterable[int]) -> str:
+    """Ports in order, three or more neighbours as one range."""
+    runs: list[range] = []
+    for port in sorted(ports):
+        if runs and runs[-1].stop == port:
+            runs[-1] = range(runs[-1].start, port + 1)
+        else:
+            runs.append(range(port, port + 1))
+    return ", ".join(f"ports {span(run)}" if len(run) > _PAIR else ", ".join(f"port {port}" for port in run)
+                     for run in runs)
 
 
 def _mounts(subjects: list[About]) -> Iterator[str]:

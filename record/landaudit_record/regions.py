@@ -12,10 +12,13 @@ objects contain a word that no path with a rule has.
 
 from __future__ import annotations
 
-from collections.abc import Iterator, Sequence
+from collections import defaultdict
+from collections.abc import Iterator, Mapping, Sequence
 from dataclasses import dataclass
+from functools import cached_property
 
-from .policies import HIGHEST_PORT, Policy
+from .policies import HIGHEST_PORT, Layer, Policy
+from .rights import NONE, Rights
 from .trees import ROOT, Tree, joined, upwards
 
 #: The kinds of objects other than directories; a rule on a link is on what the link leads to.
@@ -27,11 +30,12 @@ RULED_KINDS = ("reg", "char", "block", "fifo", "sock")
 class Regions:
     """The paths and ports that two policies have rules on, and a word that is in no such path.
 
-    The root is the first path, whether it has a rule or not, and each path comes after all paths above it.
+    The root is the first path, whether it has a rule or not, and each path comes after all paths above it. The ports
+    are in groups: on those of one group, each layer of both policies grants the same.
     """
 
     paths: tuple[str, ...]
-    ports: tuple[int, ...]
+    ports: tuple[tuple[int, ...], ...]
     word: str
 
     @classmethod
@@ -40,11 +44,10 @@ class Regions:
         layers = [layer for policy in policies for layer in policy.layers]
         rules = [rule for layer in layers for rule in layer.path_beneath]
         paths = {as_named(parent) for rule in rules for parent in rule.parents}
-        ports = {port for layer in layers for rule in layer.net_port for port in rule.ports}
         word = "~try~"
         while any(word in path for path in paths):
             word += "~"
-        return cls(tuple(sorted(paths | {ROOT})), tuple(sorted(ports)), word)
+        return cls(tuple(sorted(paths | {ROOT})), _ports_alike(layers), word)
 
     @property
     def ruled(self) -> tuple[str, ...]:
@@ -54,7 +57,13 @@ class Regions:
     @property
     def other_port(self) -> int:
         """A port without a rule, which stands for all ports without a rule."""
-        return next((port for port in range(HIGHEST_PORT + 1) if port not in self.ports), HIGHEST_PORT)
+        ruled = {port for ports in self.ports for port in ports}
+        return next((port for port in range(HIGHEST_PORT + 1) if port not in ruled), HIGHEST_PORT)
+
+    @cached_property
+    def tried_ports(self) -> Mapping[int, tuple[int, ...]]:
+        """A port of each group, which stands for all of its group."""
+        return {ports[0]: ports for ports in self.ports}
 
     def child(self, directory: str, name: str) -> str:
         """What is tried in a directory."""
@@ -66,8 +75,11 @@ class Regions:
 
     def above(self, path: str) -> str | None:
         """The region that contains a path's region, None for the root."""
-        known = set(self.paths)
-        return next((over for over in list(upwards(path))[1:] if over in known), None)
+        return next((over for over in list(upwards(path))[1:] if over in self._known), None)
+
+    @cached_property
+    def _known(self) -> frozenset[str]:
+        return frozenset(self.paths)
 
     def kinds(self) -> dict[str, str]:
         """The tree: each path as a directory and as files, and in each region an object of each kind."""
@@ -78,6 +90,19 @@ class Regions:
             kinds |= {self.child(path, kind): kind for kind in FILE_KINDS}
             kinds |= {self.child(path, "dir"): "dir", self.child(path, "to"): "dir"}
         return kinds
+
+
+def _ports_alike(layers: Sequence[Layer]) -> tuple[tuple[int, ...], ...]:
+    """The ports that layers have rules on, those together on which each of them grants the same rights."""
+    granted: defaultdict[int, dict[int, Rights]] = defaultdict(dict)
+    for number, layer in enumerate(layers):
+        for rule in layer.net_port:
+            for port in rule.ports:
+                granted[port][number] = granted[port].get(number, NONE) | rule.allowed_access.rights
+    alike: defaultdict[tuple[tuple[int, Rights], ...], list[int]] = defaultdict(list)
+    for port in sorted(granted):
+        alike[tuple(granted[port].items())].append(port)
+    return tuple(map(tuple, alike.values()))
 
 
 def as_named(path: str) -> str:

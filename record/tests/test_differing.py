@@ -5,6 +5,7 @@ from __future__ import annotations
 import contextlib
 import io
 import tempfile
+import time
 import unittest
 from pathlib import Path
 
@@ -68,7 +69,7 @@ class InRegions(unittest.TestCase):
         self.assertEqual(as_named("/lib/./x//../y/"), "/lib/y")
 
     def test_the_port_that_stands_for_all_without_a_rule(self) -> None:
-        self.assertEqual(Regions(("/",), (0, 1, 3), "").other_port, 2)
+        self.assertEqual(Regions(("/",), ((0, 3), (1,)), "").other_port, 2)
 
 
 @unittest.skipUnless(BUILT.exists(), f"{BUILT} is not built")
@@ -113,6 +114,26 @@ class Differing(unittest.TestCase):
             },
         )
         self.assertEqual(lines[-2], "old lets nothing pass that new refuses")
+
+    def test_ports_on_which_the_same_is_granted_are_named_together(self) -> None:
+        """By several rules or by one, and each of a group of ports, although one of them is asked about."""
+        layer = '[[layer]]\nhandled_access_net = ["all"]\n'
+        rule = '[[layer.net_port]]\nallowed_access = ["{}"]\nport = {}\n'
+        old = layer + rule.format("connect_tcp", "[1, 2, 3, 4, 80, 443]") + rule.format("bind_tcp", "[4, 5]")
+        new = layer + rule.format("all", "[1, 2, 3]") + rule.format("connect_tcp", "[80, 4]") + rule.format("bind_tcp", 80)
+        status, lines, _ = self.said(old, new, "--abi", "5")
+        self.assertEqual((status, lines[:-1]), (1, [
+            "new lets pass what old refuses:", "  bind_tcp on ports 1-3, port 80",
+            "old lets pass what new refuses:", "  bind_tcp on port 4, port 5", "  connect_tcp on port 443"]))
+
+    def test_as_many_ports_as_there_are(self) -> None:
+        """In seconds: a comparison that is quadratic in ports takes half a minute of processor time here."""
+        layer = '[[layer]]\nhandled_access_net = ["all"]\n'
+        rule = f'[[layer.net_port]]\nallowed_access = ["bind_tcp"]\nport = {list(range(1, 65536))}\n'
+        began = time.process_time()
+        status, lines, _ = self.said(layer + rule, layer + rule + rule.replace("bind", "connect"), "--abi", "5")
+        self.assertEqual((status, lines[:2]), (1, ["new lets pass what old refuses:", "  connect_tcp on ports 1-65535"]))
+        self.assertLess(time.process_time() - began, 10)
 
     def test_less_is_no_fault(self) -> None:
         status, lines, _ = self.said(OLD, OLD + "[[layer]]\nhandled_access_fs = [\"read_dir\"]\n")
