@@ -11,23 +11,23 @@ use Rattle.ll_policy.proofs.Lists.{some_passes, that_passes, each_passes, passes
 
 -- ---- Booleans
 
-or_right : (a b : Bool) → b ≡ true → (a || b) ≡ true
+pub or_right : (a b : Bool) → b ≡ true → (a || b) ≡ true
 or_right true b holds = refl
 or_right false b holds = holds
 
-or_left : (a b : Bool) → a ≡ true → (a || b) ≡ true
+pub or_left : (a b : Bool) → a ≡ true → (a || b) ≡ true
 or_left true b holds = refl
 or_left false b holds = absurd (false≢true holds)
 
-neither : (a b : Bool) → (not a || b) ≡ false → (a ≡ true) × (b ≡ false)
+pub neither : (a b : Bool) → (not a || b) ≡ false → (a ≡ true) × (b ≡ false)
 neither true b none = (refl, none)
 neither false b none = absurd (false≢true (sym none))
 
-given : (a b : Bool) → (not a || b) ≡ true → a ≡ true → b ≡ true
+pub given : (a b : Bool) → (not a || b) ≡ true → a ≡ true → b ≡ true
 given true b some holds = some
 given false b some holds = absurd (false≢true holds)
 
-when : (a b : Bool) → (a ≡ true → b ≡ true) → (not a || b) ≡ true
+pub when : (a b : Bool) → (a ≡ true → b ≡ true) → (not a || b) ≡ true
 when true b so = so refl
 when false b so = refl
 
@@ -39,7 +39,7 @@ pub not_true : (a : Bool) → not a ≡ true → a ≡ false
 not_true false holds = refl
 not_true true holds = absurd (false≢true holds)
 
-second : (a b : Bool) → a ≡ false → (a || b) ≡ true → b ≡ true
+pub second : (a b : Bool) → a ≡ false → (a || b) ≡ true → b ≡ true
 second true b fails some = absurd (false≢true (sym fails))
 second false b fails some = some
 
@@ -54,13 +54,13 @@ third true true c holds fails none = absurd (false≢true (sym fails))
 number-refl : (n : ℕ) → (n == n) ≡ true
 number-refl n = grind arith
 
-among-contains : (object : ℕ) (objects : List ℕ) → is_among object objects ≡ true → Contains objects object
+pub among-contains : (object : ℕ) (objects : List ℕ) → is_among object objects ≡ true → Contains objects object
 unfolding is_among
 among-contains object objects holds =
     let found = that_passes (λ (own : ℕ). object == own) objects holds in
     subst (λ (x : ℕ). Contains objects x) (sym (eqb-true object found.0 found.2)) found.1
 
-contains-among : (object : ℕ) (objects : List ℕ) → Contains objects object → is_among object objects ≡ true
+pub contains-among : (object : ℕ) (objects : List ℕ) → Contains objects object → is_among object objects ≡ true
 unfolding is_among
 contains-among object objects within = some_passes (λ (own : ℕ). object == own) objects object within (number-refl object)
 

@@ -6,7 +6,7 @@ use Rattle.std.proofs.lemmas.List.FromFn.{length-range_with_len, get_or-range_wi
 use Rattle.std.proofs.lemmas.List.{map-id, append_assoc, append-nil, take_more}
 use Rattle.std.specs.List.{Contains, flat_map, filter, list_any, list_all, range_with_len, AllZip}
 use Rattle.std.proofs.lemmas.Bool.{cases_Bool, and_parts, and_from, false≢true}
-use Rattle.std.proofs.lemmas.List.Elements.{All-contains, All-filter, All-contains_itself, filter_passes, Contains-append_left, Contains-append_right, Contains-get_or}
+use Rattle.std.proofs.lemmas.List.Elements.{All-contains, All-filter, All-contains_itself, filter_passes, Contains-append_cases, Contains-append_left, Contains-append_right, Contains-get_or}
 use Rattle.std.proofs.lemmas.List.Folds.{list_any_at, Any-from_list_any}
 
 pub there : {X : Type 0} (x : X) (xs : List X) (y : X) → Contains xs y → Contains (x ∷ xs) y
@@ -154,3 +154,11 @@ pub zip_more : {A B : Type 0} (R : A → B → Type 0) (xs : List A) (i : ℕ) (
 zip_more {A = A} {B = B} R xs i d ys new y within so_far one is =
     subst (λ (zs : List B). AllZip R (take (i + 1) xs) zs) (sym is)
     (subst (λ (some : List A). AllZip R some (ys ++ y ∷ [])) (sym (take_more xs i d within)) (zip_push R (take i xs) ys (get_or xs i d) y so_far one))
+
+pub flat_from : {X Y : Type 0} (f : X → List Y) (xs : List X) (y : Y) → Contains (flat_map f xs) y → (x : X) × Contains xs x × Contains (f x) y
+flat_from f [] y within = absurd (omega (arith, within.1))
+flat_from f (x ∷ xs) y within =
+    elim (Contains-append_cases (f x) (flat_map f xs) y within) [
+      | inl first ↦ (x, here x xs, first)
+      | inr rest ↦ let found = flat_from f xs y rest in (found.0, there x xs found.0 found.1, found.2)
+    ]

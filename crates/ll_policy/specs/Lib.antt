@@ -3,3 +3,5 @@ pub mod Choices
 pub mod Places
 pub mod Granted
 pub mod Policies
+pub mod WaysUp
+pub mod Gains

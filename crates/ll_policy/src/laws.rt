@@ -1,0 +1,76 @@
+//! What holds of layers by their definitions.
+
+ghost use Rattle.std.specs.Prelude.{◌≡◌, ◌↔◌, ◌<◌, ℕ, Bool, true, [], ◌∷◌, List, All, length, map};
+ghost use Rattle.std.specs.List.{Contains};
+ghost use Rattle.ll_rights.specs.{declared.fs.Fs.Fs as FsSet, Rights.FsRight, Rights.only};
+ghost use Rattle.ll_rights.specs.NetRights as network;
+ghost use Rattle.ll_lines.specs.Paths.{Path};
+ghost use Rattle.ll_tree.specs.Trees.{Entry, IsNode, path_at};
+ghost use Rattle.ll_tree.specs.{TreeFacts.IsTree, declared.place.NodeId.NodeId};
+ghost use Rattle.ll_rules.specs.{declared.moves.Move.Move as Attempt, Layers.RulesOn};
+ghost use Rattle.ll_rules.specs.declared.moves.Verdict.TheVariants.{Passed};
+ghost use Rattle.ll_rules.specs.InTree.{all_in_tree, IsTargetIn};
+ghost use Rattle.ll_rules.specs.{Checks.refusing, Checks.refusing_port, Moves.move_verdict};
+ghost use Rattle.ll_policy.specs.Chains.{Granting, IsChain, IsExcess, NothingMore, NothingMoreThan, passes};
+ghost use Rattle.ll_policy.specs.Granted.{granting, root, NothingMoreOnObjects, NothingMoreOnPorts};
+ghost use Rattle.ll_policy.specs.Gains.{AllKeepGains};
+ghost use Rattle.ll_policy.specs.WaysUp.{AreRuledIn, IsTargetOf, all_ruled, is_file_at, way_up};
+
+/// Old layers are compared one by one, and there is an excess of none of which new layers let nothing more pass.
+#[tactic(auto, using(crate::proofs::LawLemmas::by_layers, crate::proofs::LawLemmas::excess_is_more))]
+pub fn layers_are_compared_one_by_one()
+    ensures all { (is_file : ℕ → Bool) (always : List ℕ) (old new : List Granting)
+        → NothingMore is_file always old new
+        ↔ All (λ layer. NothingMoreThan is_file always layer new) old }
+    ensures excess { (is_file : ℕ → Bool) (always : List ℕ) (old : Granting) (new : List Granting)
+        (chain : List ℕ) → IsExcess is_file always old new chain
+        → NothingMoreThan is_file always old new → ⊥ }
+{}
+
+/// The way up from an object of a tree is a chain with the root on it, whichever nodes are asked about. Layers let it
+/// pass with a right exactly if none of them refuses the right on the path.
+#[tactic(auto, using(crate::proofs::Bridge::way_up_chain, crate::proofs::Bridge::way_up_begins, crate::proofs::Bridge::refuses_on_way))]
+pub fn ways_up_are_chains()
+    ensures chain { (tree : List Entry) (nodes : List ℕ) (object : NodeId) → IsTree tree
+        → All (λ number. number < length tree) nodes → IsNode tree object
+        → IsChain (is_file_at tree) (way_up tree nodes (path_at tree object)) }
+    ensures root { (tree : List Entry) (nodes : List ℕ) (path : Path) → IsTree tree
+        → All (Contains (way_up tree nodes path)) root }
+    ensures passes { (tree : List Entry) (layers : List (RulesOn ℕ)) (path : Path) (right : FsRight)
+        → (passes (map (granting right) layers) (way_up tree (all_ruled layers) path) ≡ true)
+        ↔ (refusing (all_in_tree tree layers) path (only right) ≡ []) }
+{}
+
+/// If new layers let nothing more pass over objects than old ones, then whatever rights are asked on whatever object of
+/// whatever tree, no old layer refuses what no new one refuses: wherever the objects with rules have been moved.
+#[tactic(auto, using(crate::proofs::Everywhere::refuses_no_more_anywhere))]
+pub fn nothing_more_in_any_tree()
+    ensures { (is_file : ℕ → Bool) (old new : List (RulesOn ℕ))
+        → NothingMoreOnObjects is_file old new → (tree : List Entry)
+        → AreRuledIn is_file old new tree → (object : NodeId) → IsNode tree object
+        → (wanted : FsSet) → refusing (all_in_tree tree new) (path_at tree object) wanted ≡ []
+        → refusing (all_in_tree tree old) (path_at tree object) wanted ≡ [] }
+{}
+
+/// If, beside that, whatever an object gains in an old layer it gains in some new one, then no move that passes the new
+/// layers is refused by the old ones: in whatever tree, and whether it renames, exchanges or links.
+#[tactic(auto, using(crate::proofs::Everywhere::passes_no_more_anywhere))]
+pub fn no_move_passes_more()
+    ensures { (is_file : ℕ → Bool) (old new : List (RulesOn ℕ))
+        → NothingMoreOnObjects is_file old new → AllKeepGains is_file old new
+        → (tree : List Entry) → AreRuledIn is_file old new tree → (attempt : Attempt)
+        → IsNode tree attempt.moved → IsTargetIn tree attempt.target
+        → IsTargetOf tree attempt.target
+        → move_verdict tree (all_in_tree tree new) attempt ≡ Passed
+        → move_verdict tree (all_in_tree tree old) attempt ≡ Passed }
+{}
+
+/// New layers let nothing more pass on ports exactly if no old layer refuses, on any port, a right that no new one
+/// refuses.
+#[tactic(auto, using(crate::proofs::PortByPort::ports_one_by_one))]
+pub fn ports_are_compared_one_by_one()
+    ensures { (old new : List (RulesOn ℕ)) → NothingMoreOnPorts old new
+        ↔ ((right : network.NetRight) (port : ℕ)
+        → refusing_port new port (network.only right) ≡ []
+        → refusing_port old port (network.only right) ≡ []) }
+{}
