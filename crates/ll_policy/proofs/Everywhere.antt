@@ -36,7 +36,7 @@ use Rattle.ll_policy.proofs.Bridge.{lacks-only, is_by, granted_by, mapped_from, 
 
 -- ---- rights that are asked
 
-each_there : (right : FsRight) → Contains all_rights right
+pub each_there : (right : FsRight) → Contains all_rights right
 unfolding all_rights named_rights
 each_there execute = (0, lit< tt, refl)
 each_there right = (bit_of right, lit< tt, refl)

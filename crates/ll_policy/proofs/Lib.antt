@@ -6,3 +6,5 @@ pub mod Bridge
 pub mod Everywhere
 pub mod LawLemmas
 pub mod PortByPort
+pub mod GainLemmas
+pub mod Nothing

@@ -1,9 +1,9 @@
 -- Tests over lists, and the elements that they tell of.
-use Rattle.std.proofs.Common.{◌≡◌, ℕ, zero, suc, ◌+◌, ◌<◌, Bool, true, false, ◌&&◌, cond, List, [], ◌∷◌, ◌++◌, length, take, get_or, refl, sym, ap, ◌∙◌, subst, inl, inr, arith}
-use Rattle.std.specs.Prelude.{All, Some, None, find, unwrap_or}
+use Rattle.std.proofs.Common.{◌≡◌, ℕ, zero, suc, ◌+◌, ◌<◌, ◌≤◌, Bool, true, false, ◌&&◌, cond, List, [], ◌∷◌, ◌++◌, length, take, get_or, refl, sym, ap, ◌∙◌, subst, inl, inr, arith}
+use Rattle.std.specs.Prelude.{All, Some, None, find, unwrap_or, map}
 use Rattle.std.proofs.lemmas.Option.{none-some}
 use Rattle.std.proofs.lemmas.List.FromFn.{length-range_with_len, get_or-range_with_len, filter_of_map_range_with_len_more}
-use Rattle.std.proofs.lemmas.List.{map-id, append_assoc, append-nil, take_more}
+use Rattle.std.proofs.lemmas.List.{map-id, append_assoc, append-nil, take_more, take_all}
 use Rattle.std.specs.List.{Contains, flat_map, filter, list_any, list_all, range_with_len, AllZip}
 use Rattle.std.proofs.lemmas.Bool.{cases_Bool, and_parts, and_from, false≢true}
 use Rattle.std.proofs.lemmas.List.Elements.{All-contains, All-filter, All-contains_itself, filter_passes, Contains-append_cases, Contains-append_left, Contains-append_right, Contains-get_or}
@@ -162,3 +162,12 @@ flat_from f (x ∷ xs) y within =
       | inl first ↦ (x, here x xs, first)
       | inr rest ↦ let found = flat_from f xs y rest in (found.0, there x xs found.0 found.1, found.2)
     ]
+
+pub zip_map : {A B C : Type 0} (R : B → C → Type 0) (f : A → B) (xs : List A) (ys : List C) → AllZip (λ x. R (f x)) xs ys → AllZip R (map f xs) ys
+zip_map R f [] [] each = tt
+zip_map R f [] (y ∷ ys) each = absurd each
+zip_map R f (x ∷ xs) [] each = absurd each
+zip_map R f (x ∷ xs) (y ∷ ys) each = (each.0, zip_map R f xs ys each.1)
+
+pub zip_all : {A B : Type 0} (R : A → B → Type 0) (xs : List A) (i : ℕ) (ys : List B) → length xs ≤ i → AllZip R (take i xs) ys → AllZip R xs ys
+zip_all {A = A} R xs i ys past each = subst (λ (some : List A). AllZip R some ys) (take_all i xs past) each

@@ -1,12 +1,13 @@
 -- What the rules of a layer say of one right: on which objects they grant it, and on which ports.
 -- Source: landlock(7), "Landlock rules"; the kernel's userspace document on Landlock, "Network flags".
-use Rattle.std.specs.Prelude.{ℕ, Bool, true, List, [], ◌∷◌, map, filter}
+use Rattle.std.specs.Prelude.{ℕ, Bool, List, [], ◌∷◌, map, filter}
 use Rattle.ll_rights.specs.Rights.{FsRight}
 use Rattle.ll_rights.specs.Rights as files
 use Rattle.ll_rights.specs.NetRights.{NetRight}
 use Rattle.ll_rights.specs.NetRights as network
 use Rattle.ll_rules.specs.Layers.{RulesOn, handles}
 use Rattle.ll_policy.specs.Chains.{Granting, NothingMore}
+use Rattle.ll_policy.specs.Places.{is_file_in}
 
 -- what a layer with rules on objects says of a right for files
 abbrev pub granting : FsRight → RulesOn ℕ → Granting
@@ -22,9 +23,9 @@ granting_on_ports right rules =
 abbrev pub root : List ℕ
 root = 0 ∷ []
 
--- a call names one port, as it names one file
+-- a call names one port, as it names one file: each port counts as a file
 abbrev pub is_port : ℕ → Bool
-is_port number = true
+is_port = is_file_in []
 
 -- with each right for files, new layers let no more pass than old ones
 abbrev pub NothingMoreOnObjects : (ℕ → Bool) → List (RulesOn ℕ) → List (RulesOn ℕ) → Type 0

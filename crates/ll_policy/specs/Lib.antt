@@ -5,3 +5,4 @@ pub mod Granted
 pub mod Policies
 pub mod WaysUp
 pub mod Gains
+pub mod Found

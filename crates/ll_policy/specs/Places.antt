@@ -1,5 +1,5 @@
 -- Marks by number, and the numbers that are marked.
--- Source: docs/FORMATS.md, "What two policies let pass".
+-- Source: landlock(7), "Landlock rules", whose rules are on objects.
 use Rattle.std.specs.Prelude.{ℕ, ◌+◌, Bool, true, List, [], ◌∷◌, ◌++◌, if◌then◌else◌, slice_index_or}
 
 -- the numbers of the marks that are set, where the first has a given number

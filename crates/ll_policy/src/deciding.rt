@@ -9,8 +9,11 @@ ghost use Rattle.ll_policy.specs.Choices.{are_within, is_narrow, narrow_ones, so
 use crate::granting::Granting;
 use std::alloc::{AllocError, Global};
 
+/// The number of the root, which is on each way up.
+pub const ROOT: usize = 0;
+
 /// Whether an object is a file.
-fn is_file(files: &[bool], object: usize) -> bool
+pub(crate) fn is_file(files: &[bool], object: usize) -> bool
     ensures { result ≡ is_file_in files.now object }
 {
     files.get(object).copied().unwrap_or(true)
@@ -48,7 +51,7 @@ fn is_narrow(files: &[bool], old: &Granting, new: &Granting) -> bool
 
 /// The new layers that are narrow beside an old one.
 #[tactic(auto, unfolding(crate::specs::Choices::narrow_ones))]
-fn narrow_ones(
+pub(crate) fn narrow_ones(
     alloc: Global,
     files: &[bool],
     old: &Granting,
@@ -92,7 +95,7 @@ fn is_open(files: &[bool], old: &Granting, narrow: &[Granting], object: usize) -
 
 /// The first file that all narrow layers grant on and the old one doesn't.
 #[tactic(auto, using(crate::proofs::Marks::sought_more, crate::proofs::Marks::sought_all), unfolding(crate::specs::Choices::open_file))]
-fn open_file(files: &[bool], old: &Granting, narrow: &[Granting]) -> Option<usize>
+pub(crate) fn open_file(files: &[bool], old: &Granting, narrow: &[Granting]) -> Option<usize>
     ensures { result ≡ open_file (is_file_in files.now) old.now narrow.now }
 {
     let Some(first) = narrow.first() else {
@@ -181,7 +184,7 @@ fn lets(chain: &[usize], layer: &Granting) -> bool
 }
 
 /// Whether some layer is narrow, and they leave no file open.
-fn is_closed(narrow: &[Granting], file: Option<usize>) -> bool
+pub(crate) fn is_closed(narrow: &[Granting], file: Option<usize>) -> bool
     ensures closed { result ≡ true → (narrow.now ≢ []) × (file ≡ None) }
     ensures open_to { result ≡ false → file ≡ None → narrow.now ≡ [] }
 {

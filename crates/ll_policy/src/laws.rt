@@ -1,7 +1,8 @@
 //! What holds of layers by their definitions.
 
-ghost use Rattle.std.specs.Prelude.{◌≡◌, ◌↔◌, ◌<◌, ℕ, Bool, true, [], ◌∷◌, List, All, length, map};
-ghost use Rattle.std.specs.List.{Contains};
+ghost use Rattle.std.specs.Prelude.{◌≡◌, ◌↔◌, ◌<◌, ℕ, Bool, true, [], ◌∷◌, List, All, Option, Vec, length, map};
+ghost use Rattle.std.specs.{Global.Global, List.AllZip, List.Contains};
+ghost use Rattle.ll_rights.specs.Rights as files;
 ghost use Rattle.ll_rights.specs.{declared.fs.Fs.Fs as FsSet, Rights.FsRight, Rights.only};
 ghost use Rattle.ll_rights.specs.NetRights as network;
 ghost use Rattle.ll_lines.specs.Paths.{Path};
@@ -14,6 +15,8 @@ ghost use Rattle.ll_rules.specs.{Checks.refusing, Checks.refusing_port, Moves.mo
 ghost use Rattle.ll_policy.specs.Chains.{Granting, IsChain, IsExcess, NothingMore, NothingMoreThan, passes};
 ghost use Rattle.ll_policy.specs.Granted.{granting, root, NothingMoreOnObjects, NothingMoreOnPorts};
 ghost use Rattle.ll_policy.specs.Gains.{AllKeepGains};
+ghost use Rattle.ll_policy.specs.{declared.gaining.Gain.Gain as Gained};
+ghost use Rattle.ll_policy.specs.Found.{TellsObjects, TellsGains, TellsPorts, is_nothing};
 ghost use Rattle.ll_policy.specs.WaysUp.{AreRuledIn, IsTargetOf, all_ruled, is_file_at, way_up};
 
 /// Old layers are compared one by one, and there is an excess of none of which new layers let nothing more pass.
@@ -73,4 +76,22 @@ pub fn ports_are_compared_one_by_one()
         ↔ ((right : network.NetRight) (port : ℕ)
         → refusing_port new port (network.only right) ≡ []
         → refusing_port old port (network.only right) ≡ []) }
+{}
+
+/// Nothing is found with any right exactly if new layers let nothing more pass on objects, if they keep all gains, and if
+/// they let nothing more pass on ports.
+#[tactic(auto, using(crate::proofs::Nothing::nothing_on_objects, crate::proofs::Nothing::nothing_gained, crate::proofs::Nothing::nothing_on_ports))]
+pub fn nothing_is_found_where_there_is_nothing_more()
+    ensures objects { (is_file : ℕ → Bool) (old new : List (RulesOn ℕ))
+        (found : List (Vec (Option (Vec ℕ Global)) Global))
+        → AllZip (TellsObjects is_file old new) files.all_rights found
+        → (is_nothing found ≡ true) ↔ NothingMoreOnObjects is_file old new }
+    ensures gains { (is_file : ℕ → Bool) (old new : List (RulesOn ℕ))
+        (found : List (Vec (Option Gained) Global))
+        → AllZip (TellsGains is_file old new) files.all_rights found
+        → (is_nothing found ≡ true) ↔ AllKeepGains is_file old new }
+    ensures ports { (old new : List (RulesOn ℕ))
+        (found : List (Vec (Option (Vec ℕ Global)) Global))
+        → AllZip (TellsPorts old new) network.all_rights found
+        → (is_nothing found ≡ true) ↔ NothingMoreOnPorts old new }
 {}

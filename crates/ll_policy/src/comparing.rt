@@ -1,0 +1,125 @@
+//! Two policies compared, with each right.
+
+ghost use Rattle.std.specs.Prelude.{◌≡◌, ◌↔◌, IfOk, IsTrue, map};
+ghost use Rattle.std.specs.List.{AllZip};
+ghost use Rattle.ll_rights.specs.CodeRights.{fs_right, net_right};
+ghost use Rattle.ll_rights.specs.Rights as for_files;
+ghost use Rattle.ll_rights.specs.NetRights as for_ports;
+ghost use Rattle.ll_policy.specs.Chains.{AreDirectories};
+ghost use Rattle.ll_policy.specs.Found.{TellsObjects, TellsGains, TellsPorts, is_nothing};
+ghost use Rattle.ll_policy.specs.Gains.{AllKeepGains};
+ghost use Rattle.ll_policy.specs.Granted.{root, NothingMoreOnObjects, NothingMoreOnPorts};
+ghost use Rattle.ll_policy.specs.Places.{is_file_in};
+ghost use Rattle.ll_policy.specs.Policies.{rules_of};
+
+use crate::deciding::{ROOT, excesses};
+use crate::gaining::{Gain, gains};
+use crate::granting::{all_on_objects, all_on_ports};
+use crate::layer::Layer;
+use ll_rights::{FsRight, NetRight};
+use std::alloc::{AllocError, Global};
+
+/// For each old layer, a chain of objects that new layers let pass with a right and it doesn't, if there is one.
+fn objects_with(
+    alloc: Global,
+    files: &[bool],
+    old: &[Layer],
+    new: &[Layer],
+    right: FsRight,
+) -> Result<Vec<Option<Vec<usize>>>, AllocError>
+    requires { AreDirectories (is_file_in files.now) root }
+    ensures { IfOk result (TellsObjects (is_file_in files.now) (map rules_of old.now)
+        (map rules_of new.now) (fs_right right)) }
+{
+    let old = all_on_objects(alloc, old, right)?;
+    let new = all_on_objects(alloc, new, right)?;
+    excesses(alloc, files, &[ROOT], &old, &new)
+}
+
+/// What new layers let pass on objects and old ones don't: for each right for files and each old layer.
+pub fn more_on_objects(
+    alloc: Global,
+    files: &[bool],
+    old: &[Layer],
+    new: &[Layer],
+) -> Result<Vec<Vec<Option<Vec<usize>>>>, AllocError>
+    requires { AreDirectories (is_file_in files.now) root }
+    ensures { IfOk result (λ found. AllZip
+        (TellsObjects (is_file_in files.now) (map rules_of old.now) (map rules_of new.now))
+        for_files.all_rights found.items) }
+{
+    let mut found = Vec::new(alloc);
+    for right in FsRight::all() {
+        found.push(objects_with(alloc, files, old, new, *right)?)?;
+    }
+    Ok(found)
+}
+
+/// For each old layer, what gains a right in it and in no new layer, if there is something.
+fn gains_with(
+    alloc: Global,
+    files: &[bool],
+    old: &[Layer],
+    new: &[Layer],
+    right: FsRight,
+) -> Result<Vec<Option<Gain>>, AllocError>
+    requires { AreDirectories (is_file_in files.now) root }
+    ensures { IfOk result (TellsGains (is_file_in files.now) (map rules_of old.now)
+        (map rules_of new.now) (fs_right right)) }
+{
+    let old = all_on_objects(alloc, old, right)?;
+    let new = all_on_objects(alloc, new, right)?;
+    gains(alloc, files, &old, &new)
+}
+
+/// What gains a right in an old layer and in no new one: for each right for files and each old layer.
+pub fn more_gains(
+    alloc: Global,
+    files: &[bool],
+    old: &[Layer],
+    new: &[Layer],
+) -> Result<Vec<Vec<Option<Gain>>>, AllocError>
+    requires { AreDirectories (is_file_in files.now) root }
+    ensures { IfOk result (λ found. AllZip
+        (TellsGains (is_file_in files.now) (map rules_of old.now) (map rules_of new.now))
+        for_files.all_rights found.items) }
+{
+    let mut found = Vec::new(alloc);
+    for right in FsRight::all() {
+        found.push(gains_with(alloc, files, old, new, *right)?)?;
+    }
+    Ok(found)
+}
+
+/// For each old layer, a port that new layers let pass with a right and it doesn't, if there is one.
+fn ports_with(
+    alloc: Global,
+    old: &[Layer],
+    new: &[Layer],
+    right: NetRight,
+) -> Result<Vec<Option<Vec<usize>>>, AllocError>
+    ensures { IfOk result
+        (TellsPorts (map rules_of old.now) (map rules_of new.now) (net_right right)) }
+{
+    let old = all_on_ports(alloc, old, right)?;
+    let new = all_on_ports(alloc, new, right)?;
+    excesses(alloc, &[], &[], &old, &new)
+}
+
+/// What new layers let pass on ports and old ones don't: for each right for ports and each old layer. It is a port, or
+/// the empty list, which stands for each port without a rule.
+pub fn more_on_ports(
+    alloc: Global,
+    old: &[Layer],
+    new: &[Layer],
+) -> Result<Vec<Vec<Option<Vec<usize>>>>, AllocError>
+    ensures { IfOk result (λ found. AllZip
+        (TellsPorts (map rules_of old.now) (map rules_of new.now))
+        for_ports.all_rights found.items) }
+{
+    let mut found = Vec::new(alloc);
+    for right in NetRight::all() {
+        found.push(ports_with(alloc, old, new, *right)?)?;
+    }
+    Ok(found)
+}

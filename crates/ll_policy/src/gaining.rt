@@ -1,0 +1,134 @@
+//! Whether objects gain rights in new layers where they do in an old one.
+
+ghost use Rattle.std.specs.Prelude.{◌≡◌, ◌&&◌, not, IfOk};
+ghost use Rattle.std.specs.List.{AllZip};
+ghost use Rattle.ll_policy.specs.Chains.{AreDirectories, Tells, is_among};
+ghost use Rattle.ll_policy.specs.Choices.{narrow_ones};
+ghost use Rattle.ll_policy.specs.Gains.{granting_there, TellsGain, TellsGainInto};
+ghost use Rattle.ll_policy.specs.Granted.{root};
+ghost use Rattle.ll_policy.specs.Places.{is_file_in};
+
+use crate::deciding::{ROOT, excess, is_closed, is_file, narrow_ones, open_file};
+use crate::granting::Granting;
+use std::alloc::{AllocError, Global};
+
+/// A directory into which objects may be moved under new layers and not under an old one.
+#[derive(Drop)]
+pub struct Gain {
+    /// The directory, on which the old layer grants the right.
+    pub directory: usize,
+    /// Objects on which the old layer doesn't grant the right, and each new layer that grants it on the directory
+    /// does. What is under them gains the right in the old layer alone.
+    pub chain: Vec<usize>,
+}
+
+/// The layers that grant on a directory.
+#[tactic(auto, unfolding(crate::specs::Gains::granting_there))]
+fn granting_there(
+    alloc: Global,
+    directory: usize,
+    layers: &[Granting],
+) -> Result<Vec<Granting>, AllocError>
+    ensures { IfOk result (λ found. found.items ≡ granting_there directory layers.now) }
+{
+    let mut found = Vec::new(alloc);
+    for layer in layers {
+        if layer.grants_on(directory) {
+            found.push(layer.copied()?)?;
+        }
+    }
+    Ok(found)
+}
+
+/// A chain that new layers which grant on a directory let pass and an old one doesn't, if there is one. `narrow` are
+/// the new layers that are narrow beside the old one.
+fn gain_at(
+    alloc: Global,
+    files: &[bool],
+    old: &Granting,
+    new: &[Granting],
+    narrow: &[Granting],
+    directory: usize,
+) -> Result<Option<Vec<usize>>, AllocError>
+    requires root { AreDirectories (is_file_in files.now) root }
+    requires narrow { narrow.now ≡ narrow_ones (is_file_in files.now) old.now new.now }
+    ensures { IfOk result
+        (Tells (is_file_in files.now) root (granting_there directory new.now) old.now) }
+{
+    let narrow_there = granting_there(alloc, directory, narrow)?;
+    let file = open_file(files, old, &narrow_there);
+    if is_closed(&narrow_there, file) {
+        return Ok(None);
+    }
+    let there = granting_there(alloc, directory, new)?;
+    excess(alloc, files, &[ROOT], old, &there)
+}
+
+/// Whether an object is a directory on which the old layer grants the right.
+fn is_asked(files: &[bool], old: &Granting, directory: usize) -> bool
+    ensures { result
+        ≡ (is_among directory old.now.grants && not (is_file_in files.now directory)) }
+{
+    old.grants_on(directory) && !is_file(files, directory)
+}
+
+/// Whether something may gain the right in one directory in an old layer and in no new one.
+fn gain_into(
+    alloc: Global,
+    files: &[bool],
+    old: &Granting,
+    new: &[Granting],
+    narrow: &[Granting],
+    directory: usize,
+) -> Result<Option<Gain>, AllocError>
+    requires root { AreDirectories (is_file_in files.now) root }
+    requires narrow { narrow.now ≡ narrow_ones (is_file_in files.now) old.now new.now }
+    ensures { IfOk result (TellsGainInto (is_file_in files.now) new.now old.now directory) }
+{
+    if !is_asked(files, old, directory) {
+        return Ok(None);
+    }
+    match gain_at(alloc, files, old, new, narrow, directory)? {
+        None => Ok(None),
+        Some(chain) => Ok(Some(Gain { directory, chain })),
+    }
+}
+
+/// The first directory on which an old layer grants the right, and into which something may gain it there and in no
+/// new layer.
+pub fn first_gain(
+    alloc: Global,
+    files: &[bool],
+    old: &Granting,
+    new: &[Granting],
+) -> Result<Option<Gain>, AllocError>
+    requires { AreDirectories (is_file_in files.now) root }
+    ensures { IfOk result (TellsGain (is_file_in files.now) new.now old.now) }
+{
+    let narrow = narrow_ones(alloc, files, old, new)?;
+    for directory in 0..old.bound() {
+        let found = gain_into(alloc, files, old, new, &narrow, directory)?;
+        if found.is_some() {
+            return Ok(found);
+        }
+    }
+    Ok(None)
+}
+
+/// The same for each of some old layers.
+pub fn gains(
+    alloc: Global,
+    files: &[bool],
+    old: &[Granting],
+    new: &[Granting],
+) -> Result<Vec<Option<Gain>>, AllocError>
+    requires { AreDirectories (is_file_in files.now) root }
+    ensures { IfOk result (λ found.
+        AllZip (TellsGain (is_file_in files.now) new.now) old.now found.items) }
+{
+    let mut found = Vec::new(alloc);
+    for layer in old {
+        found.push(first_gain(alloc, files, layer, new)?)?;
+    }
+    Ok(found)
+}
