@@ -8,3 +8,4 @@ pub mod LawLemmas
 pub mod PortByPort
 pub mod GainLemmas
 pub mod Nothing
+pub mod Apart

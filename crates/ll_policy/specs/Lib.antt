@@ -6,3 +6,4 @@ pub mod Policies
 pub mod WaysUp
 pub mod Gains
 pub mod Found
+pub mod WorkedPolicies

@@ -9,7 +9,11 @@ ghost use Rattle.ll_lines.specs.Paths.{Path};
 ghost use Rattle.ll_tree.specs.Trees.{Entry, IsNode, path_at};
 ghost use Rattle.ll_tree.specs.{TreeFacts.IsTree, declared.place.NodeId.NodeId};
 ghost use Rattle.ll_rules.specs.{declared.moves.Move.Move as Attempt, Layers.RulesOn};
-ghost use Rattle.ll_rules.specs.declared.moves.Verdict.TheVariants.{Passed};
+ghost use Rattle.ll_rules.specs.declared.moves.Verdict.TheVariants.{Passed, Refused};
+ghost use Rattle.ll_rules.specs.declared.errno.Errno.TheVariants.{XDev};
+ghost use Rattle.ll_tree.specs.WorkedTree.{worked_tree};
+ghost use Rattle.ll_rules.specs.WorkedRules.{linked, file_a_f, dir_b};
+ghost use Rattle.ll_policy.specs.WorkedPolicies.{both, stricter};
 ghost use Rattle.ll_rules.specs.InTree.{all_in_tree, IsTargetIn};
 ghost use Rattle.ll_rules.specs.{Checks.refusing, Checks.refusing_port, Moves.move_verdict};
 ghost use Rattle.ll_policy.specs.Chains.{Granting, IsChain, IsExcess, NothingMore, NothingMoreThan, passes};
@@ -94,4 +98,17 @@ pub fn nothing_is_found_where_there_is_nothing_more()
         (found : List (Vec (Option (Vec ℕ Global)) Global))
         → AllZip (TellsPorts old new) network.all_rights found
         → (is_nothing found ≡ true) ↔ NothingMoreOnPorts old new }
+{}
+
+/// Policies that let the same chains pass, each way, may answer a move differently. One layer more that grants execution
+/// in a directory, beside a layer that grants it nowhere, lets nothing more be executed; but a file gains the right in
+/// that layer by a link to the directory, and gains it in no other.
+#[tactic(auto, unfolding(ll_rules::specs::WorkedRules::checking))]
+pub fn equal_policies_may_move_apart()
+    ensures forth { (is_file : ℕ → Bool) → NothingMoreOnObjects is_file both stricter }
+    ensures back { (is_file : ℕ → Bool) → NothingMoreOnObjects is_file stricter both }
+    ensures refused { move_verdict worked_tree (all_in_tree worked_tree both)
+        (linked file_a_f dir_b) ≡ Refused XDev (1 ∷ []) }
+    ensures passed { move_verdict worked_tree (all_in_tree worked_tree stricter)
+        (linked file_a_f dir_b) ≡ Passed }
 {}

@@ -13,7 +13,7 @@ pub use deciding::{ROOT, excess};
 pub use gaining::Gain;
 pub use granting::Granting;
 pub use laws::{
-    layers_are_compared_one_by_one, no_move_passes_more,
+    equal_policies_may_move_apart, layers_are_compared_one_by_one, no_move_passes_more,
     nothing_is_found_where_there_is_nothing_more, nothing_more_in_any_tree,
     ports_are_compared_one_by_one, ways_up_are_chains,
 };
