@@ -1,4 +1,6 @@
-"""What one policy lets pass and another refuses, for every call on every tree.
+"""What one policy lets pass and another refuses, on every tree that has objects at the paths which the policies name.
+
+There each object has that name alone; `anywhere` says what else passes once objects are moved or linked.
 
 landaudit is asked about one object, directory and port of each region (`regions`), with single rights, and about moves
 between each two regions. The rest follows by laws of the crate `ll_regions`: a set of rights is refused if one of the
@@ -10,12 +12,13 @@ from __future__ import annotations
 
 import json
 import tempfile
-from collections.abc import Iterable, Iterator, Sequence
+from collections.abc import Iterable, Iterator, Mapping, Sequence
 from dataclasses import dataclass, field, replace
 from pathlib import Path
 
-from . import applying, asking, differing_layers, fitting, landaudit, reports
+from . import anywhere, applying, asking, differing_layers, fitting, landaudit, reports
 from .answers import ALLOWED, MOOT, REFUSED
+from .anywhere import Chain
 from .asking import RULESET
 from .differing_layers import Abis, OfLayers
 from .fitting import FittedLayer, FittedPathRule
@@ -23,7 +26,7 @@ from .jsonl import Record
 from .jsonl import value as json_of
 from .policies import Policy
 from .problems import Problem
-from .regions import RULED_KINDS, Region, Regions, as_named
+from .regions import ALL_ABIS, RULED_KINDS, Region, Regions, as_named
 from .rights import NEWEST_ABI
 from .trees import ROOT, Tree, upwards
 
@@ -48,6 +51,11 @@ class About:
     region: Region | None = None
     port: int | None = None
 
+    @property
+    def as_file(self) -> str | None:
+        """The path that is a file here, if one with a rule is."""
+        return self.region.path if self.region is not None and self.region.as_file else None
+
 
 @dataclass(frozen=True)
 class Move:
@@ -59,23 +67,32 @@ class Move:
     to: str
 
 
-Subject = About | Move | OfLayers
+    @property
+    def as_file(self) -> str | None:
+        """The path that is a file in this move, if one with a rule is."""
+        return self.source if self.itself and self.kind != "dir" else None
+
+
+Subject = About | Move | OfLayers | Chain
 
 
 @dataclass
 class Differences:
     """What one policy lets pass and another refuses, with the ABIs at which it does, and how many calls were tried."""
 
+    regions: Regions
     more: dict[Subject, Abis] = field(default_factory=dict)
     less: dict[Subject, Abis] = field(default_factory=dict)
     tried: int = 0
 
-    def add(self, subject: Subject, old: _Passes, new: _Passes) -> None:
+    def add(self, subject: About | Move, old: _Passes, new: _Passes) -> None:
         """Notes where one policy lets a call pass and the other refuses it, which both let be tried."""
         self.tried += 1
         if old is new:
             return
-        both = old.reached & new.reached
+        file = subject.as_file
+        both = frozenset(abi for abi in old.reached & new.reached
+                         if file is None or not self.regions.is_directory(file, abi))
         for found, one, other in ((self.more, new, old), (self.less, old, new)):
             alone = (one.whole - other.whole) & both
             if alone:
@@ -86,7 +103,7 @@ class Differences:
 class _Question:
     """Records of one process, without its pid. The question is the last record, if those before it are allowed."""
 
-    subject: Subject
+    subject: About | Move
     records: tuple[str, ...]
 
 
@@ -115,7 +132,7 @@ def differences(program: Path, old: Policy, new: Policy, abis: range) -> Differe
     if len(kinds) > MOST_OBJECTS:
         raise Problem(f"{old.path} and {new.path} have rules on {len(regions.paths):,} paths, and a tree for these has "
                       f"more objects than landaudit reads ({MOST_OBJECTS:,}): compare parts of the policies")
-    found = Differences()
+    found = Differences(regions)
     making: dict[str, set[str]] = {}
     with tempfile.TemporaryDirectory(prefix="landaudit-") as folder:
         asker = _Asker(program, Path(folder), abis, [_confined(policy, regions) for policy in (old, new)])
@@ -128,10 +145,21 @@ def differences(program: Path, old: Policy, new: Policy, abis: range) -> Differe
         for question, passes in asker.asked(_moves(regions, making)):
             found.add(question.subject, *passes)
     for differing, one, other in ((found.more, new, old), (found.less, old, new)):
+        _note_chains(differing, anywhere.chains(one, other, regions, abis))
         differing.update(dict.fromkeys(differing_layers.unscoped(one, other), frozenset(abis)))
-        for subject, at in differing_layers.room(one, other, abis).items():
-            differing[subject] = at
+        differing.update([*differing_layers.room(one, other, abis).items()])
     return found
+
+
+def _note_chains(differing: dict[Subject, Abis], chains: Mapping[Chain, Abis]) -> None:
+    """Adds what passes once objects are moved or linked, unless it passes under one of their paths as they are."""
+    for chain, abis in chains.items():
+        regions = [Region(path) for path in chain.directories]
+        if chain.file is not None:
+            regions.append(Region(chain.file, as_file=True))
+        left = abis.difference(*(differing.get(About(chain.right, region), _NONE) for region in regions))
+        if left:
+            differing[chain] = left
 
 
 # ---- the policies
@@ -180,6 +208,8 @@ def _rights(regions: Regions) -> Iterator[_Question]:
         yield _Question(About("remove_file", under), (_record("unlink", path=regions.child(path, "reg")),))
         yield _Question(About("remove_dir", under), (_record("rmdir", path=regions.child(path, "dir")),))
     for path in regions.ruled:
+        if not regions.may_be_file(path, ALL_ABIS):
+            continue
         as_file = Region(path, as_file=True)
         yield from _on_files(as_file, regions.as_file(path, "reg"), regions.as_file(path, "char"), fds)
     for port in dict.fromkeys((*regions.tried_ports, regions.other_port)):
@@ -216,14 +246,18 @@ def _moves(regions: Regions, making: dict[str, set[str]]) -> Iterator[_Question]
 
 
 def _moved(regions: Regions, kind: str, to: str) -> Iterator[tuple[Move, str]]:
-    """The objects of a kind that can move under a path: one beneath each path, and each path with a rule itself."""
+    """The objects of a kind that can move under a path: one beneath each path, and each path with a rule itself.
+
+    A path can't be moved under itself, nor can it be a file that something is under.
+    """
+    over = set(upwards(to))
     for source in regions.paths:
         yield Move(kind, source, False, to), regions.child(source, kind)
     if kind == "dir":
-        over = set(upwards(to))
         yield from ((Move(kind, path, True, to), path) for path in regions.ruled if path not in over)
     elif kind in RULED_KINDS:
-        yield from ((Move(kind, path, True, to), regions.as_file(path, kind)) for path in regions.ruled)
+        files = (path for path in regions.ruled if path not in over and regions.may_be_file(path, ALL_ABIS))
+        yield from ((Move(kind, path, True, to), regions.as_file(path, kind)) for path in files)
 
 
 # ---- asking

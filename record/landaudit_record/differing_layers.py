@@ -1,4 +1,4 @@
-"""What two policies differ in that no single call on a path or port shows: their scopes, and the number of their layers.
+"""What two policies differ in that no call on a path or port shows: their scopes, and the number of their layers.
 
 A program that starts under a policy is under all of its layers. So all that counts is which scopes some layer has, and
 how many of the layers that a process may have (landlock(7)) are left for the program's own.

@@ -4,7 +4,9 @@ from __future__ import annotations
 
 from collections import defaultdict
 from collections.abc import Iterable, Iterator, Mapping
+from dataclasses import replace
 
+from .anywhere import Chain
 from .differing import MOUNT, About, Differences, Move, Subject
 from .differing_layers import Abis, Room, Unscoped
 from .policies import Policy
@@ -57,7 +59,9 @@ def _of_one(differing: Mapping[Subject, Abis], regions: Regions, abis: Abis) -> 
         rights = [subject for subject in subjects if isinstance(subject, About)]
         moves = [subject for subject in subjects if isinstance(subject, Move)]
         of_layers = [str(subject) for subject in subjects if isinstance(subject, (Unscoped, Room))]
-        of_calls = (*_rights(rights, regions), *_ports(rights, regions), *_mounts(rights), *_moves(moves, regions))
+        chains = [subject for subject in subjects if isinstance(subject, Chain)]
+        of_paths = (*_rights(rights, regions, at), *_chains(chains))
+        of_calls = (*of_paths, *_ports(rights, regions), *_mounts(rights), *_moves(moves, regions))
         yield from (text + behind for text in (*of_calls, *of_layers))
 
 
@@ -72,7 +76,7 @@ def _abis(abis: Abis) -> str:
     return ", ".join(span(part) for part in parts)
 
 
-def _rights(subjects: list[About], regions: Regions) -> Iterator[str]:
+def _rights(subjects: list[About], regions: Regions, abis: Abis) -> Iterator[str]:
     """Rights for files, those of the same regions together."""
     by_right: defaultdict[str, set[Region]] = defaultdict(set)
     for subject in subjects:
@@ -80,9 +84,21 @@ def _rights(subjects: list[About], regions: Regions) -> Iterator[str]:
             by_right[subject.right].add(subject.region)
     by_place: dict[str, list[str]] = {}
     for right in FS.ordered(by_right):
-        for place in phrases(regions, by_right[right], of_files=right in FILE_RIGHTS):
+        for place in phrases(regions, by_right[right], of_files=right in FILE_RIGHTS, abis=abis):
             by_place.setdefault(place, []).append(right)
     yield from (f"{', '.join(rights)} {place}" for place, rights in by_place.items())
+
+
+def _chains(chains: list[Chain]) -> Iterator[str]:
+    """Rights that pass once objects are moved or linked, those by the same rules together."""
+    by_objects: defaultdict[Chain, list[str]] = defaultdict(list)
+    for chain in chains:
+        by_objects[replace(chain, right="")].append(chain.right)
+    for chain, rights in by_objects.items():
+        objects = [*chain.directories, *([] if chain.file is None else [f"{chain.file} as a file"])]
+        where = (f"rule on {objects[0]}, wherever that is moved or linked" if len(objects) == 1 else
+                 f"rules on {', '.join(objects)}, if these are moved or linked into one another")
+        yield f"{', '.join(rights)} by the {where} (refused by layer {chain.layer})"
 
 
 def _ports(subjects: list[About], regions: Regions) -> Iterator[str]:

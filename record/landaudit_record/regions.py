@@ -13,14 +13,16 @@ objects contain a word that no path with a rule has.
 from __future__ import annotations
 
 from collections import defaultdict
-from collections.abc import Iterator, Mapping, Sequence
+from collections.abc import Iterable, Iterator, Mapping, Sequence
 from dataclasses import dataclass
 from functools import cached_property
 
+from . import fitting
 from .policies import HIGHEST_PORT, Layer, Policy
-from .rights import NONE, Rights
+from .rights import FILE_RIGHTS, NEWEST_ABI, NONE, OLDEST_ABI, Rights
 from .trees import ROOT, Tree, joined, upwards
 
+ALL_ABIS = range(OLDEST_ABI, NEWEST_ABI + 1)
 #: The kinds of objects other than directories; a rule on a link is on what the link leads to.
 FILE_KINDS = ("reg", "sym", "char", "block", "fifo", "sock")
 RULED_KINDS = ("reg", "char", "block", "fifo", "sock")
@@ -31,12 +33,14 @@ class Regions:
     """The paths and ports that two policies have rules on, and a word that is in no such path.
 
     The root is the first path, whether it has a rule or not, and each path comes after all paths above it. The ports
-    are in groups: on those of one group, each layer of both policies grants the same.
+    are in groups: on those of one group, each layer of both policies grants the same. `directories` has paths with ABIs
+    at which they must be directories: on a file, the kernel refuses a rule there, so that a policy is not in force.
     """
 
     paths: tuple[str, ...]
     ports: tuple[tuple[int, ...], ...]
     word: str
+    directories: frozenset[tuple[str, int]] = frozenset()
 
     @classmethod
     def of(cls, policies: Sequence[Policy]) -> Regions:
@@ -47,7 +51,7 @@ class Regions:
         word = "~try~"
         while any(word in path for path in paths):
             word += "~"
-        return cls(tuple(sorted(paths | {ROOT})), _ports_alike(layers), word)
+        return cls(tuple(sorted(paths | {ROOT})), _ports_alike(layers), word, frozenset(_directories(policies)))
 
     @property
     def ruled(self) -> tuple[str, ...]:
@@ -64,6 +68,14 @@ class Regions:
     def tried_ports(self) -> Mapping[int, tuple[int, ...]]:
         """A port of each group, which stands for all of its group."""
         return {ports[0]: ports for ports in self.ports}
+
+    def is_directory(self, path: str, abi: int) -> bool:
+        """Whether a path must be a directory at an ABI."""
+        return (path, abi) in self.directories
+
+    def may_be_file(self, path: str, abis: Iterable[int]) -> bool:
+        """Whether a path may be a file at one of some ABIs."""
+        return path != ROOT and not all(self.is_directory(path, abi) for abi in abis)
 
     def child(self, directory: str, name: str) -> str:
         """What is tried in a directory."""
@@ -103,6 +115,13 @@ def _ports_alike(layers: Sequence[Layer]) -> tuple[tuple[int, ...], ...]:
     for port in sorted(granted):
         alike[tuple(granted[port].items())].append(port)
     return tuple(map(tuple, alike.values()))
+def _directories(policies: Sequence[Policy]) -> Iterator[tuple[str, int]]:
+    """The paths that must be directories, with the ABIs at which they must: of a file, a rule asks for other rights."""
+    for abi in ALL_ABIS:
+        rules = (rule for policy in policies for layer in fitting.fit(policy, abi)[0] for rule in layer.path_rules)
+        for rule in rules:
+            if not FILE_RIGHTS.issuperset(rule.on("reg")):
+                yield from ((as_named(parent), abi) for parent in rule.parents if not parent.endswith("/"))
 
 
 def as_named(path: str) -> str:
@@ -118,10 +137,13 @@ class Region:
     as_file: bool = False
 
 
-def phrases(regions: Regions, differing: set[Region], of_files: bool) -> Iterator[str]:
+def phrases(
+    regions: Regions, differing: set[Region], of_files: bool, abis: Iterable[int] = ALL_ABIS
+) -> Iterator[str]:
     """A set of regions in words, such as `under /etc, but for /etc/ssl`.
 
-    `of_files` says that files were asked about too: then a path inside that does not differ as a file is named.
+    `of_files` says that files were asked about too: then a path inside is named that does not differ as a file and may
+    be one at some of the ABIs.
     """
     under = {region.path for region in differing if not region.as_file}
     alone = {region.path for region in differing if region.as_file}
@@ -134,7 +156,8 @@ def phrases(regions: Regions, differing: set[Region], of_files: bool) -> Iterato
         inside = [path for path in regions.paths if top.get(path) == first]
         out = [path for path in regions.paths if path not in under and over[path] in inside]
         if of_files:
-            out += [f"{path} as a file" for path in inside if path != ROOT and path not in alone]
+            may_be = (path for path in inside if path not in alone and regions.may_be_file(path, abis))
+            out += [f"{path} as a file" for path in may_be]
         yield f"under {first}, but for {', '.join(out)}" if out else f"under {first}"
     if of_files:
         yield from (f"on {path} as a file" for path in sorted(alone - under))

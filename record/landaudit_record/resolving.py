@@ -10,11 +10,11 @@ import errno
 import os
 import re
 import stat
-from collections.abc import Iterator
+from collections.abc import Callable, Iterable, Iterator
 from dataclasses import dataclass, replace
 from typing import Protocol
 
-from .policies import Layer, PathRule, Policy
+from .policies import PathRule, Policy
 from .problems import Problem
 
 ROOT = "/"
@@ -195,10 +195,40 @@ def followed(policy: Policy, known: Known) -> Policy:
             return NOWHERE
         return found.path + "/" if found.only_directory and found.path != ROOT else found.path
 
-    def of_layer(layer: Layer) -> Layer:
-        rules = layer.path_beneath
-        return replace(layer, path_beneath=tuple(
-            replace(rule, parents=tuple(led(parent) for parent in rule.parents)) for rule in rules
-        ))
+    return _with_parents(policy, lambda rule: tuple(map(led, rule.parents)))
 
-    return replace(policy, layers=tuple(map(of_layer, policy.layers)))
+
+def under_all_names(policy: Policy, paths: Iterable[str]) -> Policy:
+    """The policy with each rule under all names that its object has among some paths of this disk.
+
+    A file has several names by hard links, and a directory by bind mounts. The policy's parents are as `followed` has
+    them, and there is no link on the way of a path.
+    """
+    names: dict[tuple[int, int], list[str]] = {}
+    for path in dict.fromkeys(paths):
+        if (of := _identity(path)) is not None:
+            names.setdefault(of, []).append(path)
+
+    def all_names(rule: PathRule) -> tuple[str, ...]:
+        others = (name for parent in rule.parents if (of := _identity(parent)) for name in names.get(of, ()))
+        written = {parent.rstrip("/") for parent in rule.parents}
+        return (*rule.parents, *dict.fromkeys(name for name in others if name.rstrip("/") not in written))
+
+    return _with_parents(policy, all_names)
+
+
+def _identity(path: str) -> tuple[int, int] | None:
+    """What tells an object from all others of this disk."""
+    try:
+        status = os.lstat(path.rstrip("/") or ROOT)
+    except (OSError, ValueError):
+        return None
+    return status.st_dev, status.st_ino
+
+
+def _with_parents(policy: Policy, parents_of: Callable[[PathRule], tuple[str, ...]]) -> Policy:
+    """The policy with other parents."""
+    return replace(policy, layers=tuple(
+        replace(layer, path_beneath=tuple(replace(rule, parents=parents_of(rule)) for rule in layer.path_beneath))
+        for layer in policy.layers
+    ))

@@ -125,7 +125,8 @@ class _Together:
 def read(*paths: Path, beside: Known = NothingElse()) -> Tree:
     """The tree in a file, or in the files of all parts of a recording.
 
-    `beside` says what is known of the objects that it does not list. A line without a path or a kind is a Problem; landaudit looks at the rest.
+    `beside` says what is known of the objects that it does not list. A line without a path or a kind is a Problem;
+    landaudit looks at the rest.
     """
     tree = Tree(beside=beside)
     for path in paths:

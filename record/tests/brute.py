@@ -5,9 +5,13 @@
 
 Of each pair of policies, random calls on random trees are asked of landaudit under both. Where one policy alone lets a
 call pass, a line of `diff` is to cover something that the call needs; and a line is to cover a call that needs one
-thing alone only where that differs. Of each policy of ten rules `tighten` makes another for random recordings: it is to
-grant nothing more and refuse nothing new, and each right on each path and port is taken from it by itself, to see that
-something is refused.
+thing alone only where that differs. In half of the trees, the objects that policies have rules on are elsewhere, in one
+another, and files have several names: there a line is to name a right that the call needs. For each line on objects
+that are moved, a tree is made in which they are as it says. Paths are on this disk, where some of them are by way of
+links; policies have scopes and groups of rules.
+
+Of each policy of ten rules `tighten` makes another for random recordings: it is to grant nothing more and refuse nothing
+new, and each right on each path and port is taken from it by itself, to see that something is refused.
 Policies with a rule that the kernel refuses are counted apart: `tighten` is to name such a rule.
 """
 
@@ -24,19 +28,23 @@ import tempfile
 import tomllib
 from collections.abc import Collection, Iterable, Iterator, Sequence
 from dataclasses import dataclass
+from itertools import product
 from pathlib import Path
+from unittest import mock
 
 if __name__ == "__main__":
     sys.path.insert(0, str(Path(__file__).resolve().parents[1]))
 
-from landaudit_record import asking, cli, jsonl, landaudit  # noqa: E402
+from landaudit_record import asking, cli, jsonl, landaudit, policies  # noqa: E402
 from landaudit_record.jsonl import Record  # noqa: E402
 from landaudit_record.problems import UNREADABLE, Problem  # noqa: E402
 from landaudit_record.rights import FS, NET, NEWEST_ABI, OLDEST_ABI, alone  # noqa: E402
-from landaudit_record.trees import ROOT  # noqa: E402
+from landaudit_record.trees import ROOT, joined  # noqa: E402
 from tests import covering  # noqa: E402
-from tests.random_calls import Call, Caller  # noqa: E402
-from tests.random_policies import Kinds, Layer, Maker, Policy, Rule, granted, meant, plain  # noqa: E402
+from tests.random_calls import Call, Caller, Move, Port, Right  # noqa: E402
+from tests.random_policies import (  # noqa: E402
+    GROUPS, LINKS, NAMES, Kinds, Layer, Maker, Names, Policy, Rule, granted, meant, plain,
+)
 from tests.random_runs import Run  # noqa: E402
 
 ABIS = range(OLDEST_ABI, NEWEST_ABI + 1)
@@ -95,6 +103,42 @@ def run(words: Sequence[str], program: cli.Program) -> tuple[int, str, str]:
 
 
 @dataclass(frozen=True)
+class Ground:
+    """A folder with the directories and links that policies name; its groups of rules are those of the package here."""
+
+    top: Path
+
+    @classmethod
+    @contextlib.contextmanager
+    def made(cls) -> Iterator[Ground]:
+        """A new one, for as long as the groups are in force."""
+        with tempfile.TemporaryDirectory() as name:
+            ground = cls(Path(name).resolve())
+            for count in (1, 2, 3):
+                for names in product(NAMES, repeat=count):
+                    ground.top.joinpath(*names).mkdir()
+            for link, to in LINKS.items():
+                (ground.top / link[1:]).symlink_to(to[1:])
+            (ground.top / "groups").mkdir()
+            for group, rules in GROUPS.items():
+                written = ((json.dumps(rule.words), json.dumps(rule.on)) for rule in rules)
+                text = "".join(f"[[path_beneath]]\nallowed_access = {of}\nparent = {on}\n" for of, on in written)
+                (ground.top / "groups" / f"{group}.toml").write_text(ground.on(text))
+            with mock.patch.object(policies, "GROUPS", ground.top / "groups"):
+                policies._group.cache_clear()
+                yield ground
+            policies._group.cache_clear()
+
+    def on(self, policy: str) -> str:
+        """A policy's text with its paths in the folder, but for the root."""
+        return re.sub(r'"/(?=[^"])', f'"{self.top}/', policy)
+
+    def off(self, said: str) -> str:
+        """What is said of them, with paths as policies name them without the folder."""
+        return said.replace(f"{self.top}/", "/")
+
+
+@dataclass(frozen=True)
 class Pair:
     """Two policies, by the seed that they were made by."""
 
@@ -109,33 +153,44 @@ class Pair:
         maker = Maker(random.Random(seed))
         old = maker.policy(maker.of.choice((1, 1, 1, 2, 2, 3, 4)))
         near = maker.of.random() < 0.85
-        return cls(seed, old, maker.changed(old) if near else maker.policy(maker.of.randint(1, 4)), maker)
+        new = maker.changed(old) if near else maker.policy(maker.of.randint(1, 4))
+        dressing = Maker(random.Random(-seed - 1))
+        if near and dressing.of.random() < 0.5:
+            old = dressing.dressed(old)
+            new = maker.changed(old)
+        return cls(seed, dressing.dressed(old), dressing.dressed(new) if dressing.of.random() < 0.7 else new, maker)
 
     @property
     def changed(self) -> frozenset[str]:
         """The paths that one of the policies alone has some rule on, but for the root."""
-        old, new = ({(path, rule.words) for layer in it.layers for rule in layer.paths for path in rule.on}
-                    for it in (self.old, self.new))
-        return frozenset(plain(str(path)) for path, _ in old ^ new) - {ROOT}
+        rules = ([rule for layer in it.layers for rule in layer.on_paths] for it in (self.old, self.new))
+        old, new = ({(plain(str(path)), rule.words) for rule in of for path in rule.on} for of in rules)
+        return frozenset(path for path, _ in old ^ new) - {ROOT}
 
-    def said(self, program: Path, folder: Path) -> covering.Said:
+    @property
+    def directories(self) -> set[str]:
+        """The paths that must be directories for both policies to be in force."""
+        return self.old.directories | self.new.directories
+
+    def said(self, program: Path, ground: Ground) -> covering.Said:
         """What `diff` says of them."""
-        paths = [folder / name for name in ("old.toml", "new.toml")]
+        paths = [ground.top / name for name in ("old.toml", "new.toml")]
         for path, policy in zip(paths, (self.old, self.new)):
-            path.write_text(policy.toml())
+            path.write_text(ground.on(policy.toml()))
         status, out, errors = run(["diff", *map(str, paths), "--landaudit", str(program)], cli.POLICY)
         assert status in (0, 1), errors
-        return covering.read(status, out, str(paths[0]), str(paths[1]), ABIS)
+        return covering.read(status, ground.off(out), "/old.toml", "/new.toml", ABIS)
 
     def passing(
-        self, program: Path, folder: Path, kinds: Kinds, calls: Sequence[Call]
+        self, program: Path, folder: Path, kinds: Kinds, calls: Sequence[Call], names: Names | None = None
     ) -> Iterator[tuple[Call, Abis, Abis]]:
         """Each call on a tree, and at which ABIs the old policy lets it pass, and the new one."""
         asked = [record for call in calls for record in call.records]
         records: list[Record] = []
         first: list[int] = []
         for pid, policy in enumerate((self.old, self.new), start=1):
-            records += [{"op": "start", "pid": pid}, *({**record, "pid": pid} for record in policy.records(kinds))]
+            own = policy.records(kinds, names)
+            records += [{"op": "start", "pid": pid}, *({**record, "pid": pid} for record in own)]
             first.append(len(records))
             records += [{**record, "pid": pid} for record in asked]
         found = judged(program, folder, kinds, records)
@@ -156,21 +211,118 @@ class Tried:
     """Policies with a rule that the kernel refuses, which is told in the place of an answer."""
 
 
-def compared(program: Path, seed: int, count: int) -> Tried:
+def compared(program: Path, seed: int, count: int, ground: Ground) -> Tried:
     """Tries the calls of a pair, on several trees."""
     pair, tried = Pair.of(seed), Tried(0, 0, [])
+    said = pair.said(program, ground)
+    tried.faults += [f"seed {seed}: {fault}" for fault in _of_wholes(pair, said)]
     with tempfile.TemporaryDirectory() as name:
-        said = pair.said(program, Path(name))
-        if said.status != bool(said.more):
-            tried.faults.append(f"seed {seed}: status {said.status}")
-        for _ in range(TREES):
-            kinds = pair.maker.tree(pair.old.paths | pair.new.paths)
-            calls = list(Caller(pair.maker.of, kinds, pair.changed).calls(count // TREES))
-            for call, old, new in pair.passing(program, Path(name), kinds, calls):
+        for number in range(TREES):
+            paths, is_moved = pair.old.paths | pair.new.paths, number % 2 == 1
+            kinds, names = (pair.maker.elsewhere(paths, pair.directories) if is_moved
+                            else (pair.maker.tree(paths, pair.directories), None))
+            near = pair.changed if names is None else frozenset(one for path in pair.changed for one in names[path])
+            calls = list(Caller(pair.maker.of, kinds, near).calls(count // TREES))
+            for call, old, new in pair.passing(program, Path(name), kinds, calls, names):
                 tried.calls += 1
                 tried.differ += old != new
-                tried.faults += [f"seed {seed}, {fault}: {call}" for fault in faults_of(said, call, old, new)]
+                faults = (faults_of if names is None else faults_elsewhere)(said, call, old, new)
+                tried.faults += [f"seed {seed}, {fault}: {call}" for fault in faults]
+        tried.faults += [f"seed {seed}, {fault}" for fault in _of_chains(program, Path(name), pair, said)]
     return tried
+
+
+def _of_wholes(pair: Pair, said: covering.Said) -> Iterator[str]:
+    """What is at fault in the status, and in the lines on scopes and on the number of layers."""
+    if said.status != bool(said.more):
+        yield f"status {said.status}"
+    for lines, one, other in ((said.more, pair.new, pair.old), (said.less, pair.old, pair.new)):
+        texts = [line for line in lines if covering.OF_LAYERS.fullmatch(line.text.split(" (at ABI")[0])]
+        scopes = [line for line in texts if "no scope" in line.text]
+        if len(scopes) != len(other.scoped - one.scoped):
+            yield f"scopes {other.scoped - one.scoped}: {scopes}"
+        for abi in ABIS:
+            fewer = any(one.used(abi, scopes=has) < other.used(abi, scopes=has) for has in (False, True))
+            if fewer != any(abi in line.abis for line in texts if line not in scopes):
+                yield f"number of layers at ABI {abi}"
+
+
+def faults_elsewhere(said: covering.Said, call: Call, old: Abis, new: Abis) -> Iterator[str]:
+    """What is at fault in what is said of a call on objects that are not where policies name them.
+
+    A move may differ there for the rights that an object would gain, of which `diff` knows by their names alone.
+    """
+    if any(isinstance(need, Move) for need in call.needs):
+        return
+    rights = {need.name for need in call.needs if isinstance(need, (Right, Port))}
+    for abi in ABIS:
+        for one, other, lines in ((new, old, said.more), (old, new, said.less)):
+            named = any(abi in line.abis and not rights.isdisjoint(re.findall("[a-z_]+", line.text.split(" /")[0]))
+                        for line in lines)
+            if abi in one and abi not in other and rights and not named:
+                yield f"ABI {abi}, elsewhere, not named"
+
+
+#: What asks for a right alone, in a directory or on a file.
+_ASKING: dict[str, Record] = {
+    "read_file": {"op": "open", "mode": "r"},
+    "write_file": {"op": "open", "mode": "w"},
+    "execute": {"op": "exec"},
+    "truncate": {"op": "truncate"},
+    "read_dir": {"op": "open", "mode": "r"},
+    "remove_file": {"op": "unlink"},
+    "remove_dir": {"op": "rmdir"},
+    "make_dir": {"op": "mkdir"},
+    "make_sym": {"op": "symlink"},
+    **{f"make_{kind}": {"op": "mknod", "kind": kind} for kind in ("reg", "char", "block", "fifo", "sock")},
+}
+
+
+@dataclass
+class _Chains:
+    """A tree with objects as lines on moved objects say, each line in a directory of its own, and calls on them."""
+
+    kinds: Kinds
+    names: Names
+    calls: list[tuple[Call, covering.Line, bool]]
+
+    def add(self, line: covering.Line, more: bool) -> None:
+        """Adds what a line is about, if it is on moved objects."""
+        found = covering.ANYWHERE.fullmatch(line.text.split(" (at ABI")[0])
+        if found is None:
+            return
+        objects = found["objects"].split(", ")
+        file = objects.pop().removesuffix(" as a file") if objects[-1].endswith(" as a file") else None
+        over = self._put(joined(ROOT, f"line{len(self.kinds)}"), "dir")
+        for path in objects:
+            over = self._put(joined(over, "in"), "dir")
+            self.names.setdefault(path, []).append(over)
+        inside, empty = self._put(joined(over, "file"), "reg"), self._put(joined(over, "empty"), "dir")
+        if file is not None:
+            self.names.setdefault(file, []).append(inside)
+        for right in set(found["rights"].split(", ")) & _ASKING.keys():
+            on = over if right == "read_dir" else empty if right == "remove_dir" else inside
+            path = joined(over, "new") if right.startswith("make_") else on
+            number = {"fd": 3 + len(self.calls)} if "mode" in _ASKING[right] else {}
+            self.calls.append((Call(({**_ASKING[right], **number, "path": path},), ()), line, more))
+
+    def _put(self, path: str, kind: str) -> str:
+        self.kinds[path] = kind
+        return path
+
+
+def _of_chains(program: Path, folder: Path, pair: Pair, said: covering.Said) -> Iterator[str]:
+    """What is at fault in the lines on moved objects: each right that one names is to pass under one policy alone."""
+    chains = _Chains({ROOT: "dir"}, {}, [])
+    for lines, more in ((said.more, True), (said.less, False)):
+        for line in lines:
+            chains.add(line, more)
+    calls = [call for call, _, _ in chains.calls]
+    for (_, line, more), (call, old, new) in zip(chains.calls, pair.passing(program, folder, chains.kinds, calls,
+                                                                             chains.names)):
+        passes = new - old if more else old - new
+        if not line.abis <= passes:
+            yield f"no difference at ABI {sorted(line.abis - passes)}: {call.records}: {line.text}"
 
 
 def faults_of(said: covering.Said, call: Call, old: Abis, new: Abis) -> Iterator[str]:
@@ -310,7 +462,7 @@ def units(policy: Policy, kinds: Kinds, abi: int) -> Iterator[Unit]:
         for place, rule in enumerate(layer.paths, start=1):
             for on in dict.fromkeys(map(str, rule.on)):
                 handled = meant(layer.fs, FS)
-                rights = granted(rule.words, handled, kinds.get(plain(on), "dir")) & handled & FS.known(abi)
+                rights = granted(rule, handled, kinds.get(plain(on), "dir")) & handled & FS.known(abi)
                 yield from ((number, f"path {place}", on, right) for right in FS.ordered(rights))
         for place, rule in enumerate(layer.ports, start=1):
             rights = meant(rule.words, NET) & meant(layer.net, NET) & NET.known(abi)
@@ -423,17 +575,27 @@ def main() -> int:
     except Problem as problem:
         print(problem, file=sys.stderr)
         return problem.status
+    with Ground.made() as ground:
+        return 1 if _all_tried(program, wanted, ground) else 0
+
+
+def _all_tried(program: Path, wanted: argparse.Namespace, ground: Ground) -> int:
+    """Tries all pairs and policies that are wanted, and gives the number of faults."""
     faults = 0
     of_pairs = "pairs: {calls:,} calls, {differ:,} differ, {faults:,} faults"
     of_policies = ("policies: {calls:,} records, {differ:,} rights are left, "
                    "{told:,} policies with a rule that the kernel refuses, {faults:,} faults")
-    for what, said, count, each in (
-        (compared, of_pairs, wanted.pairs, wanted.calls),
-        (tightened, of_policies, wanted.policies, wanted.records),
-    ):
+
+    def pair(seed: int) -> Tried:
+        return compared(program, seed, wanted.calls, ground)
+
+    def policy(seed: int) -> Tried:
+        return tightened(program, seed, wanted.records)
+
+    for what, said, count in ((pair, of_pairs, wanted.pairs), (policy, of_policies, wanted.policies)):
         total = Tried(0, 0, [])
         for seed in range(wanted.first, wanted.first + count):
-            tried = what(program, seed, each)
+            tried = what(seed)
             total = Tried(total.calls + tried.calls, total.differ + tried.differ, total.faults + tried.faults,
                           total.told + tried.told)
             for fault in tried.faults[:MOST_SHOWN]:
@@ -441,7 +603,7 @@ def main() -> int:
         print(count, said.format(calls=total.calls, differ=total.differ, told=total.told, faults=len(total.faults)),
               flush=True)
         faults += len(total.faults)
-    return 1 if faults else 0
+    return faults
 
 
 if __name__ == "__main__":

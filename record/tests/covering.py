@@ -120,13 +120,16 @@ def _abis(text: str) -> frozenset[int]:
     return frozenset(abi for first, _, last in spans for abi in range(int(first), int(last or first) + 1))
 
 
+#: Lines on what passes once objects are moved or linked, which are about no object at its own path.
+ANYWHERE = re.compile(r"(?P<rights>[a-z_, ]+) by the rules? on (?P<objects>/.*), (?:wherever that is moved or linked|"
+                      r"if these are moved or linked into one another) \(refused by layer (?P<layer>[0-9]+)\)")
 #: The ends of lines on scopes and on the number of layers, which are about no call that is tried.
 OF_LAYERS = re.compile(r".*( \(no scope; from ABI 6 on\)| layers are used, and not [0-9]+)")
 
 
 def _covers(text: str) -> Callable[[Need], bool]:
     """What a line covers, without its ABIs."""
-    if OF_LAYERS.fullmatch(text):
+    if OF_LAYERS.fullmatch(text) or ANYWHERE.fullmatch(text):
         return lambda need: False
     if text == "mounts":
         return lambda need: isinstance(need, Mount)

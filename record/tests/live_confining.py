@@ -4,6 +4,7 @@ from __future__ import annotations
 
 import json
 import os
+import re
 import subprocess
 import tempfile
 import unittest
@@ -77,21 +78,38 @@ class LiveConfining(unittest.TestCase):
         self.assertIn("layer 1, path_beneath 1, parent /etc/passwd: it is not a directory", run.stderr)
 
     def test_a_recording_under_a_policy(self) -> None:
-        self.policy.write_text(READ_SYSTEM + '[[layer.net_port]]\nallowed_access = ["connect_tcp"]\nport = 443\n')
-        recording = self.folder / "rec"
+        """The second policy refuses by another layer too, so that what is refused has a column more in common."""
+        port = '[[layer.net_port]]\nallowed_access = ["connect_tcp"]\nport = 443\n'
+        second = '[[layer]]\nhandled_access_net = ["connect_tcp"]\n' + port
+        for number, policy in enumerate((READ_SYSTEM + port, READ_SYSTEM + port + second)):
+            with self.subTest(policy):
+                self.policy.write_text(policy)
+                self.recorded(self.folder / f"rec-{number}")
+
+    def recorded(self, recording: Path) -> None:
+        """Records a program under the policy, and looks at what is told of it and of a comparison."""
         ports = "import socket\nfor port in (443, 80):\n s = socket.socket()\n print(s.connect_ex(('127.0.0.1', port)))"
         command = ("sh", "-c", f'cat secret; {PYTHON} -c "{ports}"')
-        run = self.said(PYTHON, RECORDER, "run", recording, "--policy", self.policy, "--", *command)
+        words = (PYTHON, RECORDER, "run", recording, "--policy", self.policy, "--", *command)
+        run = self.said(*words, COLUMNS="300")
         self.assertEqual((run.returncode, run.stdout), (0, "111\n13\n"), run.stderr)
-        self.assertIn("\n  all: error EACCES, layers program's 1\n", run.stderr)
-        self.assertRegex(run.stderr, rf"\n +1  open r +{self.folder}/secret +/usr/bin/cat +read_file\n")
-        self.assertRegex(run.stderr, r"\n +1  connect +port 80 +\S+ +connect_tcp\n")
+        self.told(run.stderr, "open r", f"{self.folder}/secret", "EACCES", "program's 1", "/usr/bin/cat", "read_file")
+        self.told(run.stderr, "connect", "port 80", "EACCES", "program's 1", "connect_tcp")
         self.assertEqual((recording / "policy.toml").read_text(), self.policy.read_text())
         self.assertEqual(self.said(PYTHON, RECORDER, "convert", recording).returncode, 0)
         compared = self.said(PYTHON, RECORDER, "compare", recording, "--json")
         self.assertEqual(compared.returncode, 0, compared.stdout)
         found = json.loads(compared.stdout)
         self.assertEqual((found["differences"], found["calls"]), ([], found["agree"]))
+
+    def told(self, summary: str, call: str, place: str, *facts: str) -> None:
+        """Looks for a kind of refused call; what all kinds have in common, which depends on Python, is in no column."""
+        row = re.search(rf"\n +[0-9]+  {call} +{re.escape(place)} .*", summary)
+        in_common = re.search(r"\n  all: .*", summary)
+        self.assertIsNotNone(row, summary)
+        said = "".join(found[0] for found in (row, in_common) if found is not None)
+        for fact in facts:
+            self.assertIn(fact, said)
 
     def test_a_policy_that_does_not_read_leaves_no_recording(self) -> None:
         self.policy.write_text("[[layer]]\n")

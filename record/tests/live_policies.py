@@ -156,7 +156,7 @@ parent = ["/usr", "/lib64", "@/link"]
                 self.assertEqual(checked.returncode, 0 if runs else 1, checked.stdout + checked.stderr)
 
     def test_links_that_policies_name(self) -> None:
-        """A link across layers, and `..` after a link: the new policy lets a file be read, which the old one does not."""
+        """A link across layers, and `..` after a link: the new policy lets a file be read, and the old one does not."""
         (self.folder / "real" / "deep").mkdir(parents=True)
         (self.folder / "real" / "f").write_text("text\n")
         (self.folder / "link").symlink_to("real/deep")
@@ -167,6 +167,34 @@ parent = ["/usr", "/lib64", "@/link"]
             status, lines = self.compared(layer + whole + layer + old, layer + whole + layer + new)
             ended = [self.under(self.folder / name, "cat", "real/f").returncode for name in ("old", "new")]
             self.assertEqual((ended, status), ([1, 0], 1), lines)
+
+    def test_a_file_with_another_name_and_a_directory_that_is_moved(self) -> None:
+        """A rule stays with its object: the new policy reads what the old one refuses, once the object is elsewhere."""
+        for name in ("a/d", "b"):
+            (self.folder / name).mkdir(parents=True)
+        for name in ("a/f", "a/d/g"):
+            (self.folder / name).write_text("text\n")
+        read = '[[layer]]\nhandled_access_fs = ["read_file"]\n[[layer.path_beneath]]\nallowed_access = ["read_file"]\n'
+        old, new = (read + f'parent = ["/usr", "/lib", "/etc", "/proc", "@/a"{more}]\n'
+                    for more in ("", ', "@/a/f", "@/a/d"'))
+        status, lines = self.compared(old, new)
+        self.assertEqual((status, lines[1:3]), (1, [
+            "  read_file by the rule on a/d, wherever that is moved or linked (refused by layer 1)",
+            "  read_file by the rule on a/f, wherever that is moved or linked (refused by layer 1)"]))
+        self.assertEqual(self.compared(new, old)[0], 0)
+        reading = "echo ready; read go; cat b/f; cat b/d/g"
+        for file, text, ended in (("old", old, ""), ("new", new, "text\ntext\n")):
+            policy = self.policy(file, text)
+            words = [PYTHON, CONFINER, "confine", policy, "--", "/bin/sh", "-c", reading]
+            with subprocess.Popen(words, cwd=self.folder, text=True, stdin=subprocess.PIPE, stdout=subprocess.PIPE,
+                                  stderr=subprocess.DEVNULL) as run:
+                assert run.stdout is not None
+                self.assertEqual(run.stdout.readline(), "ready\n")
+                os.link(self.folder / "a/f", self.folder / "b/f")
+                os.rename(self.folder / "a/d", self.folder / "b/d")
+                self.assertEqual(run.communicate("go\n")[0], ended)
+            os.rename(self.folder / "b/d", self.folder / "a/d")
+            os.unlink(self.folder / "b/f")
 
     def test_a_scope_less(self) -> None:
         if landlock_calls.kernel_abi() < confining.ABI_OF_SCOPES:

@@ -8,7 +8,8 @@ from __future__ import annotations
 
 import posixpath
 import random
-from collections.abc import Iterable, Iterator, Sequence
+import re
+from collections.abc import Collection, Iterable, Iterator, Sequence
 from dataclasses import dataclass, replace
 
 from landaudit_record.jsonl import Record
@@ -21,6 +22,7 @@ FILES = ("reg", "reg", "reg", "char", "block", "fifo", "sock")
 MOST_OBJECTS = 60
 RULESET = 1
 Kinds = dict[str, str]
+Names = dict[str, list[str]]
 
 
 def meant(words: Iterable[str], family: Family) -> Rights:
@@ -28,15 +30,21 @@ def meant(words: Iterable[str], family: Family) -> Rights:
     return NONE.union(*(family.groups.get(word, frozenset({word})) for word in words))
 
 
+#: Links at the top of a tree, each with what it leads to; a policy may name paths by way of them.
+LINKS = {f"/to{path.replace('/', '-')}": path for path in ("/a", "/b", "/a/b", "/b/c", "/c/a/b")}
+_LINK = re.compile(r"/to((?:-[abc])+)(?=/|\Z)")
+
+
 def plain(path: str) -> str:
-    """A path of a policy without doubled slashes, `.` and `..`."""
-    return posixpath.normpath("/" + path.lstrip("/"))
+    """A path of a policy without links, doubled slashes, `.` and `..`."""
+    followed = _LINK.sub(lambda link: link[1].replace("-", "/"), "/" + path.lstrip("/"))
+    return posixpath.normpath(followed)
 
 
 def _roundabout(path: str) -> str:
     """The path in other words, which lead to it if its directory is one."""
     directory, name = posixpath.split(path)
-    return f"/.{directory}//../{posixpath.basename(directory)}/{name}" if directory != ROOT else f"/..//./{name}"
+    return f"/.{directory}//../{posixpath.basename(directory)}/{name}" if directory != ROOT else f"/.//./{name}"
 
 
 @dataclass(frozen=True)
@@ -45,6 +53,15 @@ class Rule:
 
     words: tuple[str, ...]
     on: tuple[str | int, ...]
+    of_group: bool = False
+
+
+#: Groups of rules, as the files of groups have them: their rights count as groups of rights do.
+GROUPS = {
+    "one": (Rule(("read",), ("/to-a/b", "/c"), True), Rule(("read_file", "write_file"), ("/b",), True)),
+    "two": (Rule(("all",), ("/to-b-c/../a", "/a"), True),),
+}
+SCOPES = ("abstract_unix_socket", "signal")
 
 
 @dataclass(frozen=True)
@@ -55,32 +72,45 @@ class Layer:
     net: tuple[str, ...]
     paths: tuple[Rule, ...] = ()
     ports: tuple[Rule, ...] = ()
+    scoped: tuple[str, ...] = ()
+    include: tuple[str, ...] = ()
 
     def mended(self) -> Layer:
         """The layer without what a policy may not have: rights that it does not handle, and rules without any."""
         fs, net = self.fs, self.net
         if not fs and not net:
             fs = ("make_sym",)
-        return Layer(fs, net, tuple(_mended(self.paths, fs, FS)), tuple(_mended(self.ports, net, NET)))
+        return replace(self, fs=fs, net=net, paths=tuple(_mended(self.paths, fs, FS)),
+                       ports=tuple(_mended(self.ports, net, NET)))
+
+    @property
+    def on_paths(self) -> tuple[Rule, ...]:
+        """The rules on paths, also those of groups that have a right which the layer handles."""
+        handled = meant(self.fs, FS)
+        of_groups = (rule for name in self.include for rule in GROUPS[name] if meant(rule.words, FS) & handled)
+        return (*self.paths, *of_groups)
 
     def toml(self) -> Iterator[str]:
         """The layer's lines in a policy's file."""
         yield "[[layer]]"
-        for key, words in (("fs", self.fs), ("net", self.net)):
+        for key, words in (("handled_access_fs", self.fs), ("handled_access_net", self.net), ("scoped", self.scoped),
+                           ("include", self.include)):
             if words:
-                yield f"handled_access_{key} = {_listed(words)}"
+                yield f"{key} = {_listed(words)}"
         for table, place, rules in (("path_beneath", "parent", self.paths), ("net_port", "port", self.ports)):
             for rule in rules:
                 yield f"[[layer.{table}]]\nallowed_access = {_listed(rule.words)}\n{place} = {_listed(rule.on)}"
 
-    def records(self, kinds: Kinds) -> Iterator[Record]:
-        """The records that a process makes this layer by, on a tree: `rule` says of which rule one is."""
+    def records(self, kinds: Kinds, names: Names | None = None) -> Iterator[Record]:
+        """The records that a process makes this layer by, on a tree: `rule` says of which rule one is.
+
+        `names` has the names in the tree of objects that are elsewhere than a policy says; others are where it says.
+        """
         handled, handled_net = meant(self.fs, FS), meant(self.net, NET)
         yield {"op": "create", "rs": RULESET, "fs": FS.ordered(handled), "net": NET.ordered(handled_net)}
-        for number, rule in enumerate(self.paths, start=1):
-            for on in map(str, rule.on):
-                path = plain(on)
-                rights = granted(rule.words, handled, kinds.get(path))
+        for number, rule in enumerate(self.on_paths, start=1):
+            for on, path in _named(rule, names):
+                rights = granted(rule, handled, kinds.get(path))
                 if path in kinds and rights:
                     of_rule: Record = {"rs": RULESET, "rule": f"path {number}", "on": on}
                     yield {**of_rule, "op": "add_path", "path": path, "fs": FS.ordered(rights)}
@@ -100,10 +130,18 @@ def _mended(rules: Iterable[Rule], handled_words: Iterable[str], family: Family)
             yield Rule(words, rule.on)
 
 
-def granted(words: Sequence[str], handled: Rights, kind: str | None) -> Rights:
+def _named(rule: Rule, names: Names | None) -> Iterator[tuple[str, str]]:
+    """The paths of a rule, each with the names of the object that is there."""
+    for on in map(str, rule.on):
+        path = plain(on)
+        yield from ((on, name) for name in ((path,) if names is None or path == ROOT else names.get(path, ())))
+
+
+def granted(rule: Rule, handled: Rights, kind: str | None) -> Rights:
     """What a rule asks for on an object: a group stands for what the layer handles and, on a file, applies to files."""
-    groups = meant((word for word in words if word in FS.groups), FS) & handled
-    named = frozenset(words) - frozenset(FS.groups)
+    grouped = [word for word in rule.words if word in FS.groups or rule.of_group]
+    groups = meant(grouped, FS) & handled
+    named = frozenset(rule.words) - frozenset(grouped)
     return named | (groups if kind == "dir" else groups & FILE_RIGHTS)
 
 
@@ -112,7 +150,7 @@ def _is_taken(rule: Rule, layer: Layer, kind: str | None, abi: int = NEWEST_ABI)
     handled = meant(layer.fs, FS) & FS.known(abi)
     if kind in ("dir", None) or not meant(rule.words, FS) & handled:
         return True
-    rights = granted(rule.words, handled, kind) & handled
+    rights = granted(rule, handled, kind) & handled
     return bool(rights) and rights <= FILE_RIGHTS
 
 
@@ -130,12 +168,28 @@ class Policy:
         """The policy's file."""
         return "\n".join(line for layer in self.layers for line in layer.toml()) + "\n"
 
-    def records(self, kinds: Kinds) -> list[Record]:
+    def records(self, kinds: Kinds, names: Names | None = None) -> list[Record]:
         """The records by which a process confines itself, without its pid: `layer` says of which layer one is."""
         made: list[Record] = [{"op": "nnp"}]
         for number, layer in enumerate(self.layers, start=1):
-            made += [{**record, "layer": number} for record in layer.records(kinds)]
+            made += [{**record, "layer": number} for record in layer.records(kinds, names)]
         return made
+
+    @property
+    def directories(self) -> set[str]:
+        """The paths that must be directories, since the kernel refuses a rule on a file there."""
+        return {plain(str(path)) for layer in self.layers for rule in layer.on_paths for path in rule.on
+                if not _is_taken(rule, layer, "reg")}
+
+    @property
+    def scoped(self) -> set[str]:
+        """The scopes that some layer has."""
+        return {scope for layer in self.layers for scope in layer.scoped}
+
+    def used(self, abi: int, *, scopes: bool) -> int:
+        """How many layers are in force at an ABI, on a kernel that has scopes or one that does not."""
+        return sum(bool(meant(it.fs, FS) & FS.known(abi) or meant(it.net, NET) & NET.known(abi)
+                        or (scopes and it.scoped)) for it in self.layers)
 
     def taken_on(self, kinds: Kinds) -> Policy:
         """The policy without rules on files that the kernel refuses: those with none of their rights, or others."""
@@ -164,7 +218,7 @@ class Policy:
     @property
     def paths(self) -> set[str]:
         """The paths that it has rules on."""
-        return {plain(str(path)) for layer in self.layers for rule in layer.paths for path in rule.on}
+        return {plain(str(path)) for layer in self.layers for rule in layer.on_paths for path in rule.on}
 
 
 @dataclass(frozen=True)
@@ -172,6 +226,25 @@ class Maker:
     """Makes policies and trees by draws."""
 
     of: random.Random
+
+    def dressed(self, policy: Policy) -> Policy:
+        """The policy with some paths named by way of links, and with some scopes and groups of rules."""
+        layers = []
+        for layer in policy.layers:
+            paths = tuple(replace(rule, on=tuple(self._by_link(str(path)) for path in rule.on)) for rule in layer.paths)
+            scoped = tuple(scope for scope in SCOPES if self.of.random() < 0.15)
+            include = tuple(name for name in GROUPS if self.of.random() < 0.1)
+            layers.append(replace(layer, paths=paths, scoped=scoped, include=include))
+        return Policy(tuple(layers))
+
+    def _by_link(self, path: str) -> str:
+        """A path by way of a link that leads to it or to what is over it, if there is one; seldom by `..` after it."""
+        ways = [link + path[len(to) :] for link, to in LINKS.items() if path == to or path.startswith(to + "/")]
+        for link, to in LINKS.items():
+            over = directory_of(to)
+            if path != ROOT and over != ROOT and path.startswith(over + "/"):
+                ways.append(f"{link}/..{path[len(over) :]}")
+        return self.of.choice(ways) if ways and self.of.random() < 0.25 else path
 
     def policy(self, layers: int, rules: int | None = None) -> Policy:
         """A policy of some layers; `rules` says how many rules it has in all, if there is room for them."""
@@ -270,7 +343,26 @@ class Maker:
         rights = tuple(dict.fromkeys(it for word in words for it in family.ordered(meant([word], family))))
         return tuple(it for it in rights if it != right) if right in rights else (*words, right)
 
-    def tree(self, ruled: Iterable[str]) -> Kinds:
+    def elsewhere(self, ruled: Iterable[str], directories: Collection[str]) -> tuple[Kinds, Names]:
+        """A tree in which objects with rules are elsewhere and in one another, and files have several names."""
+        kinds: Kinds = {ROOT: "dir"}
+        names: Names = {}
+        paths = sorted(set(ruled) - {ROOT})
+        self.of.shuffle(paths)
+        for path in paths:
+            kind = "dir" if path in directories else self.of.choice(("dir", "dir", "dir", *FILES))
+            names[path] = [self._anywhere(kinds, kind) for _ in range(1 if kind == "dir" else self.of.choice((1, 2)))]
+        while len(kinds) < MOST_OBJECTS:
+            self._anywhere(kinds, self.of.choice(("dir", *FILES, "sym")))
+        return kinds, names
+
+    def _anywhere(self, kinds: Kinds, kind: str) -> str:
+        """A new object in one of the directories, and its path."""
+        path = joined(self.of.choice([over for over, of in kinds.items() if of == "dir"]), f"o{len(kinds)}")
+        kinds[path] = kind
+        return path
+
+    def tree(self, ruled: Iterable[str], directories: Collection[str] = ()) -> Kinds:
         """A tree in which most of some paths are directories or files, with more in and beside them.
 
         None of these paths is a symbolic link: a rule on one is on what the link leads to.
@@ -280,7 +372,8 @@ class Maker:
         self.of.shuffle(paths)
         for path in paths:
             if self.of.random() < 0.85:
-                self._put(kinds, path, self.of.choice(("dir", "dir", *FILES)))
+                kind = self.of.choice(("dir", "dir", *FILES))
+                self._put(kinds, path, "dir" if path in directories else kind)
         while len(kinds) < MOST_OBJECTS:
             directory = self.of.choice([path for path, kind in kinds.items() if kind == "dir"])
             path = joined(directory, self.of.choice((*NAMES, "d", "e", "f")))

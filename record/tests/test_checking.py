@@ -110,6 +110,19 @@ class Checking(unittest.TestCase):
         status, lines = self.point('[[allowed]]\ncall = "open w"\npath = "@/work/file"\n')
         self.assertEqual((status, lines[3:5]), (0, ['  "rules":', '    - "layer 1: path_beneath 2 on @/work grants write_file"']))
 
+    def test_a_rule_on_another_name_of_the_same_file(self) -> None:
+        """By a hard link, the rule is on the file under both names."""
+        (self.folder / "closed" / "name").hardlink_to(self.folder / "open" / "file")
+        policy = POLICY.replace('"@/open"', '"@/open/file"').replace('["read"]', '["read_file"]')
+        status, lines = self.point('[[refused]]\ncall = "open r"\npath = "@/closed/name"\n', policy)
+        self.assertEqual((status, lines[2]), (1, '  abi 1-5: "allowed"'))
+
+    def test_a_path_that_leads_nowhere(self) -> None:
+        policy = POLICY.replace('"@/open"', '"@/none/../open"')
+        status, lines, errors = self.checked('[[refused]]\ncall = "open r"\npath = "@/open/file"\n', policy)
+        self.assertEqual(status, 0, lines)
+        self.assertIn("parent @/none/../open: no rule, since @/none is no directory on this machine", errors)
+
     def test_abis_that_differ(self) -> None:
         self.assertEqual(
             self.point('[[refused]]\ncall = "truncate"\npath = "@/work/file"\nabi = "2-5"\n'),

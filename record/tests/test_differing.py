@@ -93,9 +93,45 @@ class Differing(unittest.TestCase):
         self.assertRegex(lines[0], r"\Ano call differs: \d+ calls tried under each, at ABI 1-5\Z")
 
     def test_a_policy_in_other_words(self) -> None:
-        """Rules that are split, written twice, or beneath one that grants as much; a layer that is there twice."""
-        other = OLD + '[[layer.path_beneath]]\nallowed_access = ["read_dir"]\nparent = ["/srv/x", "/srv"]\n'
+        """Rules that are split or written twice; a layer that is there twice."""
+        other = OLD + '[[layer.path_beneath]]\nallowed_access = ["read_dir"]\nparent = "/srv"\n'
         self.assertEqual(self.said(OLD, other + OLD)[0], 0)
+
+    def test_a_rule_beneath_one_that_grants_as_much(self) -> None:
+        """Its object may be moved from there, and have another name elsewhere; without the rule nothing passes."""
+        other = OLD + '[[layer.path_beneath]]\nallowed_access = ["read_dir"]\nparent = ["/srv/x", "/srv"]\n'
+        status, lines, _ = self.said(OLD, other)
+        line = "  read_dir by the rule on /srv/x, wherever that is moved or linked (refused by layer 1)"
+        self.assertEqual((status, lines[:2]), (1, ["new lets pass what old refuses:", line]))
+        self.assertEqual(lines[2], "old lets nothing pass that new refuses")
+        self.assertEqual(self.said(other, OLD)[0], 0)
+        # A layer that stays as it is refuses what the old one does, wherever the object is.
+        self.assertEqual(self.said(OLD, OLD + other)[0], 0)
+        file = OLD + '[[layer.path_beneath]]\nallowed_access = ["read_file"]\nparent = "/data/in/f"\n'
+        status, lines, _ = self.said(OLD, file, "--abi", "5")
+        line = "  read_file by the rule on /data/in/f, wherever that is moved or linked (refused by layer 1)"
+        self.assertEqual((status, lines[1]), (1, line))
+
+    def test_rules_of_two_layers_on_objects_that_may_be_in_one_another(self) -> None:
+        layer = '[[layer]]\nhandled_access_fs = ["read_file"]\n[[layer.path_beneath]]\nallowed_access = ["read_file"]\n'
+        old, new = layer + 'parent = "/a"\n', layer + 'parent = ["/a", "/x"]\n' + layer + 'parent = ["/a", "/y"]\n'
+        status, lines, _ = self.said(old, new)
+        line = "  read_file by the rules on /x, /y, if these are moved or linked into one another (refused by layer 1)"
+        self.assertEqual((status, lines[:2]), (1, ["new lets pass what old refuses:", line]))
+
+    def test_a_path_is_not_moved_under_itself(self) -> None:
+        """Nor is it a file that something is under; and each move that is named can be made."""
+        old = '[[layer]]\nhandled_access_fs = ["refer", "make_reg", "make_dir", "remove_file", "remove_dir"]\n'
+        rule = '[[layer.path_beneath]]\nallowed_access = ["refer", "make_reg", "make_dir"]\n'
+        rule += 'parent = ["/", "/f", "/f/g"]\n'
+        _, lines, _ = self.said(old, old + rule, "--abi", "5")
+        moves = [line for line in lines if line.startswith("  moves")]
+        self.assertTrue(moves)
+        for line in moves:
+            sources, _, targets = line.partition(" to under ")
+            for path in ("/f/g", "/f"):
+                if f"{path} as a file" in sources or f"{path} itself" in sources:
+                    self.assertNotIn(f"under {path}", f"under {targets}".replace(f"but for {path}", ""), line)
 
     def test_rights_by_region_ports_and_moves(self) -> None:
         port = '[[layer.net_port]]\nallowed_access = ["connect_tcp"]\nport = 443\n'
@@ -105,7 +141,7 @@ class Differing(unittest.TestCase):
         self.assertEqual(status, 1)
         self.assertEqual(lines[0], "new lets pass what old refuses:")
         self.assertEqual(
-            set(lines[1:-2]),
+            set(lines[1 : lines.index("old lets pass what new refuses:")]),
             {
                 "  execute under /data/in",
                 "  read_file, read_dir under /data, but for /data/in, /data/out, /data/shared",
@@ -113,7 +149,9 @@ class Differing(unittest.TestCase):
                 "  moves of objects of every kind from under /data/in to under /data/out",
             },
         )
-        self.assertEqual(lines[-2], "old lets nothing pass that new refuses")
+        # The rule on /data/shared stays with its object, also where that is moved out of /data.
+        moved = "  read_file, read_dir by the rule on /data/shared, wherever that is moved or linked (refused by layer 1)"
+        self.assertIn(moved, lines[lines.index("old lets pass what new refuses:") :])
 
     def test_ports_on_which_the_same_is_granted_are_named_together(self) -> None:
         """By several rules or by one, and each of a group of ports, although one of them is asked about."""
@@ -161,10 +199,13 @@ class Differing(unittest.TestCase):
         self.assertEqual((status, lines[1]), (1, "  truncate under / (at ABI 3-5)"))
 
     def test_a_right_of_directories_that_a_file_can_t_have(self) -> None:
-        """By its name such a right makes the kernel refuse the whole rule on a file; by a group it doesn't."""
-        rule = '[[layer]]\nhandled_access_fs = ["read"]\n[[layer.path_beneath]]\nparent = "/x"\nallowed_access = '
-        status, lines, _ = self.said(rule + '["read_file", "read_dir"]', rule + '["read"]')
-        self.assertEqual((status, lines[1]), (1, "  read_file on /x as a file"))
+        """By its name such a right makes the kernel refuse the whole rule on a file: no program runs under the policy."""
+        rule = '[[layer]]\nhandled_access_fs = ["read", "refer"]\n[[layer.path_beneath]]\nparent = "/x"\nallowed_access = '
+        self.assertEqual(self.said(rule + '["read_file", "read_dir"]', rule + '["read"]')[0], 0)
+        # ABI 1 does not know refer, and so leaves a rule that a file can have.
+        status, lines, _ = self.said(rule + '["refer"]', rule + '["read_file", "refer"]')
+        self.assertEqual((status, lines[1:3]), (1, [
+            "  read_file on /x as a file (at ABI 1)", "  read_file under /x, but for /x as a file"]))
 
     def linked(self, parent: str, layers: str = "") -> str:
         """A policy with a rule on a path in the folder."""
@@ -207,6 +248,15 @@ class Differing(unittest.TestCase):
         status, lines, errors = self.said(on_target + base.replace('include = "base"\n', ""), on_target + base)
         self.assertEqual((status, lines[1]), (1, f"  read_file under {Path('/lib').resolve()}"))
         self.assertIn("new: paths of groups are compared as what they lead to on this machine: ", errors)
+
+    def test_two_names_of_one_file(self) -> None:
+        """Each of two layers has a rule on one name of a file by a hard link, so that both let it be read."""
+        (self.folder / "f").touch()
+        (self.folder / "g").hardlink_to(self.folder / "f")
+        old = '[[layer]]\nhandled_access_fs = ["read"]\n'
+        status, lines, _ = self.said(old, self.linked("f", self.linked("g")))
+        self.assertEqual(status, 1)
+        self.assertTrue(any("read_file on f as a file" in line or "under f" in line for line in lines), lines)
 
     def test_a_path_that_leads_nowhere_here(self) -> None:
         (self.folder / "file").touch()
@@ -268,8 +318,9 @@ class Differing(unittest.TestCase):
 
     def test_random_policies_by_random_calls(self) -> None:
         calls = differ = 0
+        ground = self.enterContext(brute.Ground.made())
         for seed in (12, 13, 20, 21, 25):
-            tried = brute.compared(BUILT, seed, 80)
+            tried = brute.compared(BUILT, seed, 80, ground)
             self.assertEqual(tried.faults, [])
             calls, differ = calls + tried.calls, differ + tried.differ
         self.assertGreater(calls, 300)

@@ -1,4 +1,4 @@
-"""Where paths lead: on this disk as the running kernel opens them, and in recordings by what they kept and what is here."""
+"""Where paths lead: on this disk as the running kernel opens them, and in recordings by what they kept."""
 
 from __future__ import annotations
 
@@ -84,7 +84,8 @@ class AsTheKernel(unittest.TestCase):
         return opened(path) if opened(path) in (errno.ENOENT, errno.ENOTDIR) else errno.EINVAL
 
     def test_what_differs_from_process_to_process_is_not_known(self) -> None:
-        for path in ("/proc/self", "/proc/thread-self", f"/proc/{os.getpid()}/exe", "/proc/1/fd/0", "/proc/1/task/1/cwd"):
+        own = f"/proc/{os.getpid()}/exe"
+        for path in ("/proc/self", "/proc/thread-self", own, "/proc/1/fd/0", "/proc/1/task/1/cwd"):
             self.assertEqual(walked(path, DISK).unknown, path)
         self.assertIsNone(walked(f"/proc/{os.getpid()}", DISK).unknown)
 

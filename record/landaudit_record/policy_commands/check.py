@@ -45,8 +45,8 @@ def add_arguments(parser: argparse.ArgumentParser) -> None:
 def run(arguments: argparse.Namespace) -> int:
     """Prints a line of TAP for each case with the reasons, or all cases as JSON; the status is 1 if any fails."""
     program = landaudit.find(arguments.landaudit)
-    policy = _on_objects(policies.read(arguments.policy))
     given = cases.read(arguments.cases)
+    policy = resolving.under_all_names(_on_objects(policies.read(arguments.policy)), given.tree.kinds)
     outcomes = list(_outcomes(program, policy, given))
     if arguments.json:
         print(json.dumps(_data(arguments, outcomes), indent=2))
