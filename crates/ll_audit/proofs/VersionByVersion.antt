@@ -1,21 +1,15 @@
 -- An audit from version to version, the newest first.
-use Rattle.std.proofs.Common.{◌≡◌, ◌∙◌, ℕ, zero, suc, ◌<◌, ◌≤◌, Bool, true, false, not, ◌&&◌, leb, leb-true, List, [], ◌∷◌, cond, drop, get_or, length, map}
+use Rattle.std.proofs.Common.{◌≡◌, ◌∙◌, ℕ, zero, suc, ◌<◌, ◌≤◌, Bool, true, false, ◌&&◌, leb, leb-true, List, [], ◌∷◌, cond, drop, get_or, length, map}
 use Rattle.std.proofs.Common.{refl, sym, subst, ap, ap₂, arith, ◌-◌}
-use Rattle.std.specs.Prelude.{codes, filter, if◌then◌else◌}
+use Rattle.std.specs.Prelude.{filter, if◌then◌else◌}
 use Rattle.ll_rights.specs.declared.abi.Abi.{Abi}
 use Rattle.ll_rights.specs.Abis.{all_versions, number_of}
-use Rattle.ll_rights.specs.NetRights as network
-use Rattle.ll_rights.specs.Rights as files
-use Rattle.ll_rights.specs.Supported.{supported_fs, supported_net}
 use Rattle.ll_tree.specs.Trees.{Entry}
-use Rattle.ll_trace.specs.declared.op.Op.{Op}
-use Rattle.ll_trace.specs.declared.op.Op.TheVariants as calls
-use Rattle.ll_trace.specs.declared.op.RuleType.TheVariants.{PathBeneath, NetPort}
 use Rattle.ll_trace.specs.declared.op.Record.{Record}
-use Rattle.ll_trace.specs.BestEffort.{at_best_effort, records_at_best_effort}
+use Rattle.ll_trace.specs.BestEffort.{records_at_best_effort}
+use Rattle.ll_trace.proofs.BestEffort.{op_name-kept}
 use Rattle.ll_trace.proofs.Versions.{records-older}
 use Rattle.ll_json.specs.Records.{about}
-use Rattle.ll_trace.specs.Operations.{op_name}
 use Rattle.ll_report.specs.Report.{record_text}
 use Rattle.ll_report.specs.Rows.{told_of}
 use Rattle.ll_trace.specs.declared.trace.Effort.{Effort}
@@ -35,23 +29,6 @@ use Rattle.ll_rights.proofs.AbiRanges.{few_versions}
 use Rattle.std.proofs.Math.Seq.{drop-cons}
 
 -- ---- best effort keeps what the report tells of a record
-
-either : (b : Bool) (x y : Op) (name : List ℕ) → op_name x ≡ name → op_name y ≡ name → op_name (if b then x else y) ≡ name
-either true x y name first second = first
-either false x y name first second = second
-
-op_name-kept : (abi : Abi) (op : Op) → op_name (at_best_effort abi op) ≡ op_name op
-unfolding at_best_effort op_name
-op_name-kept abi (calls.Create rs fs net) =
-    either (files.is_empty (supported_fs abi fs) && network.is_empty (supported_net abi net) && not (files.is_empty fs && network.is_empty net))
-    (calls.CreateEmpty rs) (calls.Create rs (supported_fs abi fs) (supported_net abi net)) (codes "create") refl refl
-op_name-kept abi (calls.AddPath rs path fs) =
-    either (files.is_empty (supported_fs abi fs) && not (files.is_empty fs)) (calls.LeaveOut PathBeneath) (calls.AddPath rs path (supported_fs abi fs))
-    (codes "add_path") refl refl
-op_name-kept abi (calls.AddPort rs port net) =
-    either (network.is_empty (supported_net abi net) && not (network.is_empty net)) (calls.LeaveOut NetPort) (calls.AddPort rs port (supported_net abi net))
-    (codes "add_port") refl refl
-op_name-kept abi op = refl
 
 about-at_best_effort : (abi : Abi) (records : List Record) → map about (records_at_best_effort abi records) ≡ map about records
 about-at_best_effort abi [] = refl

@@ -53,10 +53,11 @@ module _ (tree : List Entry) (abi : Abi) (records later : List Record) (finding 
   told_is index r answer read answered tells =
       let layers = (origins_at tree abi records index r.process.0).layers in
       let e : Explanation = tells.0 in
-      let is : IsExplanationOf tree abi records index answer r e = tells.2 in
-      ap (said_text tree later) tells.1 ∙ said_is tree later r.op e ∙ value_is tree later layers r.op e is.made
-      ∙ text_later later records are layers (explanation_in tree r.op e)
-      ∙ ap (explanation_text records layers) is.means
+      let op : Op = tells.1 in
+      let is : IsExplanationOf tree abi records index answer r e = tells.4 in
+      ap (said_text tree later) tells.2 ∙ said_is tree later op e ∙ value_is tree later layers op e is.made
+      ∙ text_later later records are layers (explanation_in tree op e)
+      ∙ ap (explanation_text records layers) (tells.3 ∙ is.means)
       ∙ sym (ap₂ (text_of_both tree abi records index) read answered)
 
   none_there : (index : ℕ) → length records ≡ length later → slice_get records index ≡ None → slice_get later index ≡ None

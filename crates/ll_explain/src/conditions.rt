@@ -3,7 +3,8 @@
 ghost use Rattle.std.specs.Prelude.{◌≡◌, ◌++◌, codes, decimal};
 ghost use Rattle.json.specs.Print.{escape};
 ghost use Rattle.ll_rights.specs.Abis.{number_of};
-ghost use Rattle.ll_explanations.specs.Meanings.{condition_in, path_of_rule, port_rights_in, rights_in};
+ghost use Rattle.ll_explanations.specs.Meanings.{condition_in, port_rights_in, rights_in};
+ghost use Rattle.ll_reasons.specs.{Meant.text_named, declared.why.Which.TheVariants.First};
 ghost use Rattle.ll_explain.specs.Buffers.{adding};
 ghost use Rattle.ll_explain.specs.Words.{condition_text, port_rights_text, rights_text, unknown_text};
 
@@ -11,6 +12,7 @@ use crate::buffer::TextBuffer;
 use crate::rights::{push_port_rights, push_rights};
 use crate::words::{push_escaped, push_numbered, push_words};
 use ll_explanations::Condition;
+use ll_reasons::{Which, text_of};
 use ll_rights::{Abi, Fs, Net};
 use ll_trace::Op;
 
@@ -59,21 +61,17 @@ fn push_unhandled_on_ports(text: &mut TextBuffer, rights: Net)
     push_port_rights(text, rights);
 }
 
-/// Adds the path of the call, if it adds a rule for one.
-#[tactic(auto, using(crate::proofs::Buffering::adding_nothing))]
+/// Adds the path of a call that adds a rule for one.
 fn push_path_of_rule(text: &mut TextBuffer, op: &Op)
-    ensures { text.new ≡ adding text.old (escape (path_of_rule op.now)) }
+    ensures { text.new ≡ adding text.old (escape (text_named op.now First)) }
 {
-    match op {
-        Op::AddPath { path, .. } => push_escaped(text, path.as_str()),
-        _ => {}
-    }
+    push_escaped(text, text_of(op, Which::First))
 }
 
-/// Adds the path of the call, if it adds a rule for one, what is said of it, and rights for files.
+/// Adds the path of a call that adds a rule for one, what is said of it, and rights for files.
 #[tactic(auto, using(crate::proofs::Appending::appended_3))]
 fn push_said_of_rule(text: &mut TextBuffer, op: &Op, said: &str, rights: Fs)
-    ensures { text.new ≡ adding text.old (escape (path_of_rule op.now) ++ said.now
+    ensures { text.new ≡ adding text.old (escape (text_named op.now First) ++ said.now
         ++ rights_text (rights_in rights)) }
 {
     push_path_of_rule(text, op);

@@ -10,10 +10,10 @@ use Rattle.ll_rights.specs.declared.fs.Fs.{Fs}
 use Rattle.ll_rights.specs.declared.net.Net.{Net}
 use Rattle.ll_tree.specs.Trees.{Entry, path_at}
 use Rattle.ll_trace.specs.declared.op.Op.{Op}
-use Rattle.ll_trace.specs.declared.op.Op.TheVariants as calls
 use Rattle.ll_reasons.specs.Objections as meant
 use Rattle.ll_reasons.specs.Conditions as conditions
-use Rattle.ll_reasons.specs.Meant.{reason_in}
+use Rattle.ll_reasons.specs.Meant.{reason_in, text_named}
+use Rattle.ll_reasons.specs.declared.why.Which.TheVariants.{First}
 use Rattle.ll_reasons.specs.Explanations as explanations
 use Rattle.ll_explanations.specs.declared.objection.Objection.{Objection}
 use Rattle.ll_explanations.specs.declared.objection.Objection.TheVariants.{Missing, Closed, Gained, Mounting, Kept}
@@ -58,10 +58,6 @@ by_layer tree (one ∷ more) = in_front one.layer (objection_in tree one.objecti
 
 -- ---- conditions, which may name the path of the call
 
-abbrev pub path_of_rule : Op → List ℕ
-path_of_rule (calls.AddPath rs path fs) = path
-path_of_rule op = []
-
 unfoldable pub condition_in : Op → Condition → conditions.Condition
 condition_in op (Unknown abi rights) = conditions.unknown abi (rights_in rights)
 condition_in op (Portless abi) = conditions.portless abi
@@ -69,7 +65,7 @@ condition_in op Rightless = conditions.rightless
 condition_in op (Unheld rs) = conditions.unheld rs
 condition_in op (Unhandled rights) = conditions.unhandled (rights_in rights)
 condition_in op (UnhandledOnPorts rights) = conditions.unhandled_on_ports (port_rights_in rights)
-condition_in op (OnlyForDirectories rights) = conditions.only_for_directories (rights_in rights) (path_of_rule op)
+condition_in op (OnlyForDirectories rights) = conditions.only_for_directories (rights_in rights) (text_named op First)
 condition_in op (NoPort port) = conditions.no_port port
 condition_in op Unprivileged = conditions.unprivileged
 condition_in op Full = conditions.full
@@ -78,7 +74,7 @@ condition_in op Other = conditions.other
 -- All that unfolds when a condition is told.
 unfoldable pub failing : Unit {0}
 unfolding
-    condition_in Rattle.ll_reasons.specs.Conditions.condition Rattle.ll_reasons.specs.Conditions.of_create
+    condition_in Rattle.ll_reasons.specs.Meant.text_named Rattle.ll_trace.specs.Operations.paths_of Rattle.ll_reasons.specs.Conditions.condition Rattle.ll_reasons.specs.Conditions.of_create
     Rattle.ll_reasons.specs.Conditions.of_add_path Rattle.ll_reasons.specs.Conditions.of_add_port Rattle.ll_reasons.specs.Conditions.of_restrict
 failing = tt
 

@@ -10,7 +10,8 @@ ghost use Rattle.ll_reasons.specs.Conditions as conditions;
 ghost use Rattle.ll_reasons.specs.Conditions.{handled, handled_on_ports};
 ghost use Rattle.ll_reasons.specs.Origins.{Origins};
 ghost use Rattle.ll_trails.specs.TraceOrigins.{Follows};
-ghost use Rattle.ll_explanations.specs.Meanings.{condition_in, path_of_rule};
+ghost use Rattle.ll_explanations.specs.Meanings.{condition_in};
+ghost use Rattle.ll_reasons.specs.{Meant.text_named, declared.why.Which.TheVariants.First};
 
 use crate::missing::{Test, passing};
 use ll_process::CaseView;
@@ -105,7 +106,7 @@ fn handled(case: &CaseView<'_>, trail: &ProcessOrigins, rs: u64) -> (Fs, Net)
 #[tactic(auto, unfolding(crate::specs::Meanings::condition_in))]
 fn invalid_on_path(fs: Fs, whole: Fs) -> Condition
     ensures { (op : Op)
-        → condition_in op result ≡ conditions.invalid_on_path (path_of_rule op) fs whole }
+        → condition_in op result ≡ conditions.invalid_on_path (text_named op First) fs whole }
 {
     let unhandled = beyond(fs, whole);
     if unhandled.is_empty() {

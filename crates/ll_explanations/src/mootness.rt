@@ -12,7 +12,7 @@ ghost use Rattle.ll_trails.specs.TraceOrigins.{Follows, opened};
 
 use ll_reasons::{Reason, no_object, unlinked, unmet, unrenamed};
 use ll_semantics::wanted;
-use ll_trace::Op;
+use ll_trace::{Op, wants_at_a_path};
 use ll_trails::ProcessOrigins;
 use ll_tree::{Place, Tree};
 
@@ -77,7 +77,7 @@ pub(crate) fn reason_of(
 {
     match op {
         Op::Create { rs, .. } | Op::CreateEmpty { rs } => Some(Reason::HeldAlready(*rs)),
-        Op::LeaveOut { .. } => Some(Reason::Unsupported),
+        Op::LeaveOutPath { .. } | Op::LeaveOutPort => Some(Reason::Unsupported),
         Op::Restrict { .. } => Some(Reason::Unenforced),
         Op::CloseRs { rs } => Some(Reason::Unheld(*rs)),
         Op::OpenFile { fd, .. } => Some(not_opened(tree, trail, op, *fd, known)),
@@ -87,6 +87,14 @@ pub(crate) fn reason_of(
         Op::AddPath { .. } => Some(no_object(tree, op, None)),
         Op::Rename { exchange, .. } => Some(unrenamed(tree, op, *exchange, known)),
         Op::Link { .. } => Some(unlinked(tree, op, known)),
-        _ => reason_at_path(tree, op, known),
+        wants_at_a_path!()
+        | Op::AddPort { .. }
+        | Op::Start { .. }
+        | Op::Fork { .. }
+        | Op::Exit
+        | Op::Nnp
+        | Op::Mount
+        | Op::Bind { .. }
+        | Op::Connect { .. } => reason_at_path(tree, op, known),
     }
 }

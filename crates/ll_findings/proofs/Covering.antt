@@ -18,7 +18,7 @@ use Rattle.ll_findings.specs.Findings.{ChangesValue, FindingValue, Finds, IsAbou
 use Rattle.ll_findings.specs.Findings.{answer_in, answer_over, both_changed, changed_once, kept_at, kept_over, with_changes}
 use Rattle.ll_findings.specs.Overlays.{Rise, change_at, overlay, where_in}
 use Rattle.ll_findings.specs.Stretches.{AreStretches, Covers, IsCompared, IsCovered}
-use Rattle.ll_findings.specs.declared.explained.Explained.{Explained}
+use Rattle.ll_explanations.specs.declared.explanation.Explanation.{Explanation}
 use Rattle.ll_findings.specs.declared.stretch.Stretch.{Stretch}
 use Rattle.ll_findings.proofs.Overlaying.{as_many, overlaid_at}
 use Rattle.ll_findings.proofs.Rising.{none_from, rises_on, skipped}
@@ -94,7 +94,7 @@ module _ (case : CaseValue) (base : FindingValue) where
   })
 
   -- one record, of which the base has the same
-  same_covers : (index : ℕ) (answer : Answer) (kept : Option Explained) → IsFoundAt base index answer kept
+  same_covers : (index : ℕ) (answer : Answer) (kept : Option Explanation) → IsFoundAt base index answer kept
       → slice_get (judged case.tree case.abi case.records) index ≡ Some answer → IsKept case.tree case.abi case.records index answer kept
       → Covers case base index (index + 1) (record { indices = []; found = record { answers = []; explanations = [] } })
   unfolding Rise where_in
@@ -118,7 +118,7 @@ module _ (case : CaseValue) (base : FindingValue) where
       }
 
   -- one record, of which something else may be found
-  once_covers : (index : ℕ) (answer : Answer) (kept : Option Explained) → slice_get (judged case.tree case.abi case.records) index ≡ Some answer
+  once_covers : (index : ℕ) (answer : Answer) (kept : Option Explanation) → slice_get (judged case.tree case.abi case.records) index ≡ Some answer
       → IsKept case.tree case.abi case.records index answer kept → Covers case base index (index + 1) (changed_once index answer kept)
   unfolding Rise
   once_covers index answer kept answered is =
@@ -169,7 +169,7 @@ module _ (case : CaseValue) (base : FindingValue) where
     ];
   }
 
-  nothing_more : (xs : List ℕ) (answers : List Answer) (kept : List (Option Explained))
+  nothing_more : (xs : List ℕ) (answers : List Answer) (kept : List (Option Explanation))
       → both_changed (record { indices = xs; found = record { answers = answers; explanations = kept } })
       (record { indices = []; found = record { answers = []; explanations = [] } })
       ≡ record { indices = xs; found = record { answers = answers; explanations = kept } }
@@ -178,7 +178,7 @@ module _ (case : CaseValue) (base : FindingValue) where
       ∙ ap₂ (λ answers kept. record { indices = xs; found = record { answers = answers; explanations = kept } }) (append-nil answers) (append-nil kept)
 
   -- one record more is noted
-  pub covers_more : (from index : ℕ) (before after : ChangesValue) (answer other : Answer) (kept : Option Explained)
+  pub covers_more : (from index : ℕ) (before after : ChangesValue) (answer other : Answer) (kept : Option Explanation)
       → Covers case base from index before → slice_get (judged case.tree case.abi case.records) index ≡ Some answer
       → slice_get (judged case.tree case.abi case.records) index ≡ Some other
       → IsKept case.tree case.abi case.records index answer kept → Notes base index other kept before after

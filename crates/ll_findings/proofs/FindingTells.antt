@@ -1,35 +1,25 @@
 -- What a finding tells of a record.
 use Rattle.std.proofs.Common.{◌≡◌, ◌∙◌, ◌<◌, ℕ, Bool, true, false, cond, List, [], ◌∷◌, length, Option, Some, None, refl, sym, ap, subst, inl, inr, arith}
 use Rattle.std.specs.Prelude.{slice_get, unwrap_or}
-use Rattle.std.proofs.lemmas.Bool.{cases_Bool}
 use Rattle.std.proofs.lemmas.Option.{slice_get_cases, slice_get_within}
 use Rattle.ll_rights.specs.declared.abi.Abi.{Abi}
 use Rattle.ll_tree.specs.Trees.{Entry}
-use Rattle.ll_trace.specs.declared.op.Op.{Op}
 use Rattle.ll_trace.specs.declared.op.Record.{Record}
-use Rattle.ll_trace.specs.BestEffort.{names_rights}
 use Rattle.ll_semantics.specs.declared.answer.Answer.{Answer}
 use Rattle.ll_semantics.specs.Worlds.{judged}
 use Rattle.ll_findings.specs.Findings.{FindingValue, Finds, Tells, kept_at, said_by, said_in}
-use Rattle.ll_findings.specs.Kept.{call_kept, if_said, kept_of}
+use Rattle.ll_findings.specs.Kept.{if_said, kept_of}
 use Rattle.ll_explanations.specs.Explained.{is_silent}
-use Rattle.ll_process.specs.TakenLater.{AreTakenLater, IsTakenLater}
-use Rattle.ll_findings.specs.declared.explained.Explained.{Explained}
+use Rattle.ll_process.specs.TakenLater.{AreTakenLater}
 use Rattle.ll_explanations.specs.declared.explanation.Explanation.{Explanation}
 use Rattle.ll_process.proofs.TakenLater.{later_there}
+use Rattle.ll_findings.proofs.SamePaths.{explanation_same}
 
--- the call that was kept, or that of the record as it is taken later, is the record's
-call_is : (l r : Record) → IsTakenLater l r → unwrap_or (call_kept r.op) l.op ≡ r.op
-call_is l r taken = elim (cases_Bool (names_rights r.op)) [
-  | inl names ↦ rw names refl
-  | inr none ↦ rw none (taken.same none)
-]
-
-kept_is_said : (l r : Record) → IsTakenLater l r → (e : Explanation) → said_by (Some l) (kept_of r.op e) ≡ if_said e (r.op, e)
-kept_is_said l r taken e = go (is_silent e) where
-  go : (silent : Bool) → said_by (Some l) (cond silent None (Some (record { explanation = e; call = call_kept r.op }))) ≡ cond silent None (Some (r.op, e))
+kept_is_said : (l : Record) (e : Explanation) → said_by (Some l) (kept_of e) ≡ if_said e (l.op, e)
+kept_is_said l e = go (is_silent e) where
+  go : (silent : Bool) → said_by (Some l) (cond silent None (Some e)) ≡ cond silent None (Some (l.op, e))
   go true = refl
-  go false = ap (λ (op : Op). Some (op, e)) (call_is l r taken)
+  go false = refl
 
 pub tells : (tree : List Entry) (abi : Abi) (records later : List Record) (finding : FindingValue) → Finds true tree abi records finding
     → AreTakenLater later records → (index : ℕ) (r : Record) (answer : Answer) → slice_get records index ≡ Some r
@@ -41,9 +31,11 @@ tells tree abi records later finding finds are index r answer read answered =
       | inl found ↦
           let kept = finds.each index answer found.0 answered found.2 r read in (
             kept.0,
+            there.0.op,
             ap (λ (o : Option Record). said_by o (kept_at finding index)) there.1
-                ∙ ap (λ (o : Option (Option Explained)). said_by (Some there.0) (unwrap_or o None)) found.2
-                ∙ ap (said_by (Some there.0)) kept.1 ∙ kept_is_said there.0 r there.2 kept.0,
+                ∙ ap (λ (o : Option (Option Explanation)). said_by (Some there.0) (unwrap_or o None)) found.2
+                ∙ ap (said_by (Some there.0)) kept.1 ∙ kept_is_said there.0 kept.0,
+            explanation_same there.0.op r.op there.2.paths tree kept.0,
             kept.2,
           )
       | inr past ↦ absurd (omega (arith, past.0, within))
@@ -53,7 +45,7 @@ nothing_said : (o : Option Record) → said_by o None ≡ None
 nothing_said (Some r) = refl
 nothing_said None = refl
 
-none_kept : (all : List (Option Explained)) (index : ℕ) → length all ≡ 0 → unwrap_or (slice_get all index) None ≡ None
+none_kept : (all : List (Option Explanation)) (index : ℕ) → length all ≡ 0 → unwrap_or (slice_get all index) None ≡ None
 none_kept [] index none = refl
 none_kept (one ∷ more) index none = absurd (omega (arith, none))
 

@@ -10,7 +10,7 @@ use Rattle.ll_semantics.specs.Worlds.{judged}
 use Rattle.ll_semantics.proofs.Steps.{length-judged}
 use Rattle.ll_process.specs.Cases.{CaseValue}
 use Rattle.ll_findings.specs.Findings.{AreKept, IsKept}
-use Rattle.ll_findings.specs.declared.explained.Explained.{Explained}
+use Rattle.ll_explanations.specs.declared.explanation.Explanation.{Explanation}
 
 -- an index among the answers is one among the records
 pub among : (cv : CaseValue) (answers : List Answer) (index : ℕ) → answers ≡ judged cv.tree cv.abi cv.records → index < length answers
@@ -34,8 +34,9 @@ last_or_before (x₀ ∷ xs) x y (suc i) is = elim (last_or_before xs x y i is) 
 ]
 
 module _ (tree : List Entry) (abi : Abi) (records : List Record) where
-  pub one_more_kept : (all : List (Option Explained)) (index : ℕ) (one : Option Explained) (answer : Answer) → length all ≡ index → AreKept tree abi records all
-      → slice_get (judged tree abi records) index ≡ Some answer → IsKept tree abi records index answer one → AreKept tree abi records (all ++ one ∷ [])
+  pub one_more_kept : (all : List (Option Explanation)) (index : ℕ) (one : Option Explanation) (answer : Answer) → length all ≡ index
+      → AreKept tree abi records all → slice_get (judged tree abi records) index ≡ Some answer → IsKept tree abi records index answer one
+      → AreKept tree abi records (all ++ one ∷ [])
   one_more_kept all index one answer many so_far answered is at given kept is_given is_there = elim (last_or_before all one kept at is_there) [
     | inl before ↦ so_far at given kept is_given before
     | inr last ↦

@@ -7,5 +7,6 @@ pub mod KeepingAll
 pub mod Stretching
 pub mod Crossing
 -- what a finding tells, and which records are marked
+mod SamePaths
 pub mod FindingTells
 pub mod Marking

@@ -8,7 +8,7 @@ use Rattle.ll_semantics.specs.declared.answer.Answer.TheVariants.{Moot}
 use Rattle.ll_findings.specs.Alike.{AreAlike, AreMarked, FindsAs, MarksUnless}
 use Rattle.ll_findings.specs.Findings.{FindingValue, answer_in, kept_at, with_changes}
 use Rattle.ll_findings.specs.Overlays.{where_in}
-use Rattle.ll_findings.specs.declared.explained.Explained.{Explained}
+use Rattle.ll_explanations.specs.declared.explanation.Explanation.{Explanation}
 use Rattle.ll_findings.proofs.Overlaying.{as_in_base}
 use Rattle.ll_findings.proofs.Rising.{skipped}
 
@@ -29,7 +29,7 @@ answer_of_base base changes indices index none =
 kept_of_base : (base changes : FindingValue) (indices : List ℕ) (index : ℕ) → where_in index indices ≡ None
     → kept_at (with_changes base indices changes) index ≡ kept_at base index
 kept_of_base base changes indices index none =
-    ap (λ (o : Option (Option Explained)). unwrap_or o None) (as_in_base changes.explanations base.explanations indices index none)
+    ap (λ (o : Option (Option Explanation)). unwrap_or o None) (as_in_base changes.explanations base.explanations indices index none)
 
 -- Two findings are kept as changes to one base, and the indices of the changes of both are marked.
 pub both_marked : (base changes others : FindingValue) (indices newer : List ℕ) (before between now : List Bool)

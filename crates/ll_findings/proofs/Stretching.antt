@@ -11,19 +11,19 @@ use Rattle.ll_semantics.specs.Worlds.{judged}
 use Rattle.ll_process.specs.Cases.{CaseValue}
 use Rattle.ll_findings.specs.Findings.{IsKept}
 use Rattle.ll_findings.specs.Stretches.{AreAllKept, AreFirstKept, AreStretches, Extends, IsExplained}
-use Rattle.ll_findings.specs.declared.explained.Explained.{Explained}
+use Rattle.ll_explanations.specs.declared.explanation.Explanation.{Explanation}
 use Rattle.ll_findings.specs.declared.stretch.Stretch.{Stretch}
 use Rattle.ll_findings.proofs.KeepingAll.{one_more_kept}
 
 -- ---- from an index on
 
-pub extends_none : (case : CaseValue) (from : ℕ) (own : List (Option Explained)) → own ≡ [] → Extends case from from own
+pub extends_none : (case : CaseValue) (from : ℕ) (own : List (Option Explanation)) → own ≡ [] → Extends case from from own
 extends_none case from own none = record {
   as_many = let many : length own ≡ 0 = ap length none in omega (arith, many);
   kept = λ before many kept. subst (AreFirstKept case) (sym (ap (λ xs. before ++ xs) none ∙ append-nil before)) kept;
 }
 
-pub extends_more : (case : CaseValue) (from index : ℕ) (own new : List (Option Explained)) (one : Option Explained) (answer : Answer)
+pub extends_more : (case : CaseValue) (from index : ℕ) (own new : List (Option Explanation)) (one : Option Explanation) (answer : Answer)
     → Extends case from index own → new ≡ own ++ one ∷ [] → slice_get (judged case.tree case.abi case.records) index ≡ Some answer
     → IsKept case.tree case.abi case.records index answer one → Extends case from (index + 1) new
 extends_more case from index own new one answer so_far pushed answered is = record {
@@ -48,15 +48,15 @@ one_stretch_more case from end (first ∷ stretches) stretch are of_case at =
 
 -- what is kept of the explanations of each stretch, or that memory ran out
 abbrev Parts : Type 0
-Parts = List (Result (Vec (Option Explained) Global) NoMemory)
+Parts = List (Result (Vec (Option Explanation) Global) NoMemory)
 
-pub record Joins (case : CaseValue) (end : ℕ) (all : List (Option Explained)) (parts : Parts) : Type 0 where
+pub record Joins (case : CaseValue) (end : ℕ) (all : List (Option Explanation)) (parts : Parts) : Type 0 where
   pub left : List Stretch
   pub explained : AllZip IsExplained left parts
   pub are : AreStretches case (length all) end left
   pub kept : AreFirstKept case all
 
-joins_first : (case : CaseValue) (end : ℕ) (all : List (Option Explained)) (own : Vec (Option Explained) Global) (left : List Stretch)
+joins_first : (case : CaseValue) (end : ℕ) (all : List (Option Explanation)) (own : Vec (Option Explanation) Global) (left : List Stretch)
     (parts : Parts) → AllZip IsExplained left (Ok own ∷ parts) → AreStretches case (length all) end left
     → AreFirstKept case all → Joins case end (all ++ own.items) parts
 joins_first case end all own [] parts explained are kept = absurd explained
@@ -71,7 +71,7 @@ joins_first case end all own (stretch ∷ left) parts explained are kept =
           (more.kept all (sym are.1) (subst (λ cv. AreFirstKept cv all) (sym are.0) kept));
     }
 
-pub joins_more : (case : CaseValue) (end : ℕ) (all new : List (Option Explained)) (own : Vec (Option Explained) Global)
+pub joins_more : (case : CaseValue) (end : ℕ) (all new : List (Option Explanation)) (own : Vec (Option Explanation) Global)
     (parts : Parts) → Joins case end all (Ok own ∷ parts) → new ≡ all ++ own.items → Joins case end new parts
 joins_more case end all new own parts joins added =
     subst (λ xs. Joins case end xs parts) (sym added) (joins_first case end all own joins.left parts joins.explained joins.are joins.kept)
@@ -80,7 +80,7 @@ joins_more case end all new own parts joins added =
 pub none_kept : (case : CaseValue) → AreFirstKept case []
 none_kept case at given kept is_given is = absurd (none-some kept is)
 
-pub joins_none : (case : CaseValue) (end : ℕ) (stretches : List Stretch) (all : List (Option Explained)) (parts : Parts)
+pub joins_none : (case : CaseValue) (end : ℕ) (stretches : List Stretch) (all : List (Option Explanation)) (parts : Parts)
     → all ≡ [] → AllZip IsExplained stretches parts → AreStretches case 0 end stretches → AreFirstKept case [] → Joins case end all parts
 joins_none case end stretches all parts none explained are kept =
     subst (λ xs. Joins case end xs parts) (sym none) (record { left = stretches; explained = explained; are = are; kept = kept })
@@ -89,7 +89,7 @@ no_stretch : (case : CaseValue) (from end : ℕ) (left : List Stretch) → AllZi
 no_stretch case from end [] explained are = are
 no_stretch case from end (stretch ∷ left) explained are = absurd explained
 
-pub joins_all : (case : CaseValue) (end : ℕ) (all : List (Option Explained)) → Joins case end all [] → AreAllKept case end all
+pub joins_all : (case : CaseValue) (end : ℕ) (all : List (Option Explanation)) → Joins case end all [] → AreAllKept case end all
 joins_all case end all joins = record { as_many = no_stretch case (length all) end joins.left joins.explained joins.are; kept = joins.kept }
 
 -- stretches of a whole case

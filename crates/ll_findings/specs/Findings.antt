@@ -11,16 +11,16 @@ use Rattle.ll_semantics.specs.declared.answer.Answer.TheVariants.{Moot}
 use Rattle.ll_semantics.specs.Worlds.{judged}
 use Rattle.ll_process.specs.Cases.{CaseValue}
 use Rattle.ll_explanations.specs.Explained.{IsExplanationOf}
+use Rattle.ll_explanations.specs.Meanings.{explanation_in}
 use Rattle.ll_findings.specs.Kept.{if_said, kept_of}
 use Rattle.ll_findings.specs.Overlays.{change_at, overlay}
 use Rattle.ll_explanations.specs.declared.explanation.Explanation.{Explanation}
-use Rattle.ll_findings.specs.declared.explained.Explained.{Explained}
 
 -- What contracts see of a finding: the answers to all records, and what is kept of the explanation of each, if
 -- explanations are kept.
 pub record FindingValue : Type 0 where
   pub answers : List Answer
-  pub explanations : List (Option Explained)
+  pub explanations : List (Option Explanation)
 
 -- What is found otherwise than in a base: the indices of these records, in rising order, and what is found of each.
 pub record ChangesValue : Type 0 where
@@ -48,18 +48,18 @@ both_changed one other = record {
 }
 
 -- what is found of one record
-abbrev pub found_once : Answer → Option Explained → FindingValue
+abbrev pub found_once : Answer → Option Explanation → FindingValue
 found_once answer kept = record { answers = answer ∷ []; explanations = kept ∷ [] }
 
-abbrev pub changed_once : ℕ → Answer → Option Explained → ChangesValue
+abbrev pub changed_once : ℕ → Answer → Option Explanation → ChangesValue
 changed_once index answer kept = record { indices = index ∷ []; found = found_once answer kept }
 
 -- this is found of the record at an index
-abbrev pub IsFoundAt : FindingValue → ℕ → Answer → Option Explained → Type 0
+abbrev pub IsFoundAt : FindingValue → ℕ → Answer → Option Explanation → Type 0
 IsFoundAt finding index answer kept = (slice_get finding.answers index ≡ Some answer) × (slice_get finding.explanations index ≡ Some kept)
 
 -- what is found of a record is added to the changes, unless the base has the same
-abbrev pub Notes : FindingValue → ℕ → Answer → Option Explained → ChangesValue → ChangesValue → Type 0
+abbrev pub Notes : FindingValue → ℕ → Answer → Option Explanation → ChangesValue → ChangesValue → Type 0
 Notes base index answer kept before after =
     (IsFoundAt base index answer kept × (after ≡ before)) ⊎ (after ≡ both_changed before (changed_once index answer kept))
 
@@ -73,12 +73,12 @@ abbrev pub answer_in : FindingValue → ℕ → Answer
 answer_in finding index = unwrap_or (slice_get finding.answers index) Moot
 
 -- what is kept of the explanation of the record at an index
-abbrev pub kept_at : FindingValue → ℕ → Option Explained
+abbrev pub kept_at : FindingValue → ℕ → Option Explanation
 kept_at finding index = unwrap_or (slice_get finding.explanations index) None
 
--- a call with its explanation: the call that was kept, or that of the record at hand
-abbrev pub said_by : Option Record → Option Explained → Option (Op × Explanation)
-said_by (Some r) (Some kept) = Some (unwrap_or kept.call r.op, kept.explanation)
+-- the call of the record at hand with its explanation
+abbrev pub said_by : Option Record → Option Explanation → Option (Op × Explanation)
+said_by (Some r) (Some e) = Some (r.op, e)
 said_by (Some r) None = None
 said_by None kept = None
 
@@ -86,7 +86,7 @@ said_by None kept = None
 abbrev pub answer_over : FindingValue → ChangesValue → ℕ → Answer
 answer_over base changes index = unwrap_or (change_at index changes.indices changes.found.answers) (answer_in base index)
 
-abbrev pub kept_over : FindingValue → ChangesValue → ℕ → Option Explained
+abbrev pub kept_over : FindingValue → ChangesValue → ℕ → Option Explanation
 kept_over base changes index = unwrap_or (change_at index changes.indices changes.found.explanations) (kept_at base index)
 
 -- the call and the explanation of the record at an index, by the records at hand
@@ -96,14 +96,14 @@ said_in records finding index = said_by (slice_get records index) (kept_at findi
 -- ---- what a finding has to do with a tree, a version and the records of a trace
 
 -- what is kept is the explanation of the record at an index, which is answered so
-abbrev pub IsKept : List Entry → Abi → List Record → ℕ → Answer → Option Explained → Type 0
+abbrev pub IsKept : List Entry → Abi → List Record → ℕ → Answer → Option Explanation → Type 0
 IsKept tree abi records index answer kept =
-    (r : Record) → slice_get records index ≡ Some r → (e : Explanation) × (kept ≡ kept_of r.op e) × IsExplanationOf tree abi records index answer r e
+    (r : Record) → slice_get records index ≡ Some r → (e : Explanation) × (kept ≡ kept_of e) × IsExplanationOf tree abi records index answer r e
 
 -- each of these is
-abbrev pub AreKept : List Entry → Abi → List Record → List (Option Explained) → Type 0
+abbrev pub AreKept : List Entry → Abi → List Record → List (Option Explanation) → Type 0
 AreKept tree abi records all =
-    (index : ℕ) (answer : Answer) (kept : Option Explained) → slice_get (judged tree abi records) index ≡ Some answer → slice_get all index ≡ Some kept
+    (index : ℕ) (answer : Answer) (kept : Option Explanation) → slice_get (judged tree abi records) index ≡ Some answer → slice_get all index ≡ Some kept
     → IsKept tree abi records index answer kept
 
 -- what is found of these records: the answers are those of one fold over all, and each record's explanation is kept, if explanations are kept
@@ -124,6 +124,9 @@ AddsFinding explains case newer all = StandsInFront explains case.tree case.abi 
 abbrev pub judged_in : CaseValue → List Answer
 judged_in case = judged case.tree case.abi case.records
 
--- what is said of the record at an index, which is answered so: its call and its explanation, if there is anything to explain
+-- what is said of the record at an index, which is answered so: a call and its explanation, which means of this call what it
+-- means of the record's, if there is anything to explain
 abbrev pub Tells : List Entry → Abi → List Record → ℕ → Answer → Record → Option (Op × Explanation) → Type 0
-Tells tree abi records index answer r said = (e : Explanation) × (said ≡ if_said e (r.op, e)) × IsExplanationOf tree abi records index answer r e
+Tells tree abi records index answer r said =
+    (e : Explanation) × (op : Op) × (said ≡ if_said e (op, e)) × (explanation_in tree op e ≡ explanation_in tree r.op e)
+    × IsExplanationOf tree abi records index answer r e

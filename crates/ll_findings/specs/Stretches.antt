@@ -8,24 +8,24 @@ use Rattle.ll_rules.specs.declared.errno.NoMemory.{NoMemory}
 use Rattle.ll_semantics.specs.Worlds.{judged}
 use Rattle.ll_findings.specs.Findings.{AreKept, ChangesValue, FindingValue, IsKept, answer_over, kept_over}
 use Rattle.ll_findings.specs.Overlays.{Rise}
-use Rattle.ll_findings.specs.declared.explained.Explained.{Explained}
+use Rattle.ll_explanations.specs.declared.explanation.Explanation.{Explanation}
 use Rattle.ll_findings.specs.declared.stretch.Stretch.{Stretch}
 
 -- the explanations of a case's first records are kept
-abbrev pub AreFirstKept : CaseValue → List (Option Explained) → Type 0
+abbrev pub AreFirstKept : CaseValue → List (Option Explanation) → Type 0
 AreFirstKept case all = AreKept case.tree case.abi case.records all
 
 -- what is kept of the explanations of the records from one index to another: appended to what is kept of all records before
 -- them, it gives what is kept of all records up to the second index
-pub record Extends (case : CaseValue) (from end : ℕ) (own : List (Option Explained)) : Type 0 where
+pub record Extends (case : CaseValue) (from end : ℕ) (own : List (Option Explanation)) : Type 0 where
   pub as_many : length own + from ≡ end
-  pub kept : (before : List (Option Explained)) → length before ≡ from → AreFirstKept case before → AreFirstKept case (before ++ own)
+  pub kept : (before : List (Option Explanation)) → length before ≡ from → AreFirstKept case before → AreFirstKept case (before ++ own)
 
 -- what is kept of the explanations of consecutive records, unless memory ran out
-abbrev pub IsExplainedFrom : CaseValue → ℕ → ℕ → Result (Vec (Option Explained) Global) NoMemory → Type 0
+abbrev pub IsExplainedFrom : CaseValue → ℕ → ℕ → Result (Vec (Option Explanation) Global) NoMemory → Type 0
 IsExplainedFrom case from end result = IfOk result (λ own. Extends case from end own.items)
 
-abbrev pub IsExplained : Stretch → Result (Vec (Option Explained) Global) NoMemory → Type 0
+abbrev pub IsExplained : Stretch → Result (Vec (Option Explanation) Global) NoMemory → Type 0
 IsExplained stretch result = IsExplainedFrom stretch.case.now stretch.from stretch.end result
 
 -- stretches of a case that follow each other, from one index to another
@@ -34,7 +34,7 @@ AreStretches case from end [] = from ≡ end
 AreStretches case from end (stretch ∷ others) = (stretch.case.now ≡ case) × (stretch.from ≡ from) × AreStretches case stretch.end end others
 
 -- what is kept of the explanations of a case's records, where there are so many records
-pub record AreAllKept (case : CaseValue) (count : ℕ) (all : List (Option Explained)) : Type 0 where
+pub record AreAllKept (case : CaseValue) (count : ℕ) (all : List (Option Explanation)) : Type 0 where
   pub as_many : length all ≡ count
   pub kept : AreFirstKept case all
 

@@ -1,45 +1,24 @@
 //! What is kept of the explanations of records, shared among versions that explain a record alike.
 
 ghost use Rattle.std.specs.Prelude.{◌≡◌, Decides, IfOk, None, Some, option_map};
-ghost use Rattle.ll_findings.specs.Kept.{AreOneValue, kept_of};
+ghost use Rattle.ll_findings.specs.Kept.{kept_of};
 
 use ll_explanations::Explanation;
-use ll_trace::Op;
 use std::alloc::{AllocError, Global};
 use std::marker::Model;
 use std::sync::Arc;
 
-/// An explanation, and the call that it explains if this names rights: an older version may take such a call
-/// otherwise.
-#[derive(Drop)]
-pub(crate) struct Explained {
-    pub(crate) explanation: Explanation,
-    pub(crate) call: Option<Op>,
-}
-
-impl Explained {
-    /// Whether another one is the same value, and neither has a call of its own.
-    pub(crate) fn is_like(&self, other: &Explained) -> bool
-        ensures { Decides result (AreOneValue (Some self.now) (Some other.now)) }
-    {
-        match (&self.call, &other.call) {
-            (None, None) => self.explanation.is_same(&other.explanation),
-            _ => false,
-        }
-    }
-}
-
 /// What is kept of the explanation of a record, which like ones share; nothing where there is nothing to explain.
 #[derive(Drop)]
 pub(crate) struct SharedExplanation {
-    explained: Option<Arc<Explained>>,
+    explained: Option<Arc<Explanation>>,
 }
 
 impl Model for SharedExplanation {
     ghost use Rattle.std.specs.Prelude.{Option, option_map};
-    ghost use Rattle.ll_findings.specs.declared.explained.Explained.{Explained as OneExplained};
+    ghost use Rattle.ll_explanations.specs.declared.explanation.Explanation.{Explanation as OneExplanation};
 
-    ghost Value = { Option OneExplained };
+    ghost Value = { Option OneExplanation };
 
     ghost view = { λ shared. option_map (λ one. one.value) shared.explained };
 }
@@ -52,32 +31,29 @@ impl SharedExplanation {
         SharedExplanation { explained: None }
     }
 
-    /// What is kept of an explanation of a call. It shares the memory of what is kept under a newer version, where that
-    /// is like it.
+    /// What is kept of an explanation. It shares the memory of what is kept under a newer version, where that is like
+    /// it.
     pub(crate) fn new(
         alloc: Global,
         explanation: Explanation,
-        op: &Op,
         newer: Option<&SharedExplanation>,
     ) -> Result<SharedExplanation, AllocError>
-        ensures { IfOk result (λ shared. shared ≡ kept_of op.now explanation) }
+        ensures { IfOk result (λ shared. shared ≡ kept_of explanation) }
     {
         if explanation.is_silent() {
             return Ok(SharedExplanation::nothing());
         }
-        let call = op.copy_if_naming_rights(alloc)?;
-        let explained = Explained { explanation, call };
         match newer {
-            Some(newer) if newer.is_like(&explained) => newer.again(),
-            _ => SharedExplanation::alone(alloc, explained),
+            Some(newer) if newer.is_like(&explanation) => newer.again(),
+            _ => SharedExplanation::alone(alloc, explanation),
         }
     }
 
     /// What is kept of an explanation that no other is like.
-    fn alone(alloc: Global, explained: Explained) -> Result<SharedExplanation, AllocError>
-        ensures { IfOk result (λ shared. shared ≡ Some explained) }
+    fn alone(alloc: Global, explanation: Explanation) -> Result<SharedExplanation, AllocError>
+        ensures { IfOk result (λ shared. shared ≡ Some explanation) }
     {
-        let explained = Arc::new(alloc, explained)?;
+        let explained = Arc::new(alloc, explanation)?;
         Ok(SharedExplanation {
             explained: Some(explained),
         })
@@ -94,18 +70,18 @@ impl SharedExplanation {
         Ok(SharedExplanation { explained })
     }
 
-    /// Whether something is kept that is like this.
-    fn is_like(&self, other: &Explained) -> bool
-        ensures { Decides result (AreOneValue self.now (Some other.now)) }
+    /// Whether something is kept that is the same as this.
+    fn is_like(&self, other: &Explanation) -> bool
+        ensures { Decides result (self.now ≡ Some other.now) }
     {
         match self.get() {
-            Some(explained) => explained.is_like(other),
+            Some(explanation) => explanation.is_same(other),
             None => false,
         }
     }
 
     /// What is kept.
-    pub(crate) fn get(&self) -> Option<&Explained>
+    pub(crate) fn get(&self) -> Option<&Explanation>
         ensures { option_map (λ one. one.now) result ≡ self.now }
     {
         match &self.explained {
@@ -114,12 +90,12 @@ impl SharedExplanation {
         }
     }
 
-    /// Whether two are like each other: nothing is kept, or like explanations without a call of their own.
+    /// Whether two are the same: nothing is kept, or the same explanation.
     pub(crate) fn is_same(&self, other: &SharedExplanation) -> bool
-        ensures { Decides result (AreOneValue self.now other.now) }
+        ensures { Decides result (self.now ≡ other.now) }
     {
         match other.get() {
-            Some(explained) => self.is_like(explained),
+            Some(explanation) => self.is_like(explanation),
             None => self.explained.is_none(),
         }
     }

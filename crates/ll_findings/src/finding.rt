@@ -5,12 +5,11 @@ ghost use Rattle.std.specs.Bool.{OnTrue};
 ghost use Rattle.ll_semantics.specs.Worlds.{judged};
 ghost use Rattle.ll_findings.specs.Alike.{FindsAs, MarksUnless};
 ghost use Rattle.ll_findings.specs.Findings.{Finds, answer_in, kept_at, said_in, with_changes};
-ghost use Rattle.ll_findings.specs.Kept.{AreOneValue};
 ghost use Rattle.ll_findings.specs.Overlays.{Rise};
 
 use crate::changes::Changes;
 use crate::comparing::compare_all;
-use crate::explained::{Explained, SharedExplanation};
+use crate::explained::SharedExplanation;
 use crate::found::Found;
 use crate::indices::Indices;
 use crate::marks::{mark_all, mark_differing};
@@ -165,8 +164,8 @@ impl Finding {
     }
 
     /// The explanation that is kept of the record at an index; none if there is nothing to explain.
-    fn explained_at(&self, index: usize) -> Option<&Explained>
-        ensures { option_map (λ explained. explained.now) result ≡ kept_at self.now index }
+    fn explained_at(&self, index: usize) -> Option<&Explanation>
+        ensures { option_map (λ e. e.now) result ≡ kept_at self.now index }
     {
         self.kept(index)?.get()
     }
@@ -182,21 +181,16 @@ impl Finding {
             ≡ said_in records.now self.now index }
     {
         let record = records.get(index)?;
-        let explained = self.explained_at(index)?;
-        let op = match &explained.call {
-            Some(call) => call,
-            None => &record.op,
-        };
-        Some((op, &explained.explanation))
+        let explanation = self.explained_at(index)?;
+        Some((&record.op, explanation))
     }
 
-    /// Whether another finding explains the record at an index by the same value, or neither explains it. Explanations
-    /// of calls that name rights never count as the same.
+    /// Whether another finding explains the record at an index by the same value, or neither explains it.
     pub fn explains_as(&self, other: &Finding, index: usize) -> bool
-        ensures { Decides result (AreOneValue (kept_at self.now index) (kept_at other.now index)) }
+        ensures { Decides result (kept_at self.now index ≡ kept_at other.now index) }
     {
         match (self.explained_at(index), other.explained_at(index)) {
-            (Some(explained), Some(others)) => explained.is_like(others),
+            (Some(explained), Some(others)) => explained.is_same(others),
             (None, None) => true,
             _ => false,
         }

@@ -20,7 +20,6 @@ pub fn records_are_taken_later()
 
 /// A finding tells of each record the explanation that the definitions give, also by the records as an older version
 /// takes them. One that keeps no explanations tells nothing.
-#[tactic(auto, using(crate::proofs::FindingTells::tells, crate::proofs::FindingTells::tells_nothing))]
 pub fn findings_tell_what_is_judged()
     ensures told { (tree : List Entry) (abi : Version) (records later : List OneRecord)
         (finding : FindingValue) → Finds true tree abi records finding → AreTakenLater later records

@@ -47,12 +47,13 @@ pub(crate) fn explain_one(
     ensures few { OnOk result (index < 2 ^ 32) }
 {
     let explanation = explain(alloc, case, trails, index, answer)?;
-    let (op, _) = case.call(index);
+    // A case has few records, as the contract of a call says.
+    let _call = case.call(index);
     let newer = match newer {
         Some(newer) => newer.kept(index),
         None => None,
     };
-    let kept = SharedExplanation::new(alloc, explanation, op, newer)?;
+    let kept = SharedExplanation::new(alloc, explanation, newer)?;
     Ok(kept)
 }
 

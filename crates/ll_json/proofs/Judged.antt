@@ -119,19 +119,19 @@ module _ (tree : List Entry) (version : Version) (index : ℕ) (r : Record) (ans
     layers = (origins_at tree version.abi version.records index r.process.0).layers
 
     -- what is written of a value that may say nothing
-    value_means : (e : Explanation) → AreMade layers e
-        → members_tokens tree later answer (if_said e (r.op, e)) ≡ named_tokens (answer_members version.records layers answer (explanation_in tree r.op e))
-    value_means e made = elim (cases_Bool (is_silent e)) [
-      | inl silent ↦ rw silent (plain version.records layers tree r.op answer e silent)
-      | inr says ↦ rw says (answer_there tree later version.records are r.op answer e ∙ answer_means tree version.records layers r.op answer e made)
+    value_means : (op : Op) (e : Explanation) → AreMade layers e
+        → members_tokens tree later answer (if_said e (op, e)) ≡ named_tokens (answer_members version.records layers answer (explanation_in tree op e))
+    value_means op e made = elim (cases_Bool (is_silent e)) [
+      | inl silent ↦ rw silent (plain version.records layers tree op answer e silent)
+      | inr says ↦ rw says (answer_there tree later version.records are op answer e ∙ answer_means tree version.records layers op answer e made)
     ]
 
     explained : Finds true tree version.abi version.records finding
         → members_tokens tree later answer (said_in later finding index) ≡ named_tokens (members_with true tree version index r answer)
     explained finds =
         let told = tells tree version.abi version.records later finding finds are index r answer there answered in
-        ap (members_tokens tree later answer) told.1 ∙ value_means told.0 told.2.made
-        ∙ ap (λ (why : meant.Explanation). named_tokens (answer_members version.records layers answer why)) told.2.means
+        ap (members_tokens tree later answer) told.2 ∙ value_means told.1 told.0 told.4.made
+        ∙ ap (λ (why : meant.Explanation). named_tokens (answer_members version.records layers answer why)) (told.3 ∙ told.4.means)
 
     members_told : (explains : Bool) → Finds explains tree version.abi version.records finding
         → members_tokens tree later answer (if explains then said_in later finding index else None)

@@ -9,7 +9,7 @@ use Rattle.json.specs.Token as token
 use Rattle.ll_semantics.specs.declared.answer.Answer.{Answer}
 use Rattle.ll_findings.specs.Findings.{FindingValue, answer_in, kept_at}
 use Rattle.ll_findings.specs.Findings as findings
-use Rattle.ll_findings.specs.declared.explained.Explained.{Explained}
+use Rattle.ll_explanations.specs.declared.explanation.Explanation.{Explanation}
 use Rattle.ll_json.specs.Rows.{members_tokens, said_of}
 
 -- the index of the first letter of an answer's word, behind the name of its member
@@ -25,7 +25,7 @@ pub members_by_value : (explains : Bool) (tree : List Entry) (records : List Rec
     → members_told explains tree records one index ≡ members_told explains tree records other index
 unfolding said_of
 members_by_value true tree records one other index answered explained =
-    ap₂ (λ (answer : Answer) (kept : Option Explained).
+    ap₂ (λ (answer : Answer) (kept : Option Explanation).
     print (members_tokens tree records answer (findings.said_by (slice_get records index) kept) ++ token.end_object ∷ []))
     answered explained
 members_by_value false tree records one other index answered explained =

@@ -4,7 +4,7 @@
 ghost use Rattle.std.specs.Prelude.{◌≡◌, ◌∷◌, [], codes};
 ghost use Rattle.json.specs.{Json.string, Tree.json_tokens};
 ghost use Rattle.ll_rights.specs.Abis.{number_of};
-ghost use Rattle.ll_explanations.specs.Meanings as meanings;
+ghost use Rattle.ll_reasons.specs.{Meant.text_named, declared.why.Which.TheVariants.First};
 ghost use Rattle.ll_explanations.specs.Meanings.{condition_in, port_rights_in, rights_in};
 ghost use Rattle.ll_json.specs.{Parts.array_of, Parts.whole, Writing.writing};
 ghost use Rattle.ll_json.specs.Why.{by_condition, condition_json, port_rights_json, rights_json};
@@ -13,6 +13,7 @@ use crate::json_text::JsonText;
 use crate::rights::{RightSet, write_rights_as};
 use crate::words::{begin_by, write_alone, write_number, write_numbered, write_text};
 use ll_explanations::Condition;
+use ll_reasons::{Which, text_of};
 use ll_rights::{Abi, Fs, Net};
 use ll_trace::Op;
 
@@ -62,25 +63,15 @@ fn write_unhandled_on_ports(out: &mut JsonText, rights: Net)
     write_unhandled_as(out, "unhandled_on_ports", rights);
 }
 
-/// The path of the call, if it adds a rule for one, or no text.
-fn path_of_rule(op: &Op) -> &str
-    ensures { result.now ≡ meanings.path_of_rule op.now }
-{
-    match op {
-        Op::AddPath { path, .. } => path.as_str(),
-        _ => "",
-    }
-}
-
 /// Writes which rights are for directories, where the path is that of something else.
 fn write_only_for_directories(out: &mut JsonText, op: &Op, rights: Fs)
     ensures { out.new ≡ writing out.old (json_tokens (by_condition
         (codes "only_for_directories") ((codes "rights", rights_json (rights_in rights))
-        ∷ (codes "path", string (meanings.path_of_rule op.now)) ∷ []))) }
+        ∷ (codes "path", string (text_named op.now First)) ∷ []))) }
 {
     begin_by(out, "condition", "only_for_directories");
     write_rights_as(out, "rights", rights);
-    write_text(out, "path", path_of_rule(op));
+    write_text(out, "path", text_of(op, Which::First));
     out.end_object();
 }
 

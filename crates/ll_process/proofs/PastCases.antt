@@ -84,7 +84,8 @@ nowhere tree (calls.Create rs fs net) is = refl
 nowhere tree (calls.CreateEmpty rs) is = refl
 nowhere tree (calls.AddPath rs path fs) is = refl
 nowhere tree (calls.AddPort rs port net) is = refl
-nowhere tree (calls.LeaveOut rule) is = refl
+nowhere tree (calls.LeaveOutPath path) is = refl
+nowhere tree calls.LeaveOutPort is = refl
 nowhere tree op is = absurd (true≢false (sym is))
 
 -- a call that is kept names the same first place

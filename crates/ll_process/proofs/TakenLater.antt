@@ -11,9 +11,9 @@ use Rattle.ll_rights.specs.Rights as files
 use Rattle.ll_rights.specs.NetRights as network
 use Rattle.ll_trace.specs.declared.op.Op.{Op}
 use Rattle.ll_trace.specs.declared.op.Op.TheVariants as calls
-use Rattle.ll_trace.specs.declared.op.RuleType.TheVariants.{PathBeneath, NetPort}
 use Rattle.ll_trace.specs.declared.op.Record.{Record}
 use Rattle.ll_trace.specs.BestEffort.{at_best_effort, names_rights, record_at_best_effort, records_at_best_effort}
+use Rattle.ll_trace.proofs.BestEffort.{paths-kept}
 use Rattle.ll_trace.proofs.Dropping.{op_stays}
 use Rattle.ll_process.specs.TakenLater.{AreTakenLater, IsTakenLater, is_of_rights}
 
@@ -27,13 +27,14 @@ of_rights (calls.AddPort rs port net) named = refl
 of_rights op named = absurd (true≢false (sym named))
 
 taken_as_it_is : (r : Record) → IsTakenLater r r
-taken_as_it_is r = record { line = refl; process = refl; pid = refl; same = λ _. refl; other = of_rights r.op }
+taken_as_it_is r = record { line = refl; process = refl; pid = refl; paths = refl; same = λ _. refl; other = of_rights r.op }
 
 taken_through : (last later r : Record) → IsTakenLater last later → IsTakenLater later r → IsTakenLater last r
 taken_through last later r a b = record {
   line = a.line ∙ b.line;
   process = a.process ∙ b.process;
   pid = a.pid ∙ b.pid;
+  paths = a.paths ∙ b.paths;
   same = λ none. a.same (ap names_rights (b.same none) ∙ none) ∙ b.same none;
   other = λ named. elim (cases_Bool (names_rights later.op)) [
     | inl names ↦ a.other names
@@ -46,12 +47,12 @@ unfolding is_of_rights
 created true rs fs net = refl
 created false rs fs net = refl
 
-path_added : (b : Bool) (rs : ℕ) (path : List ℕ) (fs : Fs) → is_of_rights (cond b (calls.LeaveOut PathBeneath) (calls.AddPath rs path fs)) ≡ true
+path_added : (b : Bool) (rs : ℕ) (path : List ℕ) (fs : Fs) → is_of_rights (cond b (calls.LeaveOutPath path) (calls.AddPath rs path fs)) ≡ true
 unfolding is_of_rights
 path_added true rs path fs = refl
 path_added false rs path fs = refl
 
-port_added : (b : Bool) (rs port : ℕ) (net : Net) → is_of_rights (cond b (calls.LeaveOut NetPort) (calls.AddPort rs port net)) ≡ true
+port_added : (b : Bool) (rs port : ℕ) (net : Net) → is_of_rights (cond b calls.LeaveOutPort (calls.AddPort rs port net)) ≡ true
 unfolding is_of_rights
 port_added true rs port net = refl
 port_added false rs port net = refl
@@ -68,7 +69,14 @@ still_of_rights abi (calls.AddPort rs port net) named =
 still_of_rights abi op named = absurd (true≢false (sym named))
 
 one_at_best_effort : (abi : Abi) (r : Record) → IsTakenLater (record_at_best_effort abi r) r
-one_at_best_effort abi r = record { line = refl; process = refl; pid = refl; same = op_stays abi r.op; other = still_of_rights abi r.op }
+one_at_best_effort abi r = record {
+  line = refl;
+  process = refl;
+  pid = refl;
+  paths = paths-kept abi r.op;
+  same = op_stays abi r.op;
+  other = still_of_rights abi r.op;
+}
 
 -- ---- all records
 

@@ -34,7 +34,8 @@ fn is_of_rights(op: &Op) -> bool
             | Op::CreateEmpty { .. }
             | Op::AddPath { .. }
             | Op::AddPort { .. }
-            | Op::LeaveOut { .. }
+            | Op::LeaveOutPath { .. }
+            | Op::LeaveOutPort
     )
 }
 

@@ -234,7 +234,8 @@ call_condition tree abi records rulesets (calls.Bind port) s o error handles is 
 call_condition tree abi records rulesets (calls.Connect port) s o error handles is = never_faulty _ _ _ _ error (can_refused_by false Acces _) is
 call_condition tree abi records rulesets (calls.CreateEmpty rs) s o error handles is =
     never_faulty _ _ _ _ error (can_free false (s.held rs) Allowed can_allowed) is
-call_condition tree abi records rulesets (calls.LeaveOut rule) s o error handles is = absurd (cc)
+call_condition tree abi records rulesets (calls.LeaveOutPath path) s o error handles is = absurd (cc)
+call_condition tree abi records rulesets calls.LeaveOutPort s o error handles is = absurd (cc)
 call_condition tree abi records rulesets (calls.Start nnp admin) s o error handles is = absurd (cc)
 call_condition tree abi records rulesets (calls.Fork child) s o error handles is = absurd (cc)
 call_condition tree abi records rulesets calls.Exit s o error handles is = absurd (cc)

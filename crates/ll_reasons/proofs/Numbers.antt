@@ -326,7 +326,8 @@ call_numbers tree abi rulesets (calls.Start nnp admin) s o error number numbers 
 call_numbers tree abi rulesets (calls.Fork child) s o error number numbers same is = cc
 call_numbers tree abi rulesets calls.Exit s o error number numbers same is = cc
 call_numbers tree abi rulesets calls.Nnp s o error number numbers same is = cc
-call_numbers tree abi rulesets (calls.LeaveOut rule) s o error number numbers same is = cc
+call_numbers tree abi rulesets (calls.LeaveOutPath path) s o error number numbers same is = cc
+call_numbers tree abi rulesets calls.LeaveOutPort s o error number numbers same is = cc
 call_numbers tree abi rulesets op s o error number numbers same is = request_numbers tree s.domain (request tree (wanted op)) error number numbers is
 
 -- ---- a process at an index, and the record there

@@ -174,5 +174,6 @@ reason_about tree o (calls.Rename from to exchange) =
 reason_about tree o (calls.Link from to) = unlinked_about tree (calls.Link from to) (spelt from) (spelt to) refl (place tree from) (place tree to)
 reason_about tree o (calls.CreateEmpty rs) = refl
 reason_about tree o (calls.Restrict rs) = tt
-reason_about tree o (calls.LeaveOut rule) = tt
+reason_about tree o (calls.LeaveOutPath path) = tt
+reason_about tree o calls.LeaveOutPort = tt
 reason_about tree o op = wanted_about tree op (wanted op) refl

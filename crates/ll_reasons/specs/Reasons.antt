@@ -141,5 +141,6 @@ reason tree o (calls.Ioctl fd driver) = Some (unopened fd)
 reason tree o (calls.Rename from to exchange) = Some (unrenamed tree (spelt from) (place tree from) (spelt to) (place tree to) exchange)
 reason tree o (calls.Link from to) = Some (unlinked tree (spelt from) (place tree from) (spelt to) (place tree to))
 reason tree o (calls.CreateEmpty rs) = Some (held_already rs)
-reason tree o (calls.LeaveOut rule) = Some unsupported
+reason tree o (calls.LeaveOutPath path) = Some unsupported
+reason tree o calls.LeaveOutPort = Some unsupported
 reason tree o op = option_map (λ want. unmet tree (spelt want.0) (place tree want.0) want.1) (wanted op)

@@ -37,7 +37,8 @@ names_one_twice tree op = false
 
 -- the program leaves the call out
 unfoldable pub is_left_out : Op → Bool
-is_left_out (calls.LeaveOut rule) = true
+is_left_out (calls.LeaveOutPath path) = true
+is_left_out calls.LeaveOutPort = true
 is_left_out op = false
 
 abbrev pub is_regular : Sort → Bool

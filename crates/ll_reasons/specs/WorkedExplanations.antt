@@ -10,7 +10,6 @@ use Rattle.ll_tree.specs.WorkedTree.{worked_tree}
 use Rattle.ll_rules.specs.WorkedRules.{a, b, a_f}
 use Rattle.ll_trace.specs.declared.op.Record.{Record}
 use Rattle.ll_trace.specs.declared.op.Op.TheVariants as calls
-use Rattle.ll_trace.specs.declared.op.RuleType.TheVariants.{PathBeneath, NetPort}
 use Rattle.ll_semantics.specs.declared.answer.Answer.{Answer}
 use Rattle.ll_semantics.specs.WorkedWords.{begins, start, ok, moot, refused, creates, adds}
 use Rattle.ll_reasons.specs.Objections.{missing, closed, gained, kept}
@@ -71,10 +70,10 @@ abbrev pub best_effort : List (Record × Answer)
 best_effort =
     begins
     ++ ok 0 (calls.CreateEmpty 3)
-    ∷ moot 0 (calls.LeaveOut NetPort)
+    ∷ moot 0 calls.LeaveOutPort
     ∷ moot 0 (calls.CreateEmpty 3)
     ∷ refused Inval [] 0 (adds 3 (codes "/a") (execute ∷ []))
-    ∷ moot 0 (calls.LeaveOut PathBeneath)
+    ∷ moot 0 (calls.LeaveOutPath (codes "/a"))
     ∷ ok 0 (calls.Restrict 3)
     ∷ ok 0 (calls.Exec (codes "/a/f"))
     ∷ ok 0 (creates 4 (execute ∷ []) [])

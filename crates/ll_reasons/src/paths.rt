@@ -80,6 +80,7 @@ fn first_text(op: &Op) -> &str
     match op {
         wants_at_a_path!(path)
         | Op::AddPath { path, .. }
+        | Op::LeaveOutPath { path }
         | Op::OpenFile { path, .. }
         | Op::Rename { from: path, .. }
         | Op::Link { from: path, .. } => path.as_str(),
@@ -101,6 +102,7 @@ fn second_text(op: &Op) -> &str
         wants_at_a_path!()
         | still_without_a_path!()
         | Op::AddPath { .. }
+        | Op::LeaveOutPath { .. }
         | Op::OpenFile { .. }
         | changes_without_names!()
         | Op::Create { .. }

@@ -6,7 +6,7 @@ use Rattle.ll_tree.specs.Trees.{Entry}
 use Rattle.ll_trace.specs.declared.op.Record.{Record}
 use Rattle.ll_semantics.specs.declared.answer.Answer.{Answer}
 use Rattle.ll_findings.specs.Findings.{FindingValue, answer_in, kept_at, said_by}
-use Rattle.ll_findings.specs.declared.explained.Explained.{Explained}
+use Rattle.ll_explanations.specs.declared.explanation.Explanation.{Explanation}
 use Rattle.ll_explain.specs.Told.{said_text, text_told}
 use Rattle.ll_report.specs.Lines.{verdict_of}
 use Rattle.ll_report.specs.Report.{verdict_text}
@@ -21,4 +21,4 @@ pub text_by_value : (tree : List Entry) (records : List Record) (one other : Fin
     → answer_in one index ≡ answer_in other index → kept_at one index ≡ kept_at other index
     → text_told tree records one index ≡ text_told tree records other index
 text_by_value tree records one other index answered explained =
-    ap (λ (kept : Option Explained). said_text tree records (said_by (slice_get records index) kept)) explained
+    ap (λ (kept : Option Explanation). said_text tree records (said_by (slice_get records index) kept)) explained

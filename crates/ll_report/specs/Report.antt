@@ -39,13 +39,9 @@ verdict_text (refused error layers) = codes "refused " ++ error ++ codes " " ++ 
 abbrev pub record_text : ℕ → ℕ → List ℕ → List ℕ
 record_text line pid op = decimal line ++ codes " " ++ decimal pid ++ codes " " ++ op
 
--- what comes before the verdict
-abbrev pub head_text : ℕ → ℕ → List ℕ → List ℕ
-head_text line pid op = record_text line pid op ++ codes " "
-
 -- a record's line
 abbrev pub line_text : ReportLine → List ℕ
-line_text said = head_text said.line said.pid said.op ++ verdict_text said.verdict ++ codes "\n"
+line_text said = (record_text said.line said.pid said.op ++ codes " ") ++ verdict_text said.verdict ++ codes "\n"
 
 abbrev pub is_allowed : Verdict → Bool
 is_allowed allowed = true
@@ -65,8 +61,7 @@ count_of test lines = count_by (λ (line : ReportLine). test line.verdict) lines
 
 -- how many records are answered in each way
 abbrev pub counts_text : ℕ → ℕ → ℕ → List ℕ
-counts_text passed denied idle =
-    codes " allowed " ++ decimal passed ++ codes " refused " ++ decimal denied ++ codes " moot " ++ decimal idle ++ codes "\n"
+counts_text passed denied idle = codes " allowed " ++ decimal passed ++ codes " refused " ++ decimal denied ++ codes " moot " ++ decimal idle ++ codes "\n"
 
 -- the last line
 abbrev pub total_text : ℕ → ℕ → ℕ → ℕ → List ℕ

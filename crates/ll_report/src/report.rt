@@ -5,7 +5,7 @@ ghost use Rattle.std.specs.Prelude.{◌≡◌, ◌++◌, ◌∷◌, [], codes, c
 ghost use Rattle.ll_explain.specs.Buffers.{adding};
 ghost use Rattle.ll_report.specs.Lines.{line_of, verdict_of};
 ghost use Rattle.ll_report.specs.Report as words;
-ghost use Rattle.ll_report.specs.Report.{counts_text, head_text, layers_text, line_text, next_layer_text, record_text, refused, report_status, total_text, verdict_text};
+ghost use Rattle.ll_report.specs.Report.{counts_text, layers_text, line_text, next_layer_text, record_text, refused, report_status, total_text, verdict_text};
 ghost use Rattle.ll_report.specs.Lines as spec;
 
 use crate::names::error_name;
@@ -46,7 +46,7 @@ pub(crate) fn push_record(text: &mut TextBuffer, line: u64, pid: u64, op: &str)
 
 /// Adds what comes before a verdict.
 fn push_head(text: &mut TextBuffer, line: u64, pid: u64, op: &str)
-    ensures { text.new ≡ adding text.old (head_text line pid op.now) }
+    ensures { text.new ≡ adding text.old (record_text line pid op.now ++ codes " ") }
 {
     push_record(text, line, pid, op);
     push_words(text, " ");

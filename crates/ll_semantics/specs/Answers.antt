@@ -153,4 +153,5 @@ answer tree abi rulesets calls.Mount s = refused_by Perm (refusing_mount s.domai
 answer tree abi rulesets (calls.Bind port) s = refused_by Acces (refusing_port s.domain port (network.only network.bind_tcp))
 answer tree abi rulesets (calls.Connect port) s = refused_by Acces (refusing_port s.domain port (network.only network.connect_tcp))
 answer tree abi rulesets (calls.CreateEmpty rs) s = if_free (s.held rs) Allowed
-answer tree abi rulesets (calls.LeaveOut rule) s = Moot
+answer tree abi rulesets (calls.LeaveOutPath path) s = Moot
+answer tree abi rulesets calls.LeaveOutPort s = Moot

@@ -104,4 +104,5 @@ effect tree rulesets calls.Mount s = nothing
 effect tree rulesets (calls.Bind port) s = nothing
 effect tree rulesets (calls.Connect port) s = nothing
 effect tree rulesets (calls.CreateEmpty rs) s = leaves_rulesets (rulesets ++ without_rules no_right network.no_right ∷ []) (with_held s rs (Some (length rulesets)))
-effect tree rulesets (calls.LeaveOut rule) s = nothing
+effect tree rulesets (calls.LeaveOutPath path) s = nothing
+effect tree rulesets calls.LeaveOutPort s = nothing

@@ -9,7 +9,6 @@ use Rattle.ll_trace.specs.declared.op.Record.{Record}
 use Rattle.ll_trace.specs.declared.op.Op.TheVariants as calls
 use Rattle.ll_trace.specs.declared.op.Mode.TheVariants.{Read, Write, Both}
 use Rattle.ll_trace.specs.declared.op.Sort.TheVariants.{Regular, Device}
-use Rattle.ll_trace.specs.declared.op.RuleType.TheVariants.{PathBeneath, NetPort}
 use Rattle.ll_semantics.specs.declared.answer.Answer.{Answer}
 use Rattle.ll_semantics.specs.WorkedWords.{begins, opens_before, confines, confines_on_two, moving, grant, renames, goes_over, ok, moot, refused, start, creates, adds, adds_port, opens}
 
@@ -251,8 +250,8 @@ makes_do =
     ∷ ok 0 calls.Nnp
     ∷ moot 0 (calls.CreateEmpty 3)
     ∷ moot 0 (creates 3 (read_file ∷ []) [])
-    ∷ moot 0 (calls.LeaveOut PathBeneath)
-    ∷ moot 0 (calls.LeaveOut NetPort)
+    ∷ moot 0 (calls.LeaveOutPath (codes "/a"))
+    ∷ moot 0 calls.LeaveOutPort
     ∷ refused Inval [] 0 (adds 3 (codes "/a") (read_file ∷ []))
     ∷ ok 0 (calls.Restrict 3)
     ∷ ok 0 (opens (codes "/a/f") 4 Both)

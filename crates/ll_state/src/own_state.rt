@@ -174,7 +174,7 @@ impl OwnState {
             Op::Mount => confined.ask_mount(),
             Op::Bind { port } => confined.ask_port(*port, Net::BIND_TCP),
             Op::Connect { port } => confined.ask_port(*port, Net::CONNECT_TCP),
-            Op::LeaveOut { .. } => Answer::Moot,
+            Op::LeaveOutPath { .. } | Op::LeaveOutPort => Answer::Moot,
             Op::Nnp
             | Op::Create { .. }
             | Op::AddPath { .. }

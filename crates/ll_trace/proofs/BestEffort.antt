@@ -22,6 +22,7 @@ use Rattle.ll_trace.specs.Traces.{AreFaultless, AreRecords}
 use Rattle.ll_trace.specs.Processes.{is_starting, process_count, number_if, started_at, own_from, own_records, forked_by, parents}
 use Rattle.ll_trace.specs.Indexed.{HaveRights, Indexes}
 use Rattle.ll_trace.specs.FirstPlaces.{AreFirstPlaces, first_place, paths_of}
+use Rattle.ll_trace.specs.Operations.{op_name}
 use Rattle.ll_trace.specs.BestEffort.{at_best_effort, names_rights, record_at_best_effort, records_at_best_effort}
 use Rattle.ll_trace.proofs.Numbering.{are_numbered}
 use Rattle.ll_trace.proofs.Numbers.{process_count-cons}
@@ -33,13 +34,15 @@ of_both : {X : Type 0} (says : Op → X) (b : Bool) (x y : Op) (what : X) → sa
 of_both says true x y what first second = first
 of_both says false x y what first second = second
 
--- what a call is to the processes of a trace, and which place it names first
+-- what a call is to the processes of a trace, its name, its paths, and which place it names first
 record Role : Type 0 where
   start : Bool
   exit : Bool
   started : ℕ → Option ℕ
   starting : Bool
   forked : ProcessId → Option ProcessId
+  name : List ℕ
+  paths : List (List ℕ)
   place : List trees.Entry → Place
 
 role : Op → Role
@@ -49,6 +52,8 @@ role op = record {
   started = pid_started op;
   starting = is_starting op;
   forked = forked_by op;
+  name = op_name op;
+  paths = paths_of op;
   place = λ tree. first_place tree op;
 }
 
@@ -66,7 +71,7 @@ first_places-read tree records places are = rw are (first_places-each tree recor
 module _ (abi : Abi) where
   -- All calls whose rights best effort takes out, and what it makes of them, have one role.
   role-kept : (op : Op) → role (at_best_effort abi op) ≡ role op
-  unfolding at_best_effort role is_start is_exit pid_started is_starting forked_by first_place paths_of
+  unfolding at_best_effort role is_start is_exit pid_started is_starting forked_by op_name first_place paths_of
   role-kept (calls.Create rs fs net) =
       of_both role (files.is_empty (supported_fs abi fs) && network.is_empty (supported_net abi net) && not (files.is_empty fs && network.is_empty net))
       _ _ _ refl refl
@@ -77,6 +82,14 @@ module _ (abi : Abi) where
   is_start-kept : (op : Op) → is_start (at_best_effort abi op) ≡ is_start op
   unfolding role
   is_start-kept op = ap (λ does. does.start) (role-kept op)
+
+  pub op_name-kept : (op : Op) → op_name (at_best_effort abi op) ≡ op_name op
+  unfolding role
+  op_name-kept op = ap (λ does. does.name) (role-kept op)
+
+  pub paths-kept : (op : Op) → paths_of (at_best_effort abi op) ≡ paths_of op
+  unfolding role
+  paths-kept op = ap (λ does. does.paths) (role-kept op)
 
   pid_started-kept : (op : Op) (pid : ℕ) → pid_started (at_best_effort abi op) pid ≡ pid_started op pid
   unfolding role

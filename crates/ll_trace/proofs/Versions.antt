@@ -15,7 +15,6 @@ use Rattle.ll_rights.proofs.Sets.{fs_has-only, fs_is_empty, net_has-only, net_is
 use Rattle.ll_rights.proofs.Supported.{fs_supported-known, fs_supported-older, net_supported-known, net_supported-older}
 use Rattle.ll_trace.specs.declared.op.Op.{Op}
 use Rattle.ll_trace.specs.declared.op.Op.TheVariants as calls
-use Rattle.ll_trace.specs.declared.op.RuleType.TheVariants.{PathBeneath, NetPort}
 use Rattle.ll_trace.specs.declared.op.Record.{Record}
 use Rattle.ll_trace.proofs.SetLemmas.{no_fs, no_net}
 use Rattle.ll_trace.specs.BestEffort.{creates, adds_path, adds_port, at_best_effort, record_at_best_effort, records_at_best_effort, IsSupported}
@@ -38,10 +37,10 @@ call-supported abi (calls.Create rs fs net) is =
     (never (files.is_empty fs && network.is_empty net))
 call-supported abi (calls.AddPath rs path fs) is =
     ap (adds_path rs path fs) is
-    ∙ second (files.is_empty fs && not (files.is_empty fs)) (calls.LeaveOut PathBeneath) (calls.AddPath rs path fs) (never (files.is_empty fs))
+    ∙ second (files.is_empty fs && not (files.is_empty fs)) (calls.LeaveOutPath path) (calls.AddPath rs path fs) (never (files.is_empty fs))
 call-supported abi (calls.AddPort rs port net) is =
     ap (adds_port rs port net) is
-    ∙ second (network.is_empty net && not (network.is_empty net)) (calls.LeaveOut NetPort) (calls.AddPort rs port net) (never (network.is_empty net))
+    ∙ second (network.is_empty net && not (network.is_empty net)) calls.LeaveOutPort (calls.AddPort rs port net) (never (network.is_empty net))
 call-supported abi op is = refl
 
 each-supported : (abi : Abi) (records : List Record) → AllByRecursion (λ (one : Record). IsSupported abi one.op) records
@@ -150,10 +149,10 @@ call-older older newer le (calls.Create rs fs net) =
     ∙ ap (creates rs (supported_fs newer fs) (supported_net newer net) (supported_fs older fs)) fewer_ports)
 call-older older newer le (calls.AddPath rs path fs) =
     rule-older files.is_empty supported_fs fs_empty fs_supported-older older newer le (at_best_effort older) (calls.AddPath rs path)
-    (calls.LeaveOut PathBeneath) refl (λ _. refl) fs
+    (calls.LeaveOutPath path) refl (λ _. refl) fs
 call-older older newer le (calls.AddPort rs port net) =
     rule-older network.is_empty supported_net net_empty net_supported-older older newer le (at_best_effort older) (calls.AddPort rs port)
-    (calls.LeaveOut NetPort) refl (λ _. refl) net
+    calls.LeaveOutPort refl (λ _. refl) net
 call-older older newer le op = refl
 
 pub records-older : (older newer : Abi) (records : List Record) → number_of older ≤ number_of newer

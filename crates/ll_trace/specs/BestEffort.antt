@@ -9,7 +9,6 @@ use Rattle.ll_rights.specs.Rights as files
 use Rattle.ll_rights.specs.NetRights as network
 use Rattle.ll_trace.specs.declared.op.Op.{Op}
 use Rattle.ll_trace.specs.declared.op.Op.TheVariants as calls
-use Rattle.ll_trace.specs.declared.op.RuleType.TheVariants.{PathBeneath, NetPort}
 use Rattle.ll_trace.specs.declared.op.Record.{Record}
 
 -- A program that would handle rights of which none is supported goes on as with a ruleset that handles nothing, so that
@@ -23,11 +22,11 @@ creates rs fs net supported supported_on_ports =
 -- A program leaves out a rule of whose rights none is supported. One that grants no right is asked for at every version.
 abbrev pub adds_path : ℕ → List ℕ → Fs → Fs → Op
 adds_path rs path fs supported =
-    if files.is_empty supported && not (files.is_empty fs) then calls.LeaveOut PathBeneath else calls.AddPath rs path supported
+    if files.is_empty supported && not (files.is_empty fs) then calls.LeaveOutPath path else calls.AddPath rs path supported
 
 abbrev pub adds_port : ℕ → ℕ → Net → Net → Op
 adds_port rs port net supported =
-    if network.is_empty supported && not (network.is_empty net) then calls.LeaveOut NetPort else calls.AddPort rs port supported
+    if network.is_empty supported && not (network.is_empty net) then calls.LeaveOutPort else calls.AddPort rs port supported
 
 -- what such a program calls where a record has this
 unfoldable pub at_best_effort : Abi → Op → Op

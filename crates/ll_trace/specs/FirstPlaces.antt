@@ -5,7 +5,7 @@ use Rattle.ll_tree.specs.declared.place.Place.{Place}
 use Rattle.ll_tree.specs.declared.place.Place.TheVariants.{Nowhere}
 use Rattle.ll_tree.specs.Trees.{Entry, place}
 use Rattle.ll_trace.specs.declared.op.Op.{Op}
-use Rattle.ll_trace.specs.declared.op.Op.TheVariants.{AddPath}
+use Rattle.ll_trace.specs.declared.op.Op.TheVariants.{AddPath, LeaveOutPath}
 use Rattle.ll_trace.specs.declared.op.Record.{Record}
 unfoldable pub use Rattle.ll_trace.specs.Operations.{paths_of}
 
@@ -15,6 +15,7 @@ place_of_first tree (path ∷ others) = place tree path
 
 unfoldable pub first_place : List Entry → Op → Place
 first_place tree (AddPath rs path fs) = Nowhere
+first_place tree (LeaveOutPath path) = Nowhere
 first_place tree op = place_of_first tree (paths_of op)
 
 -- each of these places is that of the record with the same number

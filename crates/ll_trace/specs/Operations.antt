@@ -8,8 +8,7 @@ use Rattle.ll_lines.specs.declared.fault.Cause.TheVariants.{BadPath}
 use Rattle.ll_lines.specs.Members.{text_at, number_at, truth_at, flag_at, ◌>>=◌}
 use Rattle.ll_lines.specs.Paths.{path_of}
 use Rattle.ll_trace.specs.declared.op.Op.{Op}
-use Rattle.ll_trace.specs.declared.op.Op.TheVariants.{Start, Fork, Exit, Nnp, Create, AddPath, AddPort, CloseRs, Restrict, OpenFile, Adopt, Dup, Close, Ftruncate, Truncate, Exec, Mknod, Mkdir, Symlink, Unlink, Rmdir, Rename, Link, Mount, Bind, Connect, Ioctl, CreateEmpty, LeaveOut}
-use Rattle.ll_trace.specs.declared.op.RuleType.TheVariants.{PathBeneath, NetPort}
+use Rattle.ll_trace.specs.declared.op.Op.TheVariants.{Start, Fork, Exit, Nnp, Create, AddPath, AddPort, CloseRs, Restrict, OpenFile, Adopt, Dup, Close, Ftruncate, Truncate, Exec, Mknod, Mkdir, Symlink, Unlink, Rmdir, Rename, Link, Mount, Bind, Connect, Ioctl, CreateEmpty, LeaveOutPath, LeaveOutPort}
 use Rattle.ll_members.specs.Rights.{fs_at, net_at}
 use Rattle.ll_trace.specs.Members.{path_at, mode_at, sort_at, made_kind_at, port_at}
 use Rattle.ll_trace.specs.Forms.{meaning, of_one, of_two, of_three, of_five}
@@ -23,9 +22,9 @@ op_name Nnp = codes "nnp"
 op_name (Create rs fs net) = codes "create"
 op_name (CreateEmpty rs) = codes "create"
 op_name (AddPath rs path fs) = codes "add_path"
-op_name (LeaveOut PathBeneath) = codes "add_path"
+op_name (LeaveOutPath path) = codes "add_path"
 op_name (AddPort rs port net) = codes "add_port"
-op_name (LeaveOut NetPort) = codes "add_port"
+op_name LeaveOutPort = codes "add_port"
 op_name (CloseRs rs) = codes "close_rs"
 op_name (Restrict rs) = codes "restrict"
 op_name (OpenFile path fd mode create trunc) = codes "open"
@@ -50,6 +49,7 @@ op_name (Ioctl fd driver) = codes "ioctl"
 -- the texts of the paths that a call names
 unfoldable pub paths_of : Op → List (List ℕ)
 paths_of (AddPath rs path fs) = path ∷ []
+paths_of (LeaveOutPath path) = path ∷ []
 paths_of (OpenFile path fd mode create trunc) = path ∷ []
 paths_of (Truncate path) = path ∷ []
 paths_of (Exec path) = path ∷ []

@@ -19,7 +19,7 @@ pub use laws::{
     processes_are_numbered, sets_are_their_names, traces_of_single_pids,
 };
 pub use located::Located;
-pub use op::{Mode, Op, ProcessId, Record, RuleType, Sort};
+pub use op::{Mode, Op, ProcessId, Record, Sort};
 pub use path_text::{PathText, SecondPath};
 pub use reader::{MOST_PROCESSES, MOST_RECORDS};
 pub use rows::{calls_at_best_effort, faulty_traces, whole_traces};

@@ -5,12 +5,13 @@ ghost use Rattle.ll_rights.specs.Rights as files;
 ghost use Rattle.ll_rights.specs.NetRights as network;
 ghost use Rattle.ll_tree.specs.Trees.{place};
 ghost use Rattle.ll_rights.specs.Supported.{supported_fs, supported_net};
-ghost use Rattle.ll_trace.specs.BestEffort.{at_best_effort, creates, adds_port, names_rights};
+ghost use Rattle.ll_trace.specs.BestEffort.{at_best_effort, creates, adds_path, adds_port, names_rights};
 
 use crate::path_text::{PathText, SecondPath};
 use ll_rights::{Abi, Fs, Kind, Net};
 use ll_tree::{Place, Tree};
 use std::alloc::{AllocError, Global};
+use std::mem;
 
 /// A process of the trace. Processes are numbered from 0, in the order of the records that start them.
 #[derive(Clone, Copy, Debug, PartialEq, Eq)]
@@ -46,15 +47,6 @@ pub enum Sort {
     Device,
     /// Anything else, such as a pipe or a socket.
     Other,
-}
-
-/// A kind of rule (`enum landlock_rule_type` of landlock_add_rule(2)).
-#[derive(Clone, Copy, Debug, PartialEq, Eq)]
-pub enum RuleType {
-    /// Rights on an object and on all under it.
-    PathBeneath,
-    /// Rights on one TCP port.
-    NetPort,
 }
 
 /// What the process of a record did. Each variant has the members of its line; `rs` is the
@@ -187,12 +179,14 @@ pub enum Op {
     CreateEmpty {
         rs: u64,
     },
-    /// A program leaves out a call of landlock_add_rule(2), as its kernel supports none of the
-    /// rights that the rule would have granted. No line of a file says this: best effort makes it from
-    /// an `add_path` or `add_port`.
-    LeaveOut {
-        rule: RuleType,
+    /// A program leaves out a call of landlock_add_rule(2) under a path, as its kernel supports none of
+    /// the rights that the rule would have granted. No line of a file says this: best effort makes it
+    /// from an `add_path`.
+    LeaveOutPath {
+        path: PathText,
     },
+    /// The same on a port: best effort makes it from an `add_port`.
+    LeaveOutPort,
 }
 
 /// A pattern for the calls that want something at the place of one path and change nothing; it may bind the path.
@@ -217,7 +211,7 @@ macro_rules! wants_at_a_path {
 macro_rules! still_without_a_path {
     () => {
         $crate::Op::Exit
-            | $crate::Op::LeaveOut { .. }
+            | $crate::Op::LeaveOutPort
             | $crate::Op::Ftruncate { .. }
             | $crate::Op::Ioctl { .. }
             | $crate::Op::Mount
@@ -233,6 +227,7 @@ macro_rules! changes_nothing {
     () => {
         $crate::still_without_a_path!()
             | $crate::wants_at_a_path!()
+            | $crate::Op::LeaveOutPath { .. }
             | $crate::Op::Rename { .. }
             | $crate::Op::Link { .. }
     };
@@ -308,6 +303,7 @@ impl Op {
             | changes_without_names!()
             | Op::Create { .. }
             | Op::AddPath { .. }
+            | Op::LeaveOutPath { .. }
             | Op::AddPort { .. } => Place::Nowhere,
         }
     }
@@ -362,27 +358,24 @@ impl Op {
 
     /// Turns a call into the one that a program makes instead if it goes by its kernel's version of
     /// Landlock: the rights that this version lacks are taken out.
-    #[tactic(auto, unfolding(crate::specs::BestEffort::at_best_effort))]
     pub(crate) fn drop_unsupported(&mut self, abi: Abi)
         ensures { self.new ≡ at_best_effort abi self.old }
     {
-        let changed = match self {
-            Op::Create { rs, fs, net } => created(*rs, *fs, *net, abi),
-            Op::AddPath { fs, .. } => {
-                let supported = fs.supported(abi);
-                if supported.is_empty() && !fs.is_empty() {
-                    Op::LeaveOut {
-                        rule: RuleType::PathBeneath,
-                    }
-                } else {
-                    *fs = supported;
-                    return;
-                }
-            }
-            Op::AddPort { rs, port, net } => port_added(*rs, *port, *net, abi),
-            changes_nothing!() | changes_without_names!() | Op::OpenFile { .. } => return,
-        };
-        *self = changed;
+        let whole = mem::replace(self, Op::Exit);
+        *self = whole.at_best_effort(abi);
+    }
+
+    /// The call that a program makes instead of this one.
+    #[tactic(auto, unfolding(crate::specs::BestEffort::at_best_effort))]
+    fn at_best_effort(self, abi: Abi) -> Op
+        ensures { result ≡ at_best_effort abi self }
+    {
+        match self {
+            Op::Create { rs, fs, net } => created(rs, fs, net, abi),
+            Op::AddPath { rs, path, fs } => path_added(rs, path, fs, abi),
+            Op::AddPort { rs, port, net } => port_added(rs, port, net, abi),
+            other => other,
+        }
     }
 }
 
@@ -418,15 +411,29 @@ fn created(rs: u64, fs: Fs, net: Net, abi: Abi) -> Op
     }
 }
 
+/// What a program calls for an `add_path`: it leaves out the call if none of its rights is supported.
+fn path_added(rs: u64, path: PathText, fs: Fs, abi: Abi) -> Op
+    ensures { result ≡ adds_path rs path fs (supported_fs abi fs) }
+{
+    let supported = fs.supported(abi);
+    if supported.is_empty() && !fs.is_empty() {
+        Op::LeaveOutPath { path }
+    } else {
+        Op::AddPath {
+            rs,
+            path,
+            fs: supported,
+        }
+    }
+}
+
 /// What a program calls for an `add_port`: it leaves out the call if none of its rights is supported.
 fn port_added(rs: u64, port: u64, net: Net, abi: Abi) -> Op
     ensures { result ≡ adds_port rs port net (supported_net abi net) }
 {
     let supported = net.supported(abi);
     if supported.is_empty() && !net.is_empty() {
-        Op::LeaveOut {
-            rule: RuleType::NetPort,
-        }
+        Op::LeaveOutPort
     } else {
         Op::AddPort {
             rs,

@@ -8,7 +8,7 @@ ghost use Rattle.ll_trace.specs.Operations.{descriptor_operations, named_in, op_
 ghost use Rattle.ll_trace.specs.Operations.{operation_named, path_operations};
 
 use crate::members::{made_kind_of, mode_of, path_of, port_of, sort_of};
-use crate::op::{Op, RuleType};
+use crate::op::Op;
 use crate::path_text::{PathText, SecondPath};
 use ll_lines::Cause;
 use ll_members::{Members, Name, flag_of, fs_of, net_of, number_of, text_of, truth_of};
@@ -209,12 +209,8 @@ impl Op {
             Op::Exit => "exit",
             Op::Nnp => "nnp",
             Op::Create { .. } | Op::CreateEmpty { .. } => "create",
-            Op::AddPath { .. } => "add_path",
-            Op::AddPort { .. } => "add_port",
-            Op::LeaveOut { rule } => match rule {
-                RuleType::PathBeneath => "add_path",
-                RuleType::NetPort => "add_port",
-            },
+            Op::AddPath { .. } | Op::LeaveOutPath { .. } => "add_path",
+            Op::AddPort { .. } | Op::LeaveOutPort => "add_port",
             Op::CloseRs { .. } => "close_rs",
             Op::Restrict { .. } => "restrict",
             Op::OpenFile { .. } => "open",

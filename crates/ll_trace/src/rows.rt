@@ -11,7 +11,7 @@ ghost use Rattle.ll_rights.specs.Rights as files;
 ghost use Rattle.ll_rights.specs.NetRights as network;
 ghost use Rattle.ll_trace.specs.BestEffort.{at_best_effort};
 
-use crate::op::{Op, RuleType};
+use crate::op::Op;
 use ll_rights::Abi;
 
 /// Files with a fault, their first faulty lines and the causes.
@@ -162,7 +162,7 @@ pub fn calls_at_best_effort()
         → at_best_effort abi (Op.Create 3 files.no_right (network.only network.other))
         ≡ Op.Create 3 files.no_right (network.only network.other) }
     ensures truncate_is_of_3 { at_best_effort Abi.V2
-        (Op.AddPath 3 (codes "/a") (files.only files.truncate)) ≡ Op.LeaveOut RuleType.PathBeneath }
+        (Op.AddPath 3 (codes "/a") (files.only files.truncate)) ≡ Op.LeaveOutPath (codes "/a") }
     ensures less_on_a_path { at_best_effort Abi.V2
         (Op.AddPath 3 (codes "/a")
         (files.united (files.only files.execute) (files.only files.truncate)))
@@ -170,7 +170,7 @@ pub fn calls_at_best_effort()
     ensures nothing_on_a_path { at_best_effort Abi.V1 (Op.AddPath 3 (codes "/a") files.no_right)
         ≡ Op.AddPath 3 (codes "/a") files.no_right }
     ensures bind_tcp_is_of_4 { at_best_effort Abi.V3
-        (Op.AddPort 3 80 (network.only network.bind_tcp)) ≡ Op.LeaveOut RuleType.NetPort }
+        (Op.AddPort 3 80 (network.only network.bind_tcp)) ≡ Op.LeaveOutPort }
     ensures nothing_on_a_port { at_best_effort Abi.V3 (Op.AddPort 3 80 network.no_right)
         ≡ Op.AddPort 3 80 network.no_right }
     ensures ioctl_dev_is_of_5 { at_best_effort Abi.V4

@@ -1,4 +1,4 @@
--- What a number is open on answers the calls on open numbers, and a rule that a program leaves out is moot.
+-- What a number is open on answers the calls on open numbers.
 use Rattle.std.proofs.Common.{rules}
 use Rattle.ll_state.specs.ConfinedCalls.{by_layers}
 use Rattle.ll_state.proofs.own_state.OwnState.answer.Goals as goal
@@ -10,7 +10,3 @@ returns-in-Ftruncate g c = search rules
 pub returns-in-Ioctl : goal.returns-in-Ioctl
 unfolding by_layers
 returns-in-Ioctl g c = search rules
-
-pub returns-in-LeaveOut : goal.returns-in-LeaveOut
-unfolding by_layers
-returns-in-LeaveOut g c = search rules
