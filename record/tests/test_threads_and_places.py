@@ -12,7 +12,7 @@ import unittest
 from pathlib import Path
 
 from landaudit_record import jsonl
-from landaudit_record.recorder import recordings, tracing
+from landaudit_record.recorder import converting, recordings, tracing
 from landaudit_record.recorder.calls import descriptors, landlock
 from landaudit_record.recorder.scene import BY_UNSEEN_LAYER, MOVING
 
@@ -169,6 +169,7 @@ class Sockets(WrittenLogs):
                     os.dup2(kept, 0)
                     os.close(kept)
                 self.assertEqual(found, {"kind": "other", "path": None, "tcp": expected})
+                self.assertIs(converting.is_unknown(found), False)
 
     def test_a_socket_over_ipv6_that_becomes_one_over_ipv4(self) -> None:
         trace = self.convert(INET6, f"connect(3<socket:[7]>, {IPV4}) = -1 ECONNREFUSED (Connection refused)")

@@ -97,13 +97,13 @@ def _started(scene: Scene, about: About, call: Call) -> Thread:
         scene.leave_out(thread, call, NOT_SEEN_TO_START, asks=True)
     scene.start(thread, call, nnp=about.nnp, admin=about.admin)
     for number, known in about.descriptors.items():
-        handle = Handle(known["path"], adopted=known["kind"], tcp=known.get("tcp"), foreign=_is_unknown(known))
+        handle = Handle(known["path"], adopted=known["kind"], tcp=known.get("tcp"), foreign=is_unknown(known))
         process.table[int(number)] = handle
         scene.adopt(thread, call, int(number), handle)
     return thread
 
 
-def _is_unknown(given: dict[str, Any]) -> bool:
+def is_unknown(given: dict[str, Any]) -> bool:
     """Whether a descriptor may be a TCP socket for all that is known of it, as older recordings know it."""
     return given["kind"] == "other" and given["path"] is None and "tcp" not in given
 
@@ -127,6 +127,7 @@ def _take_over(scene: Scene, event: Superseded) -> None:
         scene.doubt(leader)
     thread = scene.threads.pop(event.by, None)
     if thread is not None:
+        scene.names.put(f"/proc/{event.by}", None)
         thread.process.threads.discard(event.by)
         thread.process.threads.add(event.tid)
         thread.tid = event.tid

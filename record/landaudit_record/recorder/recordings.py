@@ -132,9 +132,8 @@ def standard_descriptors() -> dict[str, dict[str, Any]]:
             continue
         kinds = {stat.S_IFREG: "reg", stat.S_IFCHR: "device", stat.S_IFBLK: "device"}
         kind = kinds.get(stat.S_IFMT(status.st_mode), "other")
-        found[str(number)] = {"kind": kind, "path": path if path.startswith("/") else None}
-        if stat.S_ISSOCK(status.st_mode):
-            found[str(number)]["tcp"] = _tcp(number)
+        tcp = _tcp(number) if stat.S_ISSOCK(status.st_mode) else None
+        found[str(number)] = {"kind": kind, "path": path if path.startswith("/") else None, "tcp": tcp}
     return found
 
 

@@ -184,9 +184,10 @@ class Scene:
 
     def find(self, thread: Thread, base: Descriptor | None, path: str, follow: bool) -> Found:
         """Resolves a path for a thread, and lists the links on its way."""
-        directory = base.path if base is not None and base.path is not None else thread.place.directory
-        if not path.startswith("/") and (base is None or base.number == AT_FDCWD):
-            directory = self._working_directory(thread, base)
+        if base is None or base.number == AT_FDCWD:
+            directory = self._working_directory(thread, base, relative=not path.startswith("/"))
+        else:
+            directory = base.path if base.path is not None else thread.place.directory
         links = self._links
         if links is None or links.thread is not thread:
             links = self._links = ThreadLinks(self, thread)
@@ -195,14 +196,16 @@ class Scene:
             self.through.add(int(link[1]))
         return found
 
-    def _working_directory(self, thread: Thread, base: Descriptor | None) -> str:
-        """The working directory of the present call, which strace tells for some calls as it was when they began."""
+    def _working_directory(self, thread: Thread, base: Descriptor | None, *, relative: bool) -> str:
+        """The working directory of the present call, which strace tells for some calls as it was when they began.
+
+        For a relative path it must be known whether another thread has gone elsewhere since.
+        """
         place, call = thread.place, self.call
-        if call is not None and (call.line < place.since or self._is_moving(call, place)):
-            raise CannotSay(MOVING)
-        if base is not None and base.path is not None:
+        moves = call is not None and (call.line < place.since or self._is_moving(call, place))
+        if not moves and base is not None and base.path is not None:
             place.directory, place.unsure = base.path, False
-        if place.unsure:
+        if relative and (moves or place.unsure):
             raise CannotSay(MOVING)
         return place.directory
 
