@@ -6,14 +6,9 @@ the whole policy.
 
 from __future__ import annotations
 
-import re
-from collections import Counter
 from dataclasses import dataclass, field
 
-#: A table's header, as `[[layer.path_beneath]]`.
-_HEADER = re.compile(r"\[\[\s*layer\s*(?:\.\s*(path_beneath|net_port)\s*)?\]\]")
-#: What is before a comment on a line: texts in either quotes, and anything else but a hash.
-_BEFORE_COMMENT = re.compile(r"""(?:"(?:[^"\\]|\\.)*"|'[^']*'|[^"'#])*""")
+from . import outline
 
 
 @dataclass
@@ -33,38 +28,14 @@ class Comments:
 
 
 def read(text: str) -> Comments:
-    """The comments in the text of a policy that reads."""
+    """The comments in the text of a policy that reads; those on what is no part of the policy are left out."""
     found = Comments()
-    waiting: list[str] = []
-    layer, here, rules = 0, "", Counter[str]()
-    for line in text.splitlines():
-        code, comment = _split(line)
-        header = _HEADER.match(code)
-        if header is not None:
-            kind = header[1]
-            if kind is None:
-                layer, here, rules = layer + 1, "", Counter()
-            else:
-                rules[kind] += 1
-                here = f"{kind} {rules[kind]}"
-            found.parts.setdefault((layer, here), []).extend(waiting)
-            waiting = []
-        if comment is None:
-            if not code and layer == 0:
-                found.whole.extend(waiting)
-                waiting = []
-        elif code:
-            found.parts.setdefault((layer, here), []).append(comment)
-        else:
-            waiting.append(comment)
-    if waiting:
-        (found.parts.setdefault((layer, here), []) if layer else found.whole).extend(waiting)
+    for path, comment in outline.of(text).comments:
+        match path:
+            case ():
+                found.whole.append(comment)
+            case ("layer", int(layer)):
+                found.parts.setdefault((layer + 1, ""), []).append(comment)
+            case ("layer", int(layer), kind, int(rule)):
+                found.parts.setdefault((layer + 1, f"{kind} {rule + 1}"), []).append(comment)
     return found
-
-
-def _split(line: str) -> tuple[str, str | None]:
-    """What a line says, and its comment."""
-    before = _BEFORE_COMMENT.match(line)
-    end = before.end() if before is not None else 0
-    comment = line[end + 1 :].strip() if line[end : end + 1] == "#" else None
-    return line[:end].strip(), comment

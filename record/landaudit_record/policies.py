@@ -25,6 +25,7 @@ a note, since one group is for many machines.
 
 from __future__ import annotations
 
+import re
 from collections.abc import Callable, Iterator, Mapping, Sequence
 from dataclasses import dataclass, replace
 from functools import cache
@@ -33,7 +34,7 @@ from typing import Any, TypeVar
 
 from . import documents
 from .documents import Place, check_keys, listed, one_or_several, tables, unknown
-from .rights import FS, NET, NONE, Family, Rights
+from .rights import FS, NET, NEWER, NEWEST_ABI, NONE, Family, Rights
 
 ACCEPTED = "accepted"
 """A key that is not part of the policy: refusals that are known and accepted, which `accepting` reads."""
@@ -45,6 +46,9 @@ GROUPS = Path(__file__).resolve().parent / "groups"
 
 SCOPES = ("abstract_unix_socket", "signal")
 LONGEST_PATH = 4096
+
+_CONSTANT = re.compile(r"LANDLOCK_ACCESS_(?:FS|NET)_")
+"""How the names of rights begin in the kernel's header."""
 
 T = TypeVar("T")
 
@@ -186,9 +190,9 @@ def _scopes(value: Any, place: Place) -> tuple[str, ...]:
     """The scopes of a layer, by the names of the kernel's constants (landlock_create_ruleset(2))."""
     if not isinstance(value, list):
         place.fault(f"must be a list of scopes, of {listed(SCOPES)}")
-    for word in value:
+    for number, word in enumerate(value):
         if word not in SCOPES:
-            place.fault(f"unknown scope {unknown(str(word), SCOPES)}")
+            place.at(number).fault(f"unknown scope {unknown(str(word), SCOPES)}")
     return tuple(value)
 
 
@@ -238,16 +242,26 @@ def _access(value: Any, family: Family, place: Place) -> Access:
         place.fault(f"must be a list of rights {family.what}, of {listed(family.words())}")
     outright: set[str] = set()
     grouped: set[str] = set()
-    for word in value:
+    for number, word in enumerate(value):
         if not isinstance(word, str):
-            place.fault(f"{word!r} is not the name of a right: use {listed(family.words())}")
+            place.at(number).fault(f"{word!r} is not the name of a right: use {listed(family.words())}")
         elif word in family.groups:
             grouped |= family.groups[word]
         elif word in family.since:
             outright.add(word)
         else:
-            place.fault(f"unknown right {family.what} {unknown(word, family.words())}")
+            place.at(number).fault(_no_right(word, family))
     return Access(frozenset(outright), frozenset(grouped))
+
+
+def _no_right(word: str, family: Family) -> str:
+    """What is wrong with a word that is no right: it may be one of a newer ABI, or a name in the kernel's header."""
+    named = _CONSTANT.sub("", word).lower()
+    if named in family.since:
+        return f"{word!r} is written {named!r} here"
+    if named in NEWER:
+        return f"{word!r} is a right of a newer ABI than {NEWEST_ABI}, the newest that is judged here: leave it out"
+    return f"unknown right {family.what} {unknown(word, family.words())}"
 
 
 def _parent(value: Any, place: Place) -> str:

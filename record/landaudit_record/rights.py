@@ -65,6 +65,8 @@ _FS_SINCE = {
     "truncate": 3,
     "ioctl_dev": 5,
 }
+# Rights of newer ABIs, which nothing here judges.
+NEWER = ("resolve_unix",)
 _NET_SINCE = {"bind_tcp": 4, "connect_tcp": 4}
 _READ = frozenset({"read_file", "read_dir"})
 _EXECUTE = frozenset({"execute"})

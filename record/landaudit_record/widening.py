@@ -65,14 +65,19 @@ def _merged(paths: OnPaths, merger: _Merger) -> OnPaths:
 
 
 def _cheapest(paths: OnPaths, objects: Objects, excess: int) -> _Merger:
-    """The merger that grants least for each rule that it saves; rules saved beyond the excess do not count."""
+    """The merger that grants least for each rule that it saves; rules saved beyond the excess do not count.
+
+    One that reaches secrets is taken only if all do.
+    """
     under: dict[str, list[str]] = defaultdict(list)
     for place in paths:
         for over in upwards(place):
             under[over].append(place)
     mergers = (it for directory, places in under.items() if len(places) > 1
                for it in _mergers(directory, places, paths, objects))
-    ordered = sorted(mergers, key=lambda it: (it.cost / min(it.fewer, excess), -len(it.directory), it.directory, it.cost))
+    ordered = sorted(
+        mergers, key=lambda it: (it.cost / min(it.fewer, excess), -len(it.directory), it.directory, it.cost)
+    )
     return next((it for it in ordered if not it.reaches_secrets()), ordered[0])
 
 

@@ -142,7 +142,7 @@ class Widening(Disk):
         self.assertEqual({rule.place for rule in found}, {"/proc", str(self.top)})
 
     def test_a_join_that_reaches_secrets_is_the_last(self) -> None:
-        """That of two files in a folder of five is cheaper than that in one of thirty, but one of the five is secret."""
+        """Joining two files of a folder of five is cheaper than two of thirty, but one of the five is secret."""
         names = ("some/f0", "some/f1", "many/f0", "many/f1")
         with mock.patch.object(sensitive, "SECRETS", (self.path("some/f4"),)):
             self.assertEqual(set(self.granted(3, *names)), {"some/f0", "some/f1", "many"})
@@ -150,8 +150,8 @@ class Widening(Disk):
         self.assertEqual(set(self.granted(3, *names)), {"some", "many/f0", "many/f1"})
 
     def test_a_rule_that_reaches_secrets_only_with_more_rights(self) -> None:
-        paths = {"some": asked("read_dir"), "some/f0": asked("read_file", call=2), "many/f0": asked("read_file", call=3),
-                 "many/f1": asked("read_file", call=4)}
+        paths = {"some": asked("read_dir"), "some/f0": asked("read_file", call=2),
+                 "many/f0": asked("read_file", call=3), "many/f1": asked("read_file", call=4)}
         with mock.patch.object(sensitive, "SECRETS", (self.path("some/f4"),)):
             places = {rule.place for rule in self.rules(3, paths)}
         self.assertEqual(places, {self.path(name) for name in ("some", "some/f0", "many")})

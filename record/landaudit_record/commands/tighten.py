@@ -8,7 +8,7 @@ from collections.abc import Iterator, Sequence
 from dataclasses import replace
 from pathlib import Path
 
-from .. import RECORDER, comments, landaudit, policies, policy_text, together
+from .. import RECORDER, comments, documents, landaudit, policies, policy_text, together
 from ..distilling import Distilling, Question
 from ..options import add_abi, add_as_recorded, add_landaudit, add_program, add_recordings, note
 from ..policies import PathRule, Policy, PortRule
@@ -109,7 +109,7 @@ def _toml(done: Tightened, tightening: Tightening) -> Iterator[str]:
         calls = tightening.calls(one for on in places(rule) for one in by_place[layer, rule.place, on])
         return f"needed by {counted(calls, 'call')}" if calls else "kept: it is not known where its parent led"
 
-    written = comments.read(done.policy.path.read_text(encoding="utf-8"))
+    written = comments.read(documents.text_of(done.policy.path))
     yield f"# {counted(done.taken, 'right')} removed that these recordings don't need ({done.audits} audits)"
     yield from policy_text.lines(done.policy, written, remark)
 

@@ -4,7 +4,7 @@ from __future__ import annotations
 
 import argparse
 
-from .. import comments, exporting, policies
+from .. import comments, documents, exporting, policies
 from ..options import add_policy
 
 NAME = "export"
@@ -26,7 +26,7 @@ def add_arguments(parser: argparse.ArgumentParser) -> None:
 def run(arguments: argparse.Namespace) -> int:
     """Prints the code."""
     policy = policies.read(arguments.policy)
-    written = comments.read(arguments.policy.read_text(encoding="utf-8"))
+    written = comments.read(documents.text_of(arguments.policy))
     for line in exporting.c_code(policy, written):
         print(line)
     return 0
