@@ -56,6 +56,20 @@ class LiveSuggesting(unittest.TestCase):
         confined = self.confined()
         self.assertEqual((confined.returncode, confined.stdout), (0, "a\nb\n"), confined.stderr)
 
+    def test_fewer_rules_reach_secrets_last(self) -> None:
+        """A rule on all of /etc has fewer objects than one on libraries, but would let the passwords be read."""
+        recording = self.folder / "rec"
+        command = ["env", "LC_ALL=C", "sort"]
+        self.assertEqual(self.recorder("run", recording, "--", *command, "/etc/passwd").returncode, 0)
+        fewer = self.recorder("suggest", recording, "--policy", self.policy, "--rules", "6")
+        self.assertEqual(fewer.returncode, 0, fewer.stderr)
+        self.assertLessEqual(fewer.stdout.count("[[layer."), 6)
+        self.assertNotIn("warning", fewer.stdout)
+        self.policy.write_text(DENY + fewer.stdout)
+        for file, status in (("/etc/passwd", 0), ("/etc/shadow", 2)):
+            run = self.run_in_work([sys.executable, CONFINER, "confine", self.policy, "--", *command, file])
+            self.assertEqual(run.returncode, status, run.stderr)
+
 
 if __name__ == "__main__":
     unittest.main()

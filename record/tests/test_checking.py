@@ -6,12 +6,15 @@ import contextlib
 import io
 import shutil
 import subprocess
+import sys
 import tempfile
 import unittest
 from pathlib import Path
 
 from landaudit_record import cli, tap
 from landaudit_record.landaudit import BUILT
+
+from .live_actor import CONFINER
 
 POLICY = """[[layer]]
 handled_access_fs = ["all"]
@@ -91,6 +94,20 @@ class Checking(unittest.TestCase):
         status, lines, errors = self.checked(case, policy)
         self.assertEqual(lines[:2], ["TAP version 13", "1..1"], errors)
         return status, lines[2:]
+
+    @unittest.skipIf(shutil.which("prove") is None, "prove is not installed")
+    def test_prove_runs_it(self) -> None:
+        """The command that docs/CI.md names: each case is a test of prove(1)."""
+        (self.folder / "P.toml").write_text(POLICY.replace("@", str(self.folder)))
+        case = '[[refused]]\ncall = "open r"\npath = "{}/{}/file"\n'
+        for name, failed in (("closed", 0), ("open", 1)):
+            cases = self.folder / f"{name}.toml"
+            cases.write_text(case.format(self.folder, name) + '[[refused]]\ncall = "mount"\n')
+            run = f"{sys.executable} {CONFINER} check {self.folder / 'P.toml'}"
+            proved = subprocess.run(["prove", "--exec", run, str(cases)], capture_output=True, text=True)
+            self.assertEqual(proved.returncode, failed, proved.stdout + proved.stderr)
+            self.assertNotIn("Parse errors", proved.stdout)
+            self.assertIn("Tests=2", proved.stdout)
 
     def test_what_is_refused_names_the_layer_and_the_missing_right(self) -> None:
         self.assertEqual(
