@@ -21,11 +21,11 @@ _TOKEN = re.compile(
     | (?P<mark>[][{}=,.]) | (?P<word>[^][{}=,.\#"'\s]+)''',
     re.VERBOSE | re.DOTALL,
 )
-_PART = r"""(?:[A-Za-z0-9_-]+|"(?:\\.|[^"\\\n])*"|'[^'\n]*')"""
+_PART = r"""(?:[A-Za-z0-9_-]++|"(?:\\.|[^"\\\n])*+"|'[^'\n]*+')"""
 MOST_PARTS = 64
 """The most parts of a dotted key: `tomllib` takes a time that grows with the square of their number."""
 
-_LONG_KEY = re.compile(rf"{_PART}(?:[ \t]*\.[ \t]*{_PART}){{{MOST_PARTS}}}")
+_LONG_KEY = re.compile(rf"""(?<![\\\w"'-]){_PART}(?:[ \t]*+\.[ \t]*+{_PART}){{{MOST_PARTS}}}""", re.ASCII)
 
 
 class _Token(NamedTuple):

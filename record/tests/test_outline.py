@@ -118,7 +118,11 @@ class Places(unittest.TestCase):
                 read(f"{LAYER}# x\n{key}b = 1\n")
             self.assertEqual(caught.exception.status, UNREADABLE)
             self.assertIn("line 4: a key has more than 64 parts", str(caught.exception))
-        self.assertLess(time.process_time() - began, 2)
+        for text in ("a" * 10**6, '\\"' * 10**5, '"' * 10**5, "'" * 10**5, "a." * 60 + "a" * 10**5, '" ' * 10**5,
+                     "." * 10**6, "a . " * 60 + "= " * 10**5, '"""' + '\\"""' * 10**5):
+            with self.subTest(text[:9]):
+                self.assertIsNone(outline.long_key(text))
+        self.assertLess(time.process_time() - began, 5)
         read(LAYER + RULE.replace("/a", "/" + "a." * 200))
 
 
