@@ -15,7 +15,7 @@ from __future__ import annotations
 from collections import defaultdict
 from collections.abc import Iterable, Iterator, Mapping, Sequence
 from dataclasses import dataclass
-from functools import cached_property
+from functools import cache, cached_property
 
 from . import fitting
 from .policies import HIGHEST_PORT, Layer, Policy
@@ -124,6 +124,7 @@ def _directories(policies: Sequence[Policy]) -> Iterator[tuple[str, int]]:
                 yield from ((as_named(parent), abi) for parent in rule.parents if not parent.endswith("/"))
 
 
+@cache
 def as_named(path: str) -> str:
     """A path as a policy names it, without doubled slashes, `.` and `..`. No link is followed, on any tree."""
     return Tree().resolved(path)

@@ -1,7 +1,8 @@
 """Where a path leads: symbolic links, `.` and `..` as the kernel walks them (path_resolution(7)).
 
-All commands resolve the parents of a policy by `walked`. They differ in what they know of the objects on the way: a
-recording's tree and what it kept (`surroundings`), or the disk of this machine.
+All commands that judge a policy resolve its parents by `walked`. They differ in what they know of the objects on the
+way: a recording's tree and what it kept (`surroundings`), or the disk of this machine. `confine`, and the code that
+`export` prints, open the parents, so that the kernel resolves them.
 """
 
 from __future__ import annotations

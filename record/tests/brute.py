@@ -1,18 +1,19 @@
 #!/usr/bin/env python3
-"""Random policies by brute force: whether what landaudit-policy diff and landaudit-record tighten say of them holds.
+"""Random policies by brute force: whether what landaudit-policy diff and check and landaudit-record tighten say holds.
 
-    record/tests/brute.py [--pairs N] [--calls N] [--policies N] [--records N] [--first SEED] [--landaudit PATH]
+    record/tests/brute.py [--pairs N] [--calls N] [--checks N] [--cases N] [--policies N] [--records N] [--first SEED]
+                          [--landaudit PATH]
 
 Of each pair of policies, random calls on random trees are asked of landaudit under both. Where one policy alone lets a
 call pass, a line of `diff` is to cover something that the call needs; and a line is to cover a call that needs one
 thing alone only where that differs. In half of the trees, the objects that policies have rules on are elsewhere, in one
 another, and files have several names: there a line is to name a right that the call needs. For each line on objects
 that are moved, a tree is made in which they are as it says. Paths are on this disk, where some of them are by way of
-links; policies have scopes and groups of rules.
+links; policies have scopes and groups of rules. Random cases about files on this disk are checked (`random_checks`).
 
 Of each policy of ten rules `tighten` makes another for random recordings: it is to grant nothing more and refuse nothing
-new, and each right on each path and port is taken from it by itself, to see that something is refused.
-Policies with a rule that the kernel refuses are counted apart: `tighten` is to name such a rule.
+new, and each right on each path and port is taken from it by itself, to see that something is refused. Policies with a
+rule that the kernel refuses are counted apart: `tighten` is to name such a rule.
 """
 
 from __future__ import annotations
@@ -40,7 +41,7 @@ from landaudit_record.jsonl import Record  # noqa: E402
 from landaudit_record.problems import UNREADABLE, Problem  # noqa: E402
 from landaudit_record.rights import FS, NET, NEWEST_ABI, OLDEST_ABI, alone  # noqa: E402
 from landaudit_record.trees import ROOT, joined  # noqa: E402
-from tests import covering  # noqa: E402
+from tests import covering, random_checks  # noqa: E402
 from tests.random_calls import Call, Caller, Move, Port, Right  # noqa: E402
 from tests.random_policies import (  # noqa: E402
     GROUPS, LINKS, NAMES, Kinds, Layer, Maker, Names, Policy, Rule, granted, meant, plain,
@@ -189,7 +190,7 @@ class Pair:
         records: list[Record] = []
         first: list[int] = []
         for pid, policy in enumerate((self.old, self.new), start=1):
-            own = policy.records(kinds, names)
+            own = policy.records(kinds, None if names is None else lambda path: names.get(plain(path), ()))
             records += [{"op": "start", "pid": pid}, *({**record, "pid": pid} for record in own)]
             first.append(len(records))
             records += [{**record, "pid": pid} for record in asked]
@@ -563,6 +564,8 @@ def main() -> int:
     for name, value, text in (
         ("pairs", 500, "pairs of policies to compare"),
         ("calls", 2000, "calls of each pair"),
+        ("checks", 200, "policies to check"),
+        ("cases", 60, "cases of each check"),
         ("policies", 200, "policies to tighten"),
         ("records", 300, "calls of each recording"),
         ("first", 0, "the first seed"),
@@ -583,6 +586,7 @@ def _all_tried(program: Path, wanted: argparse.Namespace, ground: Ground) -> int
     """Tries all pairs and policies that are wanted, and gives the number of faults."""
     faults = 0
     of_pairs = "pairs: {calls:,} calls, {differ:,} differ, {faults:,} faults"
+    of_checks = "policies checked: {calls:,} cases, {faults:,} faults"
     of_policies = ("policies: {calls:,} records, {differ:,} rights are left, "
                    "{told:,} policies with a rule that the kernel refuses, {faults:,} faults")
 
@@ -592,7 +596,12 @@ def _all_tried(program: Path, wanted: argparse.Namespace, ground: Ground) -> int
     def policy(seed: int) -> Tried:
         return tightened(program, seed, wanted.records)
 
-    for what, said, count in ((pair, of_pairs, wanted.pairs), (policy, of_policies, wanted.policies)):
+    def check(seed: int) -> Tried:
+        cases, found = random_checks.faults(program, seed, wanted.cases)
+        return Tried(cases, 0, found)
+
+    for what, said, count in ((pair, of_pairs, wanted.pairs), (check, of_checks, wanted.checks),
+                              (policy, of_policies, wanted.policies)):
         total = Tried(0, 0, [])
         for seed in range(wanted.first, wanted.first + count):
             tried = what(seed)

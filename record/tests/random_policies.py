@@ -9,7 +9,7 @@ from __future__ import annotations
 import posixpath
 import random
 import re
-from collections.abc import Collection, Iterable, Iterator, Sequence
+from collections.abc import Callable, Collection, Iterable, Iterator, Sequence
 from dataclasses import dataclass, replace
 
 from landaudit_record.jsonl import Record
@@ -23,6 +23,8 @@ MOST_OBJECTS = 60
 RULESET = 1
 Kinds = dict[str, str]
 Names = dict[str, list[str]]
+Led = Callable[[str], Iterable[str]]
+"""The names in a tree of the object to which a path of a policy leads; none where it leads to nothing."""
 
 
 def meant(words: Iterable[str], family: Family) -> Rights:
@@ -101,15 +103,15 @@ class Layer:
             for rule in rules:
                 yield f"[[layer.{table}]]\nallowed_access = {_listed(rule.words)}\n{place} = {_listed(rule.on)}"
 
-    def records(self, kinds: Kinds, names: Names | None = None) -> Iterator[Record]:
+    def records(self, kinds: Kinds, led: Led | None = None) -> Iterator[Record]:
         """The records that a process makes this layer by, on a tree: `rule` says of which rule one is.
 
-        `names` has the names in the tree of objects that are elsewhere than a policy says; others are where it says.
+        `led` says where the objects of its paths are, if they are not where the paths say.
         """
         handled, handled_net = meant(self.fs, FS), meant(self.net, NET)
         yield {"op": "create", "rs": RULESET, "fs": FS.ordered(handled), "net": NET.ordered(handled_net)}
         for number, rule in enumerate(self.on_paths, start=1):
-            for on, path in _named(rule, names):
+            for on, path in _named(rule, led):
                 rights = granted(rule, handled, kinds.get(path))
                 if path in kinds and rights:
                     of_rule: Record = {"rs": RULESET, "rule": f"path {number}", "on": on}
@@ -130,11 +132,10 @@ def _mended(rules: Iterable[Rule], handled_words: Iterable[str], family: Family)
             yield Rule(words, rule.on)
 
 
-def _named(rule: Rule, names: Names | None) -> Iterator[tuple[str, str]]:
+def _named(rule: Rule, led: Led | None) -> Iterator[tuple[str, str]]:
     """The paths of a rule, each with the names of the object that is there."""
     for on in map(str, rule.on):
-        path = plain(on)
-        yield from ((on, name) for name in ((path,) if names is None or path == ROOT else names.get(path, ())))
+        yield from ((on, name) for name in ((plain(on),) if led is None or plain(on) == ROOT else led(on)))
 
 
 def granted(rule: Rule, handled: Rights, kind: str | None) -> Rights:
@@ -168,11 +169,11 @@ class Policy:
         """The policy's file."""
         return "\n".join(line for layer in self.layers for line in layer.toml()) + "\n"
 
-    def records(self, kinds: Kinds, names: Names | None = None) -> list[Record]:
+    def records(self, kinds: Kinds, led: Led | None = None) -> list[Record]:
         """The records by which a process confines itself, without its pid: `layer` says of which layer one is."""
         made: list[Record] = [{"op": "nnp"}]
         for number, layer in enumerate(self.layers, start=1):
-            made += [{**record, "layer": number} for record in layer.records(kinds, names)]
+            made += [{**record, "layer": number} for record in layer.records(kinds, led)]
         return made
 
     @property

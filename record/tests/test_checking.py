@@ -14,6 +14,7 @@ from pathlib import Path
 from landaudit_record import cli, tap
 from landaudit_record.landaudit import BUILT
 
+from . import random_checks
 from .live_actor import CONFINER
 
 POLICY = """[[layer]]
@@ -180,6 +181,14 @@ class Checking(unittest.TestCase):
             errors,
             "landaudit-policy: @/cases.toml: rmdir @/open/file: Landlock is not asked: @/open/file is a regular file\n",
         )
+
+    def test_random_cases_about_files_of_this_disk(self) -> None:
+        cases = 0
+        for seed in range(4):
+            asked, found = random_checks.faults(BUILT, seed, 50)
+            self.assertEqual(found, [])
+            cases += asked
+        self.assertGreater(cases, 100)
 
     def test_a_rule_that_the_kernel_refuses(self) -> None:
         policy = POLICY.replace('allowed_access = ["read"]', 'allowed_access = ["read_dir"]').replace('"@/open"', '"@/open/file"')
