@@ -41,7 +41,8 @@ PACKAGES := packaging/out
 IS_BUILT = $(if $(wildcard $(PROGRAM)),,$(error landaudit is not built: run 'make landaudit' first))
 IS_PROVED = $(if $(wildcard $(CHECK)),,$(error nothing says that $(PROGRAM) is proved: run 'make landaudit' first))
 
-.PHONY: example landaudit install uninstall deb dist test $(TRIED) test-record-first test-record-rest live
+.PHONY: example landaudit witness install uninstall deb dist test $(TRIED) test-record-first test-record-rest \
+	test-witness live
 
 # Builds landaudit without its proofs, and runs it; a refused call (status 1) is an answer as good as another.
 example:
@@ -55,6 +56,10 @@ landaudit:
 	@echo 'proving each crate after those that it depends on, and building landaudit: 20 minutes or more'
 	@cd crates/landaudit && ../../packaging/progress --keep '$(CHECK)' rt run -- --help
 	@echo '$(PROGRAM) is there; sudo make install puts it into $(PREFIX)'
+
+# Builds landaudit-witness, at witness/out/landaudit-witness; says which Debian packages are missing for that.
+witness:
+	@$(MAKE) --no-print-directory -C witness
 
 # The scripts, their modules and the groups of rules stay together in share/landaudit, with the schemas of what they
 # print; they find landaudit beside them in bin.
@@ -103,6 +108,7 @@ test:
 	@log=$$(mktemp); \
 	{ $(MAKE) --no-print-directory --output-sync --jobs 4 $(TRIED) && bench/drive; } > $$log 2>&1; status=$$?; \
 	test $$status -eq 0 || { cat $$log >&2; rm -f '$(GATE)'; }; rm -f $$log; exit $$status
+	@$(MAKE) --no-print-directory test-witness
 
 # The tests of the recorder, in two parts that take about as long as one another.
 test-record: test-record-first test-record-rest
@@ -115,6 +121,12 @@ test-record-rest:
 
 test-packaging:
 	$(call UNIT_TESTS,packaging)
+
+# Builds the witness if what it needs is there, else says that it does not.
+test-witness:
+	@missing=$$($(MAKE) --no-print-directory -C witness missing); \
+	if test -n "$$missing"; then echo "landaudit-witness is not built: Debian packages are missing: $$missing"; \
+	else $(MAKE) --no-print-directory -C witness > /dev/null; fi
 
 refuse-memory:
 	bench/refuse-memory $$(ls $(PROGRAM))

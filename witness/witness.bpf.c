@@ -1,0 +1,562 @@
+/*
+ * Hears what the kernel asks its security modules about the processes that are followed. Each program sends one event,
+ * with the objects that Landlock would visit to answer.
+ *
+ * The programs are made for the functions by which the kernel asks (fexit). The loader can also make them BPF LSM
+ * programs: those have the same arguments, and their last one, the answer, is that of the BPF programs before them.
+ */
+#include "kernel.h"
+#include <linux/bpf.h>
+#include <bpf/bpf_core_read.h>
+#include <bpf/bpf_helpers.h>
+#include <bpf/bpf_tracing.h>
+#include "event.h"
+
+/*
+ * The kernel lets a BPF object call the helpers that read kernel memory only if this section has a word that the kernel
+ * counts as compatible with the GPL. The word is about the source of this object alone (this file, event.h, kernel.h).
+ * It says nothing about the licence of anything else in the repository.
+ */
+char LICENSE[] SEC("license") = "GPL";
+
+#define MOST_BYTES 8192 /* where a node may begin */
+#define BUFFER (MOST_BYTES + sizeof(struct node) + 256)
+#define MOST_STEPS 120
+#define MOST_STACKED 8 /* mounts on one place */
+#define HEARD_ITSELF 1
+#define PIDTYPE_TGID 1
+#define MNT_INTERNAL 0x4000
+#define MOST_ERRORS 4096UL /* a pointer above -4096 is an error */
+
+struct buffer {
+    char bytes[BUFFER];
+};
+
+struct {
+    __uint(type, BPF_MAP_TYPE_RINGBUF);
+    __uint(max_entries, 64 << 20);
+} events SEC(".maps");
+
+/* A buffer for each thread: programs may be preempted, so one for each processor would not do. */
+struct {
+    __uint(type, BPF_MAP_TYPE_TASK_STORAGE);
+    __uint(map_flags, BPF_F_NO_PREALLOC);
+    __type(key, int);
+    __type(value, struct buffer);
+} buffers SEC(".maps");
+
+/* The processes that are followed, each with the number of generations from which on descendants are heard. */
+struct {
+    __uint(type, BPF_MAP_TYPE_HASH);
+    __uint(max_entries, 65536);
+    __type(key, u32);
+    __type(value, u32);
+} followed SEC(".maps");
+
+struct {
+    __uint(type, BPF_MAP_TYPE_PERCPU_ARRAY);
+    __uint(max_entries, COUNTS);
+    __type(key, u32);
+    __type(value, u64);
+} counts SEC(".maps");
+
+/* The depth of the PID namespace in whose numbers events name processes: that of the witness. */
+__u32 level;
+/* How many processes are followed, beside the first. */
+volatile __u64 following;
+
+/* A walk from an object up, as is_access_to_paths_allowed() in the kernel's security/landlock/fs.c does it. */
+struct walk {
+    u64 dentry, mount, root;
+    u32 used, nodes;
+    u8 chain, flags, done, cut;
+};
+
+static __always_inline void count(u32 what)
+{
+    u64 *number = bpf_map_lookup_elem(&counts, &what);
+
+    if (number)
+        (*number)++;
+}
+
+static __always_inline struct buffer *buffer(u64 flags)
+{
+    return bpf_task_storage_get(&buffers, bpf_get_current_task_btf(), 0, flags);
+}
+
+/* The number that a process or thread has in the PID namespace of the witness. */
+static __always_inline u32 number_of(struct pid *pid)
+{
+    u32 number = 0;
+    u64 at = bpf_core_field_offset(struct pid, numbers) + level * bpf_core_type_size(struct upid);
+
+    bpf_probe_read_kernel(&number, sizeof(number), (char *)pid + at + bpf_core_field_offset(struct upid, nr));
+    return number;
+}
+
+static __always_inline u32 process_of(struct task_struct *task)
+{
+    return number_of(BPF_CORE_READ(task, signal, pids[PIDTYPE_TGID]));
+}
+
+static __always_inline void add_object(struct node *node, struct dentry *dentry)
+{
+    struct inode *inode = BPF_CORE_READ(dentry, d_inode);
+
+    node->device = BPF_CORE_READ(dentry, d_sb, s_dev);
+    node->inode = node->generation = node->mode = 0;
+    if (!inode) {
+        node->flags |= MISSING;
+        return;
+    }
+    node->inode = BPF_CORE_READ(inode, i_ino);
+    node->generation = BPF_CORE_READ(inode, i_generation);
+    node->mode = BPF_CORE_READ(inode, i_mode);
+}
+
+/* Adds an object to the chain, under the name of a dentry: its own, or its mountpoint's. */
+static __always_inline void add(struct walk *walk, struct dentry *dentry, u8 flags, struct dentry *named)
+{
+    struct buffer *buffer_ = buffer(0);
+    u32 used = walk->used, length = BPF_CORE_READ(named, d_name.len);
+    struct node *node;
+
+    if (!buffer_ || used >= MOST_BYTES) {
+        walk->done = walk->cut = 1;
+        return;
+    }
+    asm volatile("%0 &= 8191" : "+r"(used)); /* the verifier of Linux 6.1 forgets the bound */
+    if (length > 255)
+        length = 255;
+    asm volatile("%0 &= 255" : "+r"(length));
+    node = (struct node *)(buffer_->bytes + used);
+    node->chain = walk->chain;
+    node->length = length;
+    node->flags = flags | walk->flags;
+    walk->flags = 0;
+    add_object(node, dentry);
+    bpf_probe_read_kernel(buffer_->bytes + used + sizeof(*node), length, BPF_CORE_READ(named, d_name.name));
+    walk->used = used + sizeof(*node) + ((length + 7) & ~7u);
+    walk->nodes++;
+}
+
+/* Adds the root of a mount, and goes to the directory above the mountpoint; what a mount covers is not visited. */
+static __always_inline void leave_mount(struct walk *walk)
+{
+#pragma unroll
+    for (int stacked = 0; stacked < MOST_STACKED; stacked++) {
+        struct mount *mount = (void *)walk->mount, *parent = BPF_CORE_READ(mount, mnt_parent);
+        struct dentry *root = (void *)walk->dentry, *point = BPF_CORE_READ(mount, mnt_mountpoint);
+
+        if (parent == mount) {
+            if (!stacked)
+                add(walk, root, MOUNT | LAST, root);
+            walk->done = 1;
+            return;
+        }
+        if (!stacked)
+            add(walk, root, MOUNT, point);
+        walk->mount = (u64)parent;
+        walk->root = (u64)BPF_CORE_READ(parent, mnt.mnt_root);
+        walk->dentry = (u64)point;
+        if (walk->dentry != walk->root) {
+            walk->dentry = (u64)BPF_CORE_READ(point, d_parent);
+            return;
+        }
+    }
+    walk->done = walk->cut = 1;
+}
+
+static long step(u32 number, struct walk *walk)
+{
+    struct dentry *dentry = (void *)walk->dentry, *parent;
+    struct mount *mount = (void *)walk->mount;
+
+    if (walk->dentry == walk->root) {
+        leave_mount(walk);
+        return walk->done != 0;
+    }
+    parent = BPF_CORE_READ(dentry, d_parent);
+    if (parent == dentry) {
+        add(walk, dentry, DETACHED | (BPF_CORE_READ(mount, mnt.mnt_flags) & MNT_INTERNAL ? INTERNAL : 0), dentry);
+        walk->done = 1;
+        return 1;
+    }
+    add(walk, dentry, 0, dentry);
+    walk->dentry = (u64)parent;
+    return walk->done != 0;
+}
+
+/* Adds an object and what is above it. */
+static __always_inline void go_up(struct walk *walk, struct vfsmount *mount, struct dentry *dentry, u8 flags)
+{
+    if (walk->cut)
+        return;
+    walk->dentry = (u64)dentry;
+    walk->mount = (u64)mount - bpf_core_field_offset(struct mount, mnt);
+    walk->root = (u64)BPF_CORE_READ(mount, mnt_root);
+    walk->flags = flags;
+    walk->done = 0;
+    bpf_loop(MOST_STEPS, step, walk, 0);
+    if (!walk->done)
+        walk->cut = 1;
+}
+
+static __always_inline void go_up_from(struct walk *walk, const struct path *path, u8 chain)
+{
+    walk->chain = chain;
+    go_up(walk, BPF_CORE_READ(path, mnt), BPF_CORE_READ(path, dentry), OBJECT);
+}
+
+/* Adds a name in a directory, and what is above it. */
+static __always_inline void go_up_from_name(struct walk *walk, const struct path *directory, struct dentry *name,
+                                            u8 chain)
+{
+    walk->chain = chain;
+    add(walk, name, OBJECT, name);
+    go_up(walk, BPF_CORE_READ(directory, mnt), BPF_CORE_READ(directory, dentry), 0);
+}
+
+/* Begins an event, if the process is one of those that are heard. */
+static __always_inline struct event *begin(struct walk *walk, u32 hook)
+{
+    struct task_struct *task = bpf_get_current_task_btf();
+    u32 process = bpf_get_current_pid_tgid() >> 32;
+    u32 *generations = bpf_map_lookup_elem(&followed, &process);
+    struct buffer *buffer_;
+    struct event *event;
+
+    if (!generations || *generations != HEARD_ITSELF)
+        return 0;
+    buffer_ = buffer(BPF_LOCAL_STORAGE_GET_F_CREATE);
+    if (!buffer_) {
+        count(ROOMLESS);
+        return 0;
+    }
+    event = (struct event *)buffer_->bytes;
+    __builtin_memset(event, 0, sizeof(*event));
+    event->time = bpf_ktime_get_ns();
+    event->hook = hook;
+    event->pid = process_of(task);
+    event->tid = number_of(BPF_CORE_READ(task, thread_pid));
+    bpf_get_current_comm(event->comm, sizeof(event->comm));
+    __builtin_memset(walk, 0, sizeof(*walk));
+    walk->used = sizeof(*event);
+    return event;
+}
+
+static __always_inline int end(struct walk *walk, struct event *event, int answer)
+{
+    u32 length = walk->used;
+
+    event->answer = answer;
+    event->nodes = walk->nodes;
+    event->cut = walk->cut;
+    if (length > BUFFER)
+        length = BUFFER;
+    count(HEARD);
+    if (walk->cut)
+        count(CUT);
+    if (bpf_ringbuf_output(&events, event, length, BPF_RB_NO_WAKEUP))
+        count(LOST);
+    return 0;
+}
+
+#define BEGIN(HOOK) \
+    struct walk walk; \
+    struct event *event = begin(&walk, HOOK); \
+    if (!event) \
+        return 0
+
+static __always_inline void add_file(struct walk *walk, struct event *event, struct file *file)
+{
+    event->file = (u64)file;
+    event->values[0] = BPF_CORE_READ(file, f_flags);
+    event->values[1] = BPF_CORE_READ(file, f_mode);
+    walk->chain = 0;
+    go_up(walk, BPF_CORE_READ(file, f_path.mnt), BPF_CORE_READ(file, f_path.dentry), OBJECT);
+}
+
+SEC("fexit/security_file_open")
+int BPF_PROG(file_open, struct file *file, int answer)
+{
+    BEGIN(FILE_OPEN);
+    /* Asked for someone else: overlayfs opens files of its layers with the credentials of who mounted it. */
+    event->values[2] = BPF_CORE_READ(file, f_cred) != BPF_CORE_READ(bpf_get_current_task_btf(), real_cred);
+    add_file(&walk, event, file);
+    return end(&walk, event, answer);
+}
+
+SEC("fexit/security_file_truncate")
+int BPF_PROG(file_truncate, struct file *file, int answer)
+{
+    BEGIN(FILE_TRUNCATE);
+    add_file(&walk, event, file);
+    return end(&walk, event, answer);
+}
+
+SEC("fexit/security_file_ioctl")
+int BPF_PROG(file_ioctl, struct file *file, unsigned int command, unsigned long argument, int answer)
+{
+    BEGIN(FILE_IOCTL);
+    event->values[2] = command;
+    add_file(&walk, event, file);
+    return end(&walk, event, answer);
+}
+
+SEC("fexit/security_file_ioctl_compat")
+int BPF_PROG(file_ioctl_compat, struct file *file, unsigned int command, unsigned long argument, int answer)
+{
+    BEGIN(FILE_IOCTL_COMPAT);
+    event->values[2] = command;
+    add_file(&walk, event, file);
+    return end(&walk, event, answer);
+}
+
+SEC("fexit/security_path_mknod")
+int BPF_PROG(path_mknod, const struct path *directory, struct dentry *name, u16 mode, unsigned int device, int answer)
+{
+    BEGIN(PATH_MKNOD);
+    event->values[0] = mode;
+    go_up_from_name(&walk, directory, name, 0);
+    return end(&walk, event, answer);
+}
+
+SEC("fexit/security_path_mkdir")
+int BPF_PROG(path_mkdir, const struct path *directory, struct dentry *name, u16 mode, int answer)
+{
+    BEGIN(PATH_MKDIR);
+    go_up_from_name(&walk, directory, name, 0);
+    return end(&walk, event, answer);
+}
+
+SEC("fexit/security_path_symlink")
+int BPF_PROG(path_symlink, const struct path *directory, struct dentry *name, const char *target, int answer)
+{
+    BEGIN(PATH_SYMLINK);
+    go_up_from_name(&walk, directory, name, 0);
+    return end(&walk, event, answer);
+}
+
+SEC("fexit/security_path_unlink")
+int BPF_PROG(path_unlink, const struct path *directory, struct dentry *name, int answer)
+{
+    BEGIN(PATH_UNLINK);
+    go_up_from_name(&walk, directory, name, 0);
+    return end(&walk, event, answer);
+}
+
+SEC("fexit/security_path_rmdir")
+int BPF_PROG(path_rmdir, const struct path *directory, struct dentry *name, int answer)
+{
+    BEGIN(PATH_RMDIR);
+    go_up_from_name(&walk, directory, name, 0);
+    return end(&walk, event, answer);
+}
+
+SEC("fexit/security_path_rename")
+int BPF_PROG(path_rename, const struct path *from, struct dentry *name, const struct path *to, struct dentry *new_name,
+             unsigned int flags, int answer)
+{
+    BEGIN(PATH_RENAME);
+    event->values[0] = flags;
+    go_up_from_name(&walk, from, name, 0);
+    go_up_from_name(&walk, to, new_name, 1);
+    return end(&walk, event, answer);
+}
+
+/* A link's source has no path: Landlock takes the mount of the new directory. */
+SEC("fexit/security_path_link")
+int BPF_PROG(path_link, struct dentry *from, const struct path *to, struct dentry *new_name, int answer)
+{
+    BEGIN(PATH_LINK);
+    go_up(&walk, BPF_CORE_READ(to, mnt), from, OBJECT);
+    go_up_from_name(&walk, to, new_name, 1);
+    return end(&walk, event, answer);
+}
+
+SEC("fexit/security_path_truncate")
+int BPF_PROG(path_truncate, const struct path *path, int answer)
+{
+    BEGIN(PATH_TRUNCATE);
+    go_up_from(&walk, path, 0);
+    return end(&walk, event, answer);
+}
+
+SEC("fexit/security_sb_mount")
+int BPF_PROG(sb_mount, const char *source, const struct path *path, const char *type, unsigned long flags, void *data,
+             int answer)
+{
+    BEGIN(SB_MOUNT);
+    event->values[0] = flags;
+    go_up_from(&walk, path, 0);
+    return end(&walk, event, answer);
+}
+
+SEC("fexit/security_sb_umount")
+int BPF_PROG(sb_umount, struct vfsmount *mount, int flags, int answer)
+{
+    BEGIN(SB_UMOUNT);
+    event->values[0] = flags;
+    go_up(&walk, mount, BPF_CORE_READ(mount, mnt_root), OBJECT);
+    return end(&walk, event, answer);
+}
+
+SEC("fexit/security_sb_pivotroot")
+int BPF_PROG(sb_pivotroot, const struct path *old, const struct path *new, int answer)
+{
+    BEGIN(SB_PIVOTROOT);
+    go_up_from(&walk, old, 0);
+    go_up_from(&walk, new, 1);
+    return end(&walk, event, answer);
+}
+
+SEC("fexit/security_sb_remount")
+int BPF_PROG(sb_remount, struct super_block *file_system, void *options, int answer)
+{
+    BEGIN(SB_REMOUNT);
+    return end(&walk, event, answer);
+}
+
+SEC("fexit/security_move_mount")
+int BPF_PROG(move_mount, const struct path *from, const struct path *to, int answer)
+{
+    BEGIN(MOVE_MOUNT);
+    go_up_from(&walk, from, 0);
+    go_up_from(&walk, to, 1);
+    return end(&walk, event, answer);
+}
+
+static __always_inline void add_address(struct event *event, struct socket *socket, struct sockaddr *address,
+                                        int length)
+{
+    struct {
+        u16 family;
+        u8 port[2];
+    } start = {};
+    struct sock *sock = BPF_CORE_READ(socket, sk);
+
+    bpf_probe_read_kernel(&start.family, length < 2 ? 0 : 2, address);
+    bpf_probe_read_kernel(&start.port, length < 4 ? 0 : 2, (char *)address + 2);
+    event->values[0] = start.family;
+    event->values[1] = start.port[0] << 8 | start.port[1];
+    event->values[2] = (u64)BPF_CORE_READ(socket, type) << 32 | BPF_CORE_READ(sock, sk_protocol);
+    event->values[3] = (u64)BPF_CORE_READ(sock, __sk_common.skc_family) << 32 | (u32)length;
+}
+
+SEC("fexit/security_socket_bind")
+int BPF_PROG(socket_bind, struct socket *socket, struct sockaddr *address, int length, int answer)
+{
+    BEGIN(SOCKET_BIND);
+    add_address(event, socket, address, length);
+    return end(&walk, event, answer);
+}
+
+SEC("fexit/security_socket_connect")
+int BPF_PROG(socket_connect, struct socket *socket, struct sockaddr *address, int length, int answer)
+{
+    BEGIN(SOCKET_CONNECT);
+    add_address(event, socket, address, length);
+    return end(&walk, event, answer);
+}
+
+static __always_inline void add_target(struct event *event, struct task_struct *target)
+{
+    u32 process = BPF_CORE_READ(target, tgid);
+
+    event->values[0] = process_of(target);
+    event->values[1] = bpf_map_lookup_elem(&followed, &process) != 0;
+}
+
+SEC("fexit/security_ptrace_access_check")
+int BPF_PROG(ptrace_access_check, struct task_struct *target, unsigned int mode, int answer)
+{
+    BEGIN(PTRACE_ACCESS_CHECK);
+    add_target(event, target);
+    return end(&walk, event, answer);
+}
+
+SEC("fexit/security_task_kill")
+int BPF_PROG(task_kill, struct task_struct *target, void *info, int signal, const struct cred *cred, int answer)
+{
+    BEGIN(TASK_KILL);
+    add_target(event, target);
+    event->values[2] = signal;
+    return end(&walk, event, answer);
+}
+
+/* A thread restricts itself: Landlock joins its domain and a ruleset, after all checks. */
+SEC("fexit/landlock_merge_ruleset")
+int BPF_PROG(restricted, struct landlock_ruleset *domain, struct landlock_ruleset *ruleset, u64 joined)
+{
+    BEGIN(RESTRICT);
+    return end(&walk, event, joined > -MOST_ERRORS ? joined : 0);
+}
+
+/* Follows a child of a process that is followed; threads are of the same process. */
+static __always_inline void follow(u32 parent, u32 child)
+{
+    u32 *generations = bpf_map_lookup_elem(&followed, &parent);
+    u32 left;
+
+    if (!generations || parent == child)
+        return;
+    left = *generations > HEARD_ITSELF ? *generations - 1 : HEARD_ITSELF;
+    if (bpf_map_update_elem(&followed, &child, &left, BPF_ANY))
+        count(UNFOLLOWED);
+    else
+        __sync_fetch_and_add(&following, 1);
+}
+
+SEC("tp_btf/sched_process_fork")
+int BPF_PROG(forked, struct task_struct *parent, struct task_struct *child)
+{
+    follow(BPF_CORE_READ(parent, tgid), BPF_CORE_READ(child, tgid));
+    BEGIN(FORK);
+    event->values[0] = process_of(child);
+    event->values[1] = number_of(BPF_CORE_READ(child, thread_pid));
+    return end(&walk, event, 0);
+}
+
+SEC("tp_btf/sched_process_exec")
+int BPF_PROG(executed, struct task_struct *task, int old_tid, struct linux_binprm *program)
+{
+    BEGIN(EXEC);
+    return end(&walk, event, 0);
+}
+
+static __always_inline void unfollow(struct task_struct *task)
+{
+    u32 process = BPF_CORE_READ(task, tgid);
+
+    if (BPF_CORE_READ(task, signal, live.counter) == 0 && !bpf_map_delete_elem(&followed, &process))
+        __sync_fetch_and_add(&following, -1);
+}
+
+static __always_inline int tell_exit(void)
+{
+    BEGIN(EXIT);
+    return end(&walk, event, 0);
+}
+
+SEC("tp_btf/sched_process_exit")
+int BPF_PROG(exited, struct task_struct *task)
+{
+    tell_exit();
+    unfollow(task);
+    return 0;
+}
+
+/* Run once by the loader: follows its own process or its parent, with the number of generations that it says. */
+__u32 generations, from_parent;
+
+SEC("raw_tp")
+int start(void *context)
+{
+    struct task_struct *task = bpf_get_current_task_btf();
+    u32 process = from_parent ? BPF_CORE_READ(task, real_parent, tgid) : BPF_CORE_READ(task, tgid);
+
+    level = BPF_CORE_READ(task, thread_pid, level);
+    return bpf_map_update_elem(&followed, &process, &generations, BPF_ANY);
+}
