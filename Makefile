@@ -42,7 +42,7 @@ IS_BUILT = $(if $(wildcard $(PROGRAM)),,$(error landaudit is not built: run 'mak
 IS_PROVED = $(if $(wildcard $(CHECK)),,$(error nothing says that $(PROGRAM) is proved: run 'make landaudit' first))
 
 .PHONY: example landaudit witness install uninstall deb dist test $(TRIED) test-record-first test-record-rest \
-	test-witness live
+	test-witness live kernels
 
 # Builds landaudit without its proofs, and runs it; a refused call (status 1) is an answer as good as another.
 example:
@@ -139,3 +139,8 @@ refuse-tests:
 live:
 	$(call UNIT_TESTS,record) -p 'live_*.py' --verbose
 	record/tests/brute.py --pairs 40 --policies 20
+
+# Records probes with the witness on Debian's kernels 6.1 and 6.12, in QEMU, within 30 minutes; is no part of the gate,
+# and says what it skips and why.
+kernels:
+	witness/tests/kernels

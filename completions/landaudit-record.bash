@@ -3,7 +3,7 @@
 # The options of a subcommand, or what can come instead of one.
 _landaudit_record_words() {
     case $1 in
-        run) echo '-h --help --watch --policy --abi --port-rules --readlink --' ;;
+        run) echo '-h --help --watch --policy --abi --port-rules --readlink --witness --' ;;
         convert) echo '-h --help --port-rules' ;;
         apply) echo '-h --help --out --tree --program --abi' ;;
         audit) echo '-h --help --policy --accepted --program --abi --as-recorded --all --json --html --landaudit' ;;

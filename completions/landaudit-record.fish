@@ -31,6 +31,7 @@ complete -c landaudit-record -n '__landaudit_record_has run convert audit compar
 complete -c landaudit-record -n '__landaudit_record_has apply' -F
 complete -c landaudit-record -n '__landaudit_record_has run' -l watch -x -a '(__fish_complete_directories)' -d 'Directory to list before the run'
 complete -c landaudit-record -n '__landaudit_record_has run' -l readlink -d 'Trace readlink too, since a program may look into other processes with it'
+complete -c landaudit-record -n '__landaudit_record_has run' -l witness -d 'Hear what the kernel asks Landlock, and count what the recording does not have'
 complete -c landaudit-record -n '__landaudit_record_has run convert' -l port-rules -r -F -d 'Policy by which the command restricts itself'
 complete -c landaudit-record -n '__landaudit_record_has run audit suggest tighten' -l policy -r -F -d 'Policy to try'
 complete -c landaudit-record -n '__landaudit_record_has apply audit suggest tighten' -l program -x -a '(__fish_complete_command)' -d 'Put the policy before each run of this program'

@@ -20,16 +20,28 @@
 char LICENSE[] SEC("license") = "GPL";
 
 #define MOST_BYTES 8192 /* where a node may begin */
-#define BUFFER (MOST_BYTES + sizeof(struct node) + 256)
-#define MOST_STEPS 120
-#define MOST_STACKED 8 /* mounts on one place */
+#define MOST_STEPS 256
 #define HEARD_ITSELF 1
 #define PIDTYPE_TGID 1
 #define MNT_INTERNAL 0x4000
 #define MOST_ERRORS 4096UL /* a pointer above -4096 is an error */
 
-struct buffer {
-    char bytes[BUFFER];
+/* A walk from an object up, as is_access_to_paths_allowed() in the kernel's security/landlock/fs.c does it. */
+struct walk {
+    u64 dentry, mount, root;
+    u64 mounted; /* the root of the mount that the walk has left, until it is added; what is below it is not visited */
+    u32 used, nodes;
+    u8 chain, flags, done, cut;
+};
+
+/*
+ * What a program needs to make an event. The walk is in a map and not on the stack: the verifier of Linux 6.1 looks at
+ * the first step of bpf_loop only, and removes what cannot happen with the values that the stack has then.
+ */
+struct room {
+    struct walk walk;
+    struct event event;
+    char nodes[MOST_BYTES + sizeof(struct node) + 256]; /* behind the event, as both are sent */
 };
 
 struct {
@@ -37,13 +49,13 @@ struct {
     __uint(max_entries, 64 << 20);
 } events SEC(".maps");
 
-/* A buffer for each thread: programs may be preempted, so one for each processor would not do. */
+/* A room for each thread: programs may be preempted, so one for each processor would not do. */
 struct {
     __uint(type, BPF_MAP_TYPE_TASK_STORAGE);
     __uint(map_flags, BPF_F_NO_PREALLOC);
     __type(key, int);
-    __type(value, struct buffer);
-} buffers SEC(".maps");
+    __type(value, struct room);
+} rooms SEC(".maps");
 
 /* The processes that are followed, each with the number of generations from which on descendants are heard. */
 struct {
@@ -65,13 +77,6 @@ __u32 level;
 /* How many processes are followed, beside the first. */
 volatile __u64 following;
 
-/* A walk from an object up, as is_access_to_paths_allowed() in the kernel's security/landlock/fs.c does it. */
-struct walk {
-    u64 dentry, mount, root;
-    u32 used, nodes;
-    u8 chain, flags, done, cut;
-};
-
 static __always_inline void count(u32 what)
 {
     u64 *number = bpf_map_lookup_elem(&counts, &what);
@@ -80,9 +85,9 @@ static __always_inline void count(u32 what)
         (*number)++;
 }
 
-static __always_inline struct buffer *buffer(u64 flags)
+static __always_inline struct room *room_of_thread(u64 flags)
 {
-    return bpf_task_storage_get(&buffers, bpf_get_current_task_btf(), 0, flags);
+    return bpf_task_storage_get(&rooms, bpf_get_current_task_btf(), 0, flags);
 }
 
 /* The number that a process or thread has in the PID namespace of the witness. */
@@ -116,13 +121,13 @@ static __always_inline void add_object(struct node *node, struct dentry *dentry)
 }
 
 /* Adds an object to the chain, under the name of a dentry: its own, or its mountpoint's. */
-static __always_inline void add(struct walk *walk, struct dentry *dentry, u8 flags, struct dentry *named)
+static __always_inline void add(struct room *room, struct dentry *dentry, u8 flags, struct dentry *named)
 {
-    struct buffer *buffer_ = buffer(0);
+    struct walk *walk = &room->walk;
     u32 used = walk->used, length = BPF_CORE_READ(named, d_name.len);
     struct node *node;
 
-    if (!buffer_ || used >= MOST_BYTES) {
+    if (used >= MOST_BYTES) {
         walk->done = walk->cut = 1;
         return;
     }
@@ -130,152 +135,163 @@ static __always_inline void add(struct walk *walk, struct dentry *dentry, u8 fla
     if (length > 255)
         length = 255;
     asm volatile("%0 &= 255" : "+r"(length));
-    node = (struct node *)(buffer_->bytes + used);
+    node = (struct node *)(room->nodes + used);
     node->chain = walk->chain;
     node->length = length;
     node->flags = flags | walk->flags;
     walk->flags = 0;
     add_object(node, dentry);
-    bpf_probe_read_kernel(buffer_->bytes + used + sizeof(*node), length, BPF_CORE_READ(named, d_name.name));
+    bpf_probe_read_kernel(room->nodes + used + sizeof(*node), length, BPF_CORE_READ(named, d_name.name));
     walk->used = used + sizeof(*node) + ((length + 7) & ~7u);
     walk->nodes++;
 }
 
-/* Adds the root of a mount, and goes to the directory above the mountpoint; what a mount covers is not visited. */
-static __always_inline void leave_mount(struct walk *walk)
+/* Goes from the root of a mount to the mountpoint, whose name the root gets: it is added when that is known. */
+static __always_inline void leave_mount(struct room *room)
 {
-#pragma unroll
-    for (int stacked = 0; stacked < MOST_STACKED; stacked++) {
-        struct mount *mount = (void *)walk->mount, *parent = BPF_CORE_READ(mount, mnt_parent);
-        struct dentry *root = (void *)walk->dentry, *point = BPF_CORE_READ(mount, mnt_mountpoint);
+    struct walk *walk = &room->walk;
+    struct mount *mount = (void *)walk->mount, *parent = BPF_CORE_READ(mount, mnt_parent);
 
-        if (parent == mount) {
-            if (!stacked)
-                add(walk, root, MOUNT | LAST, root);
-            walk->done = 1;
-            return;
-        }
-        if (!stacked)
-            add(walk, root, MOUNT, point);
-        walk->mount = (u64)parent;
-        walk->root = (u64)BPF_CORE_READ(parent, mnt.mnt_root);
-        walk->dentry = (u64)point;
-        if (walk->dentry != walk->root) {
-            walk->dentry = (u64)BPF_CORE_READ(point, d_parent);
-            return;
-        }
+    if (!walk->mounted)
+        walk->mounted = walk->dentry;
+    if (parent == mount) {
+        add(room, (void *)walk->mounted, MOUNT | LAST, (void *)walk->mounted);
+        walk->done = 1;
+        return;
     }
-    walk->done = walk->cut = 1;
+    walk->dentry = (u64)BPF_CORE_READ(mount, mnt_mountpoint);
+    walk->mount = (u64)parent;
+    walk->root = (u64)BPF_CORE_READ(parent, mnt.mnt_root);
 }
 
-static long step(u32 number, struct walk *walk)
+static __always_inline u8 is_internal(struct walk *walk)
 {
-    struct dentry *dentry = (void *)walk->dentry, *parent;
     struct mount *mount = (void *)walk->mount;
 
-    if (walk->dentry == walk->root) {
-        leave_mount(walk);
-        return walk->done != 0;
-    }
-    parent = BPF_CORE_READ(dentry, d_parent);
-    if (parent == dentry) {
-        add(walk, dentry, DETACHED | (BPF_CORE_READ(mount, mnt.mnt_flags) & MNT_INTERNAL ? INTERNAL : 0), dentry);
+    return BPF_CORE_READ(mount, mnt.mnt_flags) & MNT_INTERNAL ? INTERNAL : 0;
+}
+
+/* Goes from an object to the one above it. */
+static __always_inline void go_on(struct room *room)
+{
+    struct walk *walk = &room->walk;
+    struct dentry *dentry = (void *)walk->dentry, *parent = BPF_CORE_READ(dentry, d_parent);
+
+    if (walk->mounted) {
+        add(room, (void *)walk->mounted, MOUNT, dentry);
+        walk->mounted = 0;
+    } else if (parent == dentry) {
+        add(room, dentry, DETACHED | is_internal(walk), dentry);
         walk->done = 1;
-        return 1;
+    } else {
+        add(room, dentry, 0, dentry);
     }
-    add(walk, dentry, 0, dentry);
     walk->dentry = (u64)parent;
-    return walk->done != 0;
+}
+
+static long step(u32 number, void *nothing)
+{
+    struct room *room = room_of_thread(0);
+
+    if (!room || room->walk.done)
+        return 1;
+    if (room->walk.dentry == room->walk.root)
+        leave_mount(room);
+    else
+        go_on(room);
+    return 0;
 }
 
 /* Adds an object and what is above it. */
-static __always_inline void go_up(struct walk *walk, struct vfsmount *mount, struct dentry *dentry, u8 flags)
+static __always_inline void go_up(struct room *room, struct vfsmount *mount, struct dentry *dentry, u8 flags)
 {
+    struct walk *walk = &room->walk;
+
     if (walk->cut)
         return;
     walk->dentry = (u64)dentry;
     walk->mount = (u64)mount - bpf_core_field_offset(struct mount, mnt);
     walk->root = (u64)BPF_CORE_READ(mount, mnt_root);
     walk->flags = flags;
-    walk->done = 0;
-    bpf_loop(MOST_STEPS, step, walk, 0);
+    walk->mounted = walk->done = 0;
+    bpf_loop(MOST_STEPS, step, 0, 0);
     if (!walk->done)
         walk->cut = 1;
 }
 
-static __always_inline void go_up_from(struct walk *walk, const struct path *path, u8 chain)
+static __always_inline void go_up_from(struct room *room, const struct path *path, u8 chain)
 {
-    walk->chain = chain;
-    go_up(walk, BPF_CORE_READ(path, mnt), BPF_CORE_READ(path, dentry), OBJECT);
+    room->walk.chain = chain;
+    go_up(room, BPF_CORE_READ(path, mnt), BPF_CORE_READ(path, dentry), OBJECT);
 }
 
 /* Adds a name in a directory, and what is above it. */
-static __always_inline void go_up_from_name(struct walk *walk, const struct path *directory, struct dentry *name,
+static __always_inline void go_up_from_name(struct room *room, const struct path *directory, struct dentry *name,
                                             u8 chain)
 {
-    walk->chain = chain;
-    add(walk, name, OBJECT, name);
-    go_up(walk, BPF_CORE_READ(directory, mnt), BPF_CORE_READ(directory, dentry), 0);
+    room->walk.chain = chain;
+    add(room, name, OBJECT, name);
+    go_up(room, BPF_CORE_READ(directory, mnt), BPF_CORE_READ(directory, dentry), 0);
 }
 
 /* Begins an event, if the process is one of those that are heard. */
-static __always_inline struct event *begin(struct walk *walk, u32 hook)
+static __always_inline struct room *begin(u32 hook)
 {
     struct task_struct *task = bpf_get_current_task_btf();
     u32 process = bpf_get_current_pid_tgid() >> 32;
     u32 *generations = bpf_map_lookup_elem(&followed, &process);
-    struct buffer *buffer_;
+    struct room *room;
     struct event *event;
 
     if (!generations || *generations != HEARD_ITSELF)
         return 0;
-    buffer_ = buffer(BPF_LOCAL_STORAGE_GET_F_CREATE);
-    if (!buffer_) {
+    room = room_of_thread(BPF_LOCAL_STORAGE_GET_F_CREATE);
+    if (!room) {
         count(ROOMLESS);
         return 0;
     }
-    event = (struct event *)buffer_->bytes;
+    event = &room->event;
     __builtin_memset(event, 0, sizeof(*event));
     event->time = bpf_ktime_get_ns();
     event->hook = hook;
     event->pid = process_of(task);
     event->tid = number_of(BPF_CORE_READ(task, thread_pid));
     bpf_get_current_comm(event->comm, sizeof(event->comm));
-    __builtin_memset(walk, 0, sizeof(*walk));
-    walk->used = sizeof(*event);
-    return event;
+    __builtin_memset(&room->walk, 0, sizeof(room->walk));
+    return room;
 }
 
-static __always_inline int end(struct walk *walk, struct event *event, int answer)
+static __always_inline int end(struct room *room, int answer)
 {
-    u32 length = walk->used;
+    struct event *event = &room->event;
+    u32 used = room->walk.used;
 
     event->answer = answer;
-    event->nodes = walk->nodes;
-    event->cut = walk->cut;
-    if (length > BUFFER)
-        length = BUFFER;
+    event->nodes = room->walk.nodes;
+    event->cut = room->walk.cut;
+    if (used > sizeof(room->nodes))
+        used = sizeof(room->nodes);
     count(HEARD);
-    if (walk->cut)
+    if (event->cut)
         count(CUT);
-    if (bpf_ringbuf_output(&events, event, length, BPF_RB_NO_WAKEUP))
+    if (bpf_ringbuf_output(&events, event, sizeof(*event) + used, BPF_RB_NO_WAKEUP))
         count(LOST);
     return 0;
 }
 
 #define BEGIN(HOOK) \
-    struct walk walk; \
-    struct event *event = begin(&walk, HOOK); \
-    if (!event) \
+    struct room *room = begin(HOOK); \
+    if (!room) \
         return 0
 
-static __always_inline void add_file(struct walk *walk, struct event *event, struct file *file)
+static __always_inline void add_file(struct room *room, struct file *file)
 {
+    struct event *event = &room->event;
+
     event->file = (u64)file;
     event->values[0] = BPF_CORE_READ(file, f_flags);
     event->values[1] = BPF_CORE_READ(file, f_mode);
-    walk->chain = 0;
-    go_up(walk, BPF_CORE_READ(file, f_path.mnt), BPF_CORE_READ(file, f_path.dentry), OBJECT);
+    go_up(room, BPF_CORE_READ(file, f_path.mnt), BPF_CORE_READ(file, f_path.dentry), OBJECT);
 }
 
 SEC("fexit/security_file_open")
@@ -283,76 +299,76 @@ int BPF_PROG(file_open, struct file *file, int answer)
 {
     BEGIN(FILE_OPEN);
     /* Asked for someone else: overlayfs opens files of its layers with the credentials of who mounted it. */
-    event->values[2] = BPF_CORE_READ(file, f_cred) != BPF_CORE_READ(bpf_get_current_task_btf(), real_cred);
-    add_file(&walk, event, file);
-    return end(&walk, event, answer);
+    room->event.values[2] = BPF_CORE_READ(file, f_cred) != BPF_CORE_READ(bpf_get_current_task_btf(), real_cred);
+    add_file(room, file);
+    return end(room, answer);
 }
 
 SEC("fexit/security_file_truncate")
 int BPF_PROG(file_truncate, struct file *file, int answer)
 {
     BEGIN(FILE_TRUNCATE);
-    add_file(&walk, event, file);
-    return end(&walk, event, answer);
+    add_file(room, file);
+    return end(room, answer);
 }
 
 SEC("fexit/security_file_ioctl")
 int BPF_PROG(file_ioctl, struct file *file, unsigned int command, unsigned long argument, int answer)
 {
     BEGIN(FILE_IOCTL);
-    event->values[2] = command;
-    add_file(&walk, event, file);
-    return end(&walk, event, answer);
+    room->event.values[2] = command;
+    add_file(room, file);
+    return end(room, answer);
 }
 
 SEC("fexit/security_file_ioctl_compat")
 int BPF_PROG(file_ioctl_compat, struct file *file, unsigned int command, unsigned long argument, int answer)
 {
     BEGIN(FILE_IOCTL_COMPAT);
-    event->values[2] = command;
-    add_file(&walk, event, file);
-    return end(&walk, event, answer);
+    room->event.values[2] = command;
+    add_file(room, file);
+    return end(room, answer);
 }
 
 SEC("fexit/security_path_mknod")
 int BPF_PROG(path_mknod, const struct path *directory, struct dentry *name, u16 mode, unsigned int device, int answer)
 {
     BEGIN(PATH_MKNOD);
-    event->values[0] = mode;
-    go_up_from_name(&walk, directory, name, 0);
-    return end(&walk, event, answer);
+    room->event.values[0] = mode;
+    go_up_from_name(room, directory, name, 0);
+    return end(room, answer);
 }
 
 SEC("fexit/security_path_mkdir")
 int BPF_PROG(path_mkdir, const struct path *directory, struct dentry *name, u16 mode, int answer)
 {
     BEGIN(PATH_MKDIR);
-    go_up_from_name(&walk, directory, name, 0);
-    return end(&walk, event, answer);
+    go_up_from_name(room, directory, name, 0);
+    return end(room, answer);
 }
 
 SEC("fexit/security_path_symlink")
 int BPF_PROG(path_symlink, const struct path *directory, struct dentry *name, const char *target, int answer)
 {
     BEGIN(PATH_SYMLINK);
-    go_up_from_name(&walk, directory, name, 0);
-    return end(&walk, event, answer);
+    go_up_from_name(room, directory, name, 0);
+    return end(room, answer);
 }
 
 SEC("fexit/security_path_unlink")
 int BPF_PROG(path_unlink, const struct path *directory, struct dentry *name, int answer)
 {
     BEGIN(PATH_UNLINK);
-    go_up_from_name(&walk, directory, name, 0);
-    return end(&walk, event, answer);
+    go_up_from_name(room, directory, name, 0);
+    return end(room, answer);
 }
 
 SEC("fexit/security_path_rmdir")
 int BPF_PROG(path_rmdir, const struct path *directory, struct dentry *name, int answer)
 {
     BEGIN(PATH_RMDIR);
-    go_up_from_name(&walk, directory, name, 0);
-    return end(&walk, event, answer);
+    go_up_from_name(room, directory, name, 0);
+    return end(room, answer);
 }
 
 SEC("fexit/security_path_rename")
@@ -360,10 +376,10 @@ int BPF_PROG(path_rename, const struct path *from, struct dentry *name, const st
              unsigned int flags, int answer)
 {
     BEGIN(PATH_RENAME);
-    event->values[0] = flags;
-    go_up_from_name(&walk, from, name, 0);
-    go_up_from_name(&walk, to, new_name, 1);
-    return end(&walk, event, answer);
+    room->event.values[0] = flags;
+    go_up_from_name(room, from, name, 0);
+    go_up_from_name(room, to, new_name, 1);
+    return end(room, answer);
 }
 
 /* A link's source has no path: Landlock takes the mount of the new directory. */
@@ -371,17 +387,17 @@ SEC("fexit/security_path_link")
 int BPF_PROG(path_link, struct dentry *from, const struct path *to, struct dentry *new_name, int answer)
 {
     BEGIN(PATH_LINK);
-    go_up(&walk, BPF_CORE_READ(to, mnt), from, OBJECT);
-    go_up_from_name(&walk, to, new_name, 1);
-    return end(&walk, event, answer);
+    go_up(room, BPF_CORE_READ(to, mnt), from, OBJECT);
+    go_up_from_name(room, to, new_name, 1);
+    return end(room, answer);
 }
 
 SEC("fexit/security_path_truncate")
 int BPF_PROG(path_truncate, const struct path *path, int answer)
 {
     BEGIN(PATH_TRUNCATE);
-    go_up_from(&walk, path, 0);
-    return end(&walk, event, answer);
+    go_up_from(room, path, 0);
+    return end(room, answer);
 }
 
 SEC("fexit/security_sb_mount")
@@ -389,43 +405,43 @@ int BPF_PROG(sb_mount, const char *source, const struct path *path, const char *
              int answer)
 {
     BEGIN(SB_MOUNT);
-    event->values[0] = flags;
-    go_up_from(&walk, path, 0);
-    return end(&walk, event, answer);
+    room->event.values[0] = flags;
+    go_up_from(room, path, 0);
+    return end(room, answer);
 }
 
 SEC("fexit/security_sb_umount")
 int BPF_PROG(sb_umount, struct vfsmount *mount, int flags, int answer)
 {
     BEGIN(SB_UMOUNT);
-    event->values[0] = flags;
-    go_up(&walk, mount, BPF_CORE_READ(mount, mnt_root), OBJECT);
-    return end(&walk, event, answer);
+    room->event.values[0] = flags;
+    go_up(room, mount, BPF_CORE_READ(mount, mnt_root), OBJECT);
+    return end(room, answer);
 }
 
 SEC("fexit/security_sb_pivotroot")
 int BPF_PROG(sb_pivotroot, const struct path *old, const struct path *new, int answer)
 {
     BEGIN(SB_PIVOTROOT);
-    go_up_from(&walk, old, 0);
-    go_up_from(&walk, new, 1);
-    return end(&walk, event, answer);
+    go_up_from(room, old, 0);
+    go_up_from(room, new, 1);
+    return end(room, answer);
 }
 
 SEC("fexit/security_sb_remount")
 int BPF_PROG(sb_remount, struct super_block *file_system, void *options, int answer)
 {
     BEGIN(SB_REMOUNT);
-    return end(&walk, event, answer);
+    return end(room, answer);
 }
 
 SEC("fexit/security_move_mount")
 int BPF_PROG(move_mount, const struct path *from, const struct path *to, int answer)
 {
     BEGIN(MOVE_MOUNT);
-    go_up_from(&walk, from, 0);
-    go_up_from(&walk, to, 1);
-    return end(&walk, event, answer);
+    go_up_from(room, from, 0);
+    go_up_from(room, to, 1);
+    return end(room, answer);
 }
 
 static __always_inline void add_address(struct event *event, struct socket *socket, struct sockaddr *address,
@@ -449,16 +465,16 @@ SEC("fexit/security_socket_bind")
 int BPF_PROG(socket_bind, struct socket *socket, struct sockaddr *address, int length, int answer)
 {
     BEGIN(SOCKET_BIND);
-    add_address(event, socket, address, length);
-    return end(&walk, event, answer);
+    add_address(&room->event, socket, address, length);
+    return end(room, answer);
 }
 
 SEC("fexit/security_socket_connect")
 int BPF_PROG(socket_connect, struct socket *socket, struct sockaddr *address, int length, int answer)
 {
     BEGIN(SOCKET_CONNECT);
-    add_address(event, socket, address, length);
-    return end(&walk, event, answer);
+    add_address(&room->event, socket, address, length);
+    return end(room, answer);
 }
 
 static __always_inline void add_target(struct event *event, struct task_struct *target)
@@ -473,17 +489,17 @@ SEC("fexit/security_ptrace_access_check")
 int BPF_PROG(ptrace_access_check, struct task_struct *target, unsigned int mode, int answer)
 {
     BEGIN(PTRACE_ACCESS_CHECK);
-    add_target(event, target);
-    return end(&walk, event, answer);
+    add_target(&room->event, target);
+    return end(room, answer);
 }
 
 SEC("fexit/security_task_kill")
 int BPF_PROG(task_kill, struct task_struct *target, void *info, int signal, const struct cred *cred, int answer)
 {
     BEGIN(TASK_KILL);
-    add_target(event, target);
-    event->values[2] = signal;
-    return end(&walk, event, answer);
+    add_target(&room->event, target);
+    room->event.values[2] = signal;
+    return end(room, answer);
 }
 
 /* A thread restricts itself: Landlock joins its domain and a ruleset, after all checks. */
@@ -491,7 +507,7 @@ SEC("fexit/landlock_merge_ruleset")
 int BPF_PROG(restricted, struct landlock_ruleset *domain, struct landlock_ruleset *ruleset, u64 joined)
 {
     BEGIN(RESTRICT);
-    return end(&walk, event, joined > -MOST_ERRORS ? joined : 0);
+    return end(room, joined > -MOST_ERRORS ? joined : 0);
 }
 
 /* Follows a child of a process that is followed; threads are of the same process. */
@@ -514,16 +530,16 @@ int BPF_PROG(forked, struct task_struct *parent, struct task_struct *child)
 {
     follow(BPF_CORE_READ(parent, tgid), BPF_CORE_READ(child, tgid));
     BEGIN(FORK);
-    event->values[0] = process_of(child);
-    event->values[1] = number_of(BPF_CORE_READ(child, thread_pid));
-    return end(&walk, event, 0);
+    room->event.values[0] = process_of(child);
+    room->event.values[1] = number_of(BPF_CORE_READ(child, thread_pid));
+    return end(room, 0);
 }
 
 SEC("tp_btf/sched_process_exec")
 int BPF_PROG(executed, struct task_struct *task, int old_tid, struct linux_binprm *program)
 {
     BEGIN(EXEC);
-    return end(&walk, event, 0);
+    return end(room, 0);
 }
 
 static __always_inline void unfollow(struct task_struct *task)
@@ -537,7 +553,7 @@ static __always_inline void unfollow(struct task_struct *task)
 static __always_inline int tell_exit(void)
 {
     BEGIN(EXIT);
-    return end(&walk, event, 0);
+    return end(room, 0);
 }
 
 SEC("tp_btf/sched_process_exit")

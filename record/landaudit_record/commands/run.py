@@ -17,7 +17,7 @@ from pathlib import Path
 from .. import PROGRAMS, RECORDER, confining, landaudit, policies, surroundings
 from ..options import add_abi
 from ..problems import USAGE, WANTING, Problem
-from ..recorder import formats, recordings, tracing
+from ..recorder import formats, recordings, tracing, witness
 from . import audit, convert
 
 NAME = "run"
@@ -29,7 +29,7 @@ BEHIND_DASHES = "give a command after '--', as in 'landaudit-record run rec -- l
 def add_arguments(parser: argparse.ArgumentParser) -> None:
     parser.usage = (
         "landaudit-record run [-h] OUT [--watch DIR].. [--policy POLICY.toml] [--abi N] [--port-rules POLICY.toml] "
-        "[--readlink] -- COMMAND.."
+        "[--readlink] [--witness] -- COMMAND.."
     )
     parser.add_argument("out", metavar="OUT", type=Path, help="the folder to make for the recording")
     parser.add_argument(
@@ -55,6 +55,12 @@ def add_arguments(parser: argparse.ArgumentParser) -> None:
         help="trace readlink(2) too: a program may look into other processes with it (/proc/PID/exe), and Landlock"
         " refuses that; a build then takes about twice as long",
     )
+    parser.add_argument(
+        "--witness",
+        action="store_true",
+        help="hear by landaudit-witness what the kernel asks Landlock about the command, and count what the recording"
+        " does not have (needs CAP_BPF and CAP_PERFMON)",
+    )
 
 
 def run(arguments: argparse.Namespace) -> int:
@@ -74,7 +80,10 @@ def run(arguments: argparse.Namespace) -> int:
         surroundings.keep(folder, None if policy is None else policies.read(policy.policy))
         if policy is not None:
             command = confining.under(policy.kept_in(folder), policy.abi, command)
+        listening = witness.Witness(folder) if arguments.witness else None
     outcome = tracing.run(folder / "strace.txt", command, readlink=arguments.readlink)
+    if listening is not None:
+        listening.end()
     replace(about, ended=outcome.ended, taken=list(outcome.taken)).write(folder)
     for place in outcome.taken:
         convert.say(f"strace waited for the file server of {place}: to end that, the file system was taken away")

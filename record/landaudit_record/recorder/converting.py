@@ -7,7 +7,7 @@ from typing import Any
 
 from ..finished import Converted
 from ..problems import Problem
-from . import disk, strace_log
+from . import disk, strace_log, unrecorded
 from .calls import HANDLERS, others
 from .modes import NOBODY_KNOWN
 from .names import Names
@@ -52,6 +52,7 @@ def convert(folder: Path, ports: Ports, limits: Limits = LIMITS) -> Converted:
             recording.leave_out(TAKEN_AWAY, 0, 0, place, asks=True)
         kept.keep(folder / OBJECTS)
         ended = about.ended and scene.have_ended(scene.threads)
+        unrecorded.tell(folder, recording)
         return recording.finish(ended, scene.further_names(), about.untraced)
 
 

@@ -7,7 +7,7 @@ import re
 import shutil
 import tempfile
 from collections import Counter
-from collections.abc import Container, Mapping, Sequence
+from collections.abc import Container, Iterator, Mapping, Sequence
 from dataclasses import dataclass
 from functools import lru_cache
 from pathlib import Path
@@ -65,6 +65,10 @@ class Tree:
     def __contains__(self, path: str) -> bool:
         return path in self._lines
 
+    def listed(self, path: str) -> jsonl.Record | None:
+        """The line of an object by a name of it, None if no object has this name."""
+        line = self._lines.get(path)
+        return None if line is None else self._line(path, line)
 
     def __len__(self) -> int:
         """The number of objects, including the root."""
@@ -332,6 +336,18 @@ class Recording:
         """Counts a call that only a policy may refuse which has a scope."""
         self._scopes[scope] += 1
         self._unsaid.write(jsonl.line({"line": line, "pid": pid, "scope": scope, "call": call[:LONGEST_CALL]}))
+
+    def written(self) -> Iterator[jsonl.Record]:
+        """The records so far, in their order and once each."""
+        self.commit()
+        self._trace.flush()
+        for part in [*(made.part for made in self._parts), self._part]:
+            yield from (record for _, record in jsonl.numbered(part.trace) if "again" not in record)
+
+    def left_out(self) -> Iterator[jsonl.Record]:
+        """The calls that could not be written so far."""
+        self._unsaid.flush()
+        yield from (entry for _, entry in jsonl.numbered(self._undone / "unsaid.jsonl"))
 
     def finish(
         self, ended: bool, further: Mapping[str, Sequence[str]] | None = None, untraced: Sequence[str] = ()
