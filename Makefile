@@ -5,6 +5,9 @@ UNIT_TESTS = python3 -m unittest discover -s $(1)/tests -t $(1)
 # The proved program.
 PROGRAM := crates/landaudit/out/landaudit
 
+# The witness, as `make witness` builds it.
+WITNESS := $(CURDIR)/witness/out/landaudit-witness
+
 # What the check of landaudit said, as `make landaudit` keeps it.
 CHECK := $(CURDIR)/crates/landaudit/out/check.txt
 
@@ -41,8 +44,8 @@ PACKAGES := packaging/out
 IS_BUILT = $(if $(wildcard $(PROGRAM)),,$(error landaudit is not built: run 'make landaudit' first))
 IS_PROVED = $(if $(wildcard $(CHECK)),,$(error nothing says that $(PROGRAM) is proved: run 'make landaudit' first))
 
-.PHONY: example landaudit witness install uninstall deb dist test $(TRIED) test-record-first test-record-rest \
-	test-witness live kernels
+.PHONY: example landaudit witness install uninstall deb dist install-witness witness-deb test $(TRIED) \
+	test-record-first test-record-rest test-witness live kernels
 
 # Builds landaudit without its proofs, and runs it; a refused call (status 1) is an answer as good as another.
 example:
@@ -97,6 +100,19 @@ dist:
 	$(IS_BUILT)
 	$(IS_PROVED)
 	@packaging/package dist '$(PROGRAM)' '$(CHECK)' '$(GATE)' '$(PACKAGES)'
+
+# The witness with its page and completions, into the same places as `make install`.
+install-witness:
+	@install -D -m 755 -s '$(WITNESS)' '$(ROOT)/bin/landaudit-witness'
+	@install -D -m 644 man/landaudit-witness.1 '$(ROOT)/share/man/man1/landaudit-witness.1'
+	@install -D -m 644 completions/landaudit-witness.bash '$(ROOT)/share/bash-completion/completions/landaudit-witness'
+	@install -D -m 644 completions/_landaudit-witness '$(ROOT)/share/zsh/site-functions/_landaudit-witness'
+	@install -D -m 644 completions/landaudit-witness.fish \
+	'$(ROOT)/share/fish/vendor_completions.d/landaudit-witness.fish'
+
+# A Debian package of the witness alone.
+witness-deb:
+	@packaging/package witness '$(WITNESS)' '$(PACKAGES)'
 
 # Proves everything and runs every test of the crates. Then, beside one another, tests the recorder and the packaging
 # with the built program, and refuses it, and the tests made for this, each of their requests for memory. At last drives

@@ -198,6 +198,10 @@ class Unrecorded(WrittenLogs):
 
     def test_what_the_witness_did_not_hear(self) -> None:
         self.assertEqual(self.heard([], end=None), [NOT_ENDED])
+        with open(self.out / witness.EVENTS, "a", encoding="ascii") as out:
+            out.write('{"end":')
+        self.conversion()
+        self.assertEqual(self.unsaid(), [(NOT_ENDED, True)])
         self.assertEqual(self.heard([], end=END | {"lost": 3, "missed": 2}), [LOST, MISSED])
         self.assertEqual(self.heard([], start=START | {"by": "lsm"}), [])
         self.assertEqual(self.heard([], *CONFINED, start=START | {"by": "lsm"}), [UNHEARD])

@@ -39,7 +39,7 @@ Question = tuple[str, ...]
 
 def tell(folder: Path, recording: Recording) -> None:
     """Counts what the witness of a recording heard and no record asks, if there was a witness."""
-    heard = witness.read(folder)
+    heard = witness.heard_beside(folder)
     if heard is None:
         return
     asked = Asked(recording.tree)
@@ -210,7 +210,7 @@ class Check:
 
     def tell(self, heard: Heard) -> None:
         """Counts each event that no record explains."""
-        for number, event in heard.events:
+        for number, event in heard.events():
             for question in self._questions(event):
                 self._ask(question, number, event)
             self._ask_others(number, event)

@@ -6,7 +6,7 @@ import os
 import shutil
 import subprocess
 import sys
-from dataclasses import dataclass, field
+from collections.abc import Iterator
 from pathlib import Path
 
 from .. import jsonl
@@ -17,6 +17,8 @@ BUILT = Path(__file__).resolve().parents[3] / "witness" / "out" / PROGRAM
 #: The file of a recording that has what the witness heard.
 EVENTS = "witness.jsonl"
 READY = b"ready\n"
+#: The time that the witness has to write what it heard, in seconds.
+PATIENCE = 120.0
 
 
 def find() -> Path:
@@ -45,33 +47,41 @@ class Witness:
             raise Problem(f"{PROGRAM} does not run here, for the reason above", WANTING)
 
     def end(self) -> None:
-        """Waits until it has written what it heard."""
-        self._process.communicate()
+        """Waits until it has written what it heard; one that does not end in time is killed, and its file says so."""
+        try:
+            self._process.communicate(timeout=PATIENCE)
+        except subprocess.TimeoutExpired:
+            self._process.kill()
+            self._process.communicate()
 
 
-@dataclass
 class Heard:
-    """What a witness heard: its first and its last line, None if it did not end, and the events with their lines."""
+    """What a witness heard. Its first and its last line are known when the events are read; None if it did not end."""
 
-    start: jsonl.Record = field(default_factory=dict)
-    end: jsonl.Record | None = None
-    events: list[tuple[int, jsonl.Record]] = field(default_factory=list)
+    def __init__(self, file: Path) -> None:
+        self._file = file
+        self.start: jsonl.Record = {}
+        self.end: jsonl.Record | None = None
+
+    def events(self) -> Iterator[tuple[int, jsonl.Record]]:
+        """The events with the numbers of their lines. A line without an end is that of a witness that was killed."""
+        with open(self._file, "rb") as lines:
+            for number, line in enumerate(lines, start=1):
+                if not line.endswith(b"\n"):
+                    return
+                record = jsonl.read(self._file, number, line)
+                if "hook" in record:
+                    yield number, record
+                elif "end" in record:
+                    self.end = record
+                else:
+                    self.start = record
 
 
-def read(folder: Path) -> Heard | None:
+def heard_beside(folder: Path) -> Heard | None:
     """What the witness of a recording heard; None if there was none."""
     file = folder / EVENTS
-    if not file.is_file():
-        return None
-    heard = Heard()
-    for number, line in jsonl.numbered(file):
-        if "hook" in line:
-            heard.events.append((number, line))
-        elif "end" in line:
-            heard.end = line
-        else:
-            heard.start = line
-    return heard
+    return Heard(file) if file.is_file() else None
 
 
 def text(of: str) -> str:
