@@ -64,4 +64,9 @@ def set_apart(known: Sequence[Accepted], summaries: Iterable[Summary]) -> Iterat
             if one is not None:
                 summary.accepted[one] += summary.refusals.pop(refusal).total()
                 occurred.add(one)
+        for refusal in list(summary.unsure):
+            one = by_kind.get((refusal.call, refusal.place))
+            if one is not None:
+                del summary.unsure[refusal]
+                occurred.add(one)
     yield from (one for one in known if one not in occurred)

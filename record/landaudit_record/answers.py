@@ -13,6 +13,8 @@ from .problems import Problem
 from .trees import ROOT
 
 ALLOWED, MOOT, REFUSED = "allowed", "moot", "refused"
+#: The answer to a call that may be refused: nobody knows what was there before it. landaudit does not give it.
+UNSURE = "unsure"
 #: The words by which landaudit says that a rule or a ruleset is left out at an ABI that has none of its rights.
 _LEFT_OUT = frozenset({"unsupported", "unenforced"})
 #: The word of a reason by which a descriptor is not open, and its text behind the descriptor.
@@ -200,7 +202,8 @@ class Reason:
 
 @dataclass(frozen=True)
 class Answer:
-    """What landaudit answers to a record: `allowed`, `moot`, or `refused` with an error and by layers.
+    """What landaudit answers to a record: `allowed`, `moot`, or `refused` with an error and by layers; `unsure` stands
+    for `refused` if a recording does not know whether the call was this record.
 
     If no layer refuses it, `why` is the condition by which it fails by itself; of a moot one it is the reason. Both are
     there if landaudit was asked why.

@@ -7,6 +7,7 @@ from collections.abc import Sequence
 from dataclasses import asdict, dataclass
 from typing import Any
 
+from .answers import UNSURE
 from .summary import Summary
 
 
@@ -70,6 +71,7 @@ def as_data(found: Sequence[Step]) -> list[dict[str, Any]]:
             "allowed": step.verdicts["allowed"],
             "refused": step.verdicts["refused"],
             "moot": step.verdicts["moot"],
+            "unsure": step.verdicts[UNSURE],
             "breaks": [asdict(kind) for kind in step.breaks],
             "refused_no_more": [asdict(kind) for kind in step.no_more],
             "more_warnings": list(step.warnings),

@@ -70,10 +70,14 @@ def errors_of_landlock(op: str) -> frozenset[str]:
 def agree(call: Call) -> bool:
     """Whether landaudit's answer is what the kernel did.
 
-    If landaudit refuses a call, the kernel answered exactly that error. If landaudit allows a call on a ruleset, the
+    If the recording does not know what was there before a call, either answer will do. If landaudit refuses a call, the
+    kernel answered exactly that error. If landaudit allows a call on a ruleset, the
     kernel did too. If any other call is allowed or moot, Landlock did not refuse it: the kernel may have refused it for
     another reason. If the kernel allowed a call on a path, it asked Landlock, so the call must not be moot.
     """
+    other = call.other
+    if other is not None and agree(other):
+        return True
     answer = call.answer
     if answer.refused:
         return call.kernel == answer.error

@@ -36,12 +36,19 @@ class Call:
     """One system call: the records that stand for it, and landaudit's answers to them.
 
     `domain` is the domain of the process by landaudit's answers; `by_kernel` is what only the kernel gave it.
+    `otherwise` has the answers if all that the recording does not know was otherwise.
     """
 
     records: tuple[Record, ...]
     answers: tuple[Answer, ...]
     domain: tuple[Layer, ...]
     by_kernel: ByKernel
+    otherwise: tuple[Answer, ...] = ()
+
+    @property
+    def other(self) -> Call | None:
+        """The call as it is if what the recording does not know was otherwise; None if nothing is unknown."""
+        return replace(self, answers=self.otherwise, otherwise=()) if self.otherwise else None
 
     @property
     def number(self) -> Any:
@@ -123,13 +130,23 @@ def judged_calls(judged: Iterable[Judged], abi: int) -> Iterator[Call]:
         records: list[Record] = []
         answers: list[Answer] = []
         domain: tuple[Layer, ...] = ()
+        otherwise: dict[int, Answer] = {}
         for record, answer, process in together:
-            if "kernel" in record:
+            if "otherwise" in record:
+                _note_other(otherwise, len(answers) - 1, answers[-1], answer)
+            elif "kernel" in record:
                 domain = domain if records else process.domain
                 records.append(record)
                 answers.append(answer)
             apart.follow(record, answer)
         if records:
-            call = Call(tuple(records), tuple(answers), domain, by_kernel)
+            others = tuple(otherwise.get(number, answer) for number, answer in enumerate(answers)) if otherwise else ()
+            call = Call(tuple(records), tuple(answers), domain, by_kernel, others)
             if call.confined or call.op in RULESET_CALLS:
                 yield call
+
+
+def _note_other(otherwise: dict[int, Answer], number: int, answer: Answer, other: Answer) -> None:
+    """Keeps of the answers to what a record would be otherwise one that differs from the answer to the record."""
+    if number not in otherwise or (other.refused != answer.refused and otherwise[number].refused == answer.refused):
+        otherwise[number] = other

@@ -148,7 +148,7 @@ class Living:
             self._by_pid[members["child"]] = living.forked()
         elif op == "exit":
             del self._by_pid[pid]
-        elif kernel in (None, "ok") and members.get("role") is None:
+        elif kernel in (None, "ok") and members.get("role") is None and "otherwise" not in members:
             living.take(Ran(members["path"], living.starting))
             living.starting = False
 

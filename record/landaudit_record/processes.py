@@ -28,7 +28,7 @@ class Process:
 
 def program_run(record: Record) -> str | None:
     """The program that a record runs: the path of an exec of the program itself that the kernel allowed."""
-    if record.get("op") != "exec" or "role" in record or record.get("kernel", "ok") != "ok":
+    if record.get("op") != "exec" or "role" in record or "otherwise" in record or record.get("kernel", "ok") != "ok":
         return None
     path = record.get("path")
     return path if isinstance(path, str) else None

@@ -58,6 +58,10 @@ def _to_do(op: str) -> int:
     return sum(to_do for to_do, ops in families.items() if op in ops)
 
 
+#: What a record would be if something else was there before the call. It is counted with the record before it.
+_OTHERWISE = 64
+#: What a record has that may be another one, and what those after it have besides that it would be then.
+_UNKNOWN, _INSTEAD = b'"unknown":', b'"otherwise":'
 #: How records begin as landaudit-record writes them: enough of a line to know what to do with it.
 _KNOWN = len('{"op":"nnp"')
 _BEGINS = {f'{{"op":"{op}"'[:_KNOWN].encode(): _to_do(op) for op in _STATES | _RULES | _OPENS | _OTHERS | PATH_CALLS}
@@ -143,11 +147,13 @@ class Walk:
         self.files = trace, report
         self._whole = not only_refused
         self._progress = progress
+        self._abis = abis
         self._allowed = reports.allowed_by_all(abis)
         self._offsets = array("Q", [0])
         self._processes = Followed()
         self.records = 0
         self.path_calls = 0
+        self.unsure: Counter[int] = Counter()
         self._not_allowed = lru_cache(1_024)(_not_allowed)
 
     @property
@@ -204,6 +210,7 @@ class Walk:
     def _lines(self) -> Iterator[_Said]:
         """Reads both files, and yields the lines to decode. A long recording spends most of the time here."""
         again, at, offset, processes, progress = True, 0, self._offsets.append, self._processes, self._progress
+        together: list[_Said] = []
         begins, allowed, whole = _BEGINS.get, self._allowed, self._whole
         with open(self.files[0], "rb") as lines, open(self.files[1], "rb") as report:
             readline, shown = report.readline, None if whole else reports.Shown(report)
@@ -214,23 +221,43 @@ class Walk:
                 if to_do is None:
                     if not line.strip(_BLANKS):
                         continue
-                    to_do = _READ
+                    to_do = _OTHERWISE if _INSTEAD in line and _UNKNOWN in line else _READ
                 answer = readline() if shown is None else shown.on(number)
                 differs = not answer.endswith(allowed) if whole else answer != b""
+                if together and to_do != _OTHERWISE:
+                    yield from self._united(together)
+                    together.clear()
                 if again:
                     again = _AGAIN in line
                     if again:
                         self._taken_apart((number, line, to_do, answer, differs))
                         continue
+                if to_do == _OTHERWISE:
+                    together.append((number, line, to_do, answer, differs))
+                    continue
                 self.records += 1
+                if to_do == _READ and _UNKNOWN in line:
+                    together.append((number, line, to_do, answer, differs))
+                    continue
                 if to_do & _ON_PATH and (line.endswith(_LET_THROUGH) or _asked(line)):
                     self.path_calls += 1
                 if not number % EVERY and progress is not None:
                     progress.show(number, "answers read")
                 if differs or to_do >= _RULE or (to_do & _OPENS_NUMBER and processes.watched):
                     yield number, line, to_do, answer, differs
+            yield from self._united(together)
             if not (readline() if shown is None else shown.line).startswith(reports.LAST):
                 raise _other(*self.files)
+
+    def _united(self, together: list[_Said]) -> Iterator[_Said]:
+        """A record that may be another one, and what it would be then, each with what is known of the call."""
+        if not together:
+            return
+        answers, unsure = reports.united([answer for *_, answer, _ in together], self._abis)
+        self.unsure.update(unsure)
+        for (number, line, to_do, answer, _), known in zip(together, answers):
+            if known or to_do != _OTHERWISE:
+                yield number, line, to_do, known or answer, bool(known)
 
     def _record(self, said: _Said) -> Record:
         number, line, _, answer, _ = said

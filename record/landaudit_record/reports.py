@@ -7,7 +7,7 @@ their bytes, and only the others are decoded.
 from __future__ import annotations
 
 import json
-from collections.abc import Iterator, Mapping
+from collections.abc import Iterator, Mapping, Sequence
 from contextlib import contextmanager
 from pathlib import Path
 from typing import Any, BinaryIO, NamedTuple
@@ -19,6 +19,7 @@ from .answers import (
     MOOT,
     REASONS,
     REFUSED,
+    UNSURE,
     Answer,
     Answered,
     Closed,
@@ -97,6 +98,41 @@ def rows(report: Path, abi: int) -> Iterator[Row]:
                 yield Row(said["line"], said["pid"], _at(abi, said["answers"]))
 
 
+def united(lines: Sequence[bytes], abis: range) -> tuple[list[bytes], frozenset[int]]:
+    """The lines on a record that may be another one, and on what it would be then, so that they say what is known; and
+    the ABIs at which a call may be refused.
+
+    If all of them are refused at an ABI, so is the record. If only some are, these are `unsure` there, and the others
+    say nothing. A line that the report leaves out is empty.
+    """
+    with _reading(b"".join(lines)):
+        read = [json.loads(line) if line else None for line in lines]
+        by_abi = [{abi: said for said in one["answers"] for abi in _abis(said)} if one else {} for one in read]
+    unsure: set[int] = set()
+    for abi in abis:
+        refused = [abi in said and said[abi]["answer"] == REFUSED for said in by_abi]
+        some = any(refused) and not all(refused)
+        unsure.update([abi] if some else ())
+        for number, said in enumerate(by_abi):
+            if abi in said:
+                said[abi] = _known(said[abi], some=some, first=number == 0) | {"abi": [abi, abi]}
+    return [_written(one, said) for one, said in zip(read, by_abi)], frozenset(unsure)
+
+
+def _known(said: Mapping[str, Any], *, some: bool, first: bool) -> dict[str, Any]:
+    """What is known of a call by an answer to the first record of it, or to another one; `some` of them are refused."""
+    if some and said["answer"] == REFUSED:
+        return {**said, "answer": UNSURE}
+    return dict(said) if first and not some else {"answer": ALLOWED}
+
+
+def _written(one: Mapping[str, Any] | None, answers: Mapping[int, Any]) -> bytes:
+    """The line of a record with some answers, as landaudit writes it; no line if all are `allowed`."""
+    if one is None or all(said["answer"] == ALLOWED for said in answers.values()):
+        return b""
+    return json.dumps({**one, "answers": list(answers.values())}, separators=(",", ":")).encode() + b"\n"
+
+
 def numbers(report: Path) -> Iterator[int]:
     """The numbers of the records that a report shows."""
     with open(report, "rb") as lines:
@@ -117,7 +153,7 @@ def abis_by_verdict(answers: bytes) -> Mapping[str, frozenset[int]]:
     found: dict[str, frozenset[int]] = {verdict: frozenset() for verdict in (ALLOWED, MOOT, REFUSED)}
     with _reading(answers):
         for said in _members(answers):
-            found[said["answer"]] |= frozenset(_abis(said))
+            found[said["answer"]] = found.get(said["answer"], frozenset()) | frozenset(_abis(said))
     return found
 
 
@@ -157,9 +193,9 @@ def _answer(said: Mapping[str, Any]) -> Answer:
             return _PLAIN
         case {"answer": "moot"}:
             return Answer(MOOT, why=_reason(said["why"]) if "why" in said else None)
-        case {"answer": "refused", "error": str(error), "layers": [*layers]}:
+        case {"answer": "refused" | "unsure" as verdict, "error": str(error), "layers": [*layers]}:
             why = _condition(said["why"]) if "why" in said else None
-            return Answer(REFUSED, error, tuple(map(_layer, layers)), why)
+            return Answer(verdict, error, tuple(map(_layer, layers)), why)
     raise ValueError("no answer")
 
 

@@ -7,7 +7,7 @@ from collections.abc import Callable, Iterable, Iterator, Mapping, Sequence, Set
 from dataclasses import dataclass, field, replace
 
 from . import processes, styling, wants, widening
-from .answers import Answer, Closed, Gained, Kept, Missing, Objection
+from .answers import UNSURE, Answer, Closed, Gained, Kept, Missing, Objection
 from .jsonl import Record
 from .objects import Objects
 from .policies import Access, Layer, PathRule, Policy, PortRule, group_rules
@@ -37,7 +37,7 @@ class Round:
     """What one audit shows: what the policy's layers lack, by recording, and refusals that no rule can fix.
 
     `new` has, by recording and directory, the real paths of objects that calls would make there; `pids` has the
-    processes of each recording.
+    processes of each recording. `unsure` has the calls that may be refused, each in words.
     """
 
     wants: dict[int, dict[int, Wants]] = field(default_factory=dict)
@@ -46,6 +46,7 @@ class Round:
     failed: Counter[str] = field(default_factory=Counter)
     new: dict[int, dict[str, set[str]]] = field(default_factory=dict)
     pids: dict[int, set[int]] = field(default_factory=dict)
+    unsure: dict[Call, str] = field(default_factory=dict)
 
 
 @dataclass(frozen=True)
@@ -54,7 +55,8 @@ class Suggestion:
 
     `unmended` are refusals of the policy's layers that no rule fixes, `of_program` those of the program's own layers,
     and `failed` are calls that failed in the recording whatever a policy says, all by call. `rounds` is the number of
-    audits; if there were too many, the suggestion is not `finished`.
+    audits; if there were too many, the suggestion is not `finished`. `unsure` are calls that may be refused without the
+    rules, by call: nobody knows what was there before.
     """
 
     rules: Mapping[int, list[Rule]]
@@ -64,6 +66,7 @@ class Suggestion:
     finished: bool
     failed: Counter[str] = field(default_factory=Counter)
     groups: Mapping[int, Mapping[str, int]] = field(default_factory=dict)
+    unsure: Counter[str] = field(default_factory=Counter)
 
 
 @dataclass(frozen=True)
@@ -103,10 +106,12 @@ def suggest(
     rules: dict[int, list[Rule]] = {}
     lacked: dict[int, list[Wants]] = {layer.number: [{} for _ in recorded] for layer in policy.layers}
     new: list[dict[str, set[str]]] = [{} for _ in recorded]
+    unsure: dict[Call, str] = {}
     trees = [one.tree for one in recorded]
     for rounds in range(1, MOST_ROUNDS + 1):
         found = _Look(recorded, policy, abi).over(audit(with_rules(policy, rules, groups)))
         known = _number_of(lacked)
+        unsure.update(found.unsure)
         for number, by_recording in found.wants.items():
             for index, more in by_recording.items():
                 wants.unite(lacked[number][index], more)
@@ -121,7 +126,8 @@ def suggest(
                 wanted = wants.placed(trees, lacked[layer.number], new, pids)
                 groups[layer.number], rules[layer.number] = making.rules(layer, wanted, trees)
     finished = not found.wants
-    return Suggestion(rules, found.unmended, found.of_program, rounds, finished, found.failed, groups)
+    in_doubt = Counter(unsure.values())
+    return Suggestion(rules, found.unmended, found.of_program, rounds, finished, found.failed, groups, in_doubt)
 
 
 def _number_of(lacked: Mapping[int, list[Wants]]) -> int:
@@ -196,6 +202,7 @@ class _Look:
                 for _, answer in told.answered:
                     if answer.layers:
                         self._refused(walk, told, answer, call)
+                        self._seen.unsure.update({call: call_text(told.record)} if answer.verdict == UNSURE else {})
         return self._seen
 
     def _refused(self, walk: Walk, told: Told, answer: Answer, call: Call) -> None:

@@ -62,6 +62,10 @@ def _ending(suggestion: Suggestion) -> Iterator[str]:
         yield f"# with these rules, no layer of the policy refuses a call that a rule can fix {audits}"
     else:
         yield "# the policy refuses no call that a rule can fix"
+    if suggestion.unsure:
+        by_call = ", ".join(f"{name} {times}" for name, times in suggestion.unsure.most_common())
+        calls = counted(suggestion.unsure.total(), "call")
+        yield f"# granted in doubt, since what was there before is not known: {calls}: {by_call}"
     yield from _staying(suggestion.unmended, "refused by layers of the policy whatever their rules are")
     yield from _staying(suggestion.of_program, "refused by layers that the program makes itself")
     yield from _staying(suggestion.failed, "refused that failed in the recording too, so no rule would help")

@@ -8,7 +8,7 @@ from dataclasses import asdict, dataclass, field, replace
 from typing import Any
 
 from . import answers
-from .answers import NOT_OPEN, UNOPENED, Answer, Condition, Kept, Missing, Objection
+from .answers import NOT_OPEN, UNOPENED, UNSURE, Answer, Condition, Kept, Missing, Objection
 from .jsonl import Record
 from .processes import of_policy, shown_path
 from .reading import ASKED_LANDLOCK, Place, Told, Walk, call_text, place_of, place_text
@@ -36,13 +36,17 @@ class RefusingLayer:
 
 @dataclass(frozen=True)
 class Refusal:
-    """A kind of refused calls. If no layer refuses them, they fail by themselves by a condition."""
+    """A kind of refused calls. If no layer refuses them, they fail by themselves by a condition.
+
+    They may be refused and need not be if there is something `unknown` about what was there before.
+    """
 
     call: str
     place: str
     error: str
     layers: tuple[RefusingLayer, ...]
     condition: str | None
+    unknown: str | None = None
 
 
 @dataclass(frozen=True)
@@ -77,7 +81,7 @@ class Summary:
     Accepted refusals are separate, with how many calls there are of each. `untouched` are the warnings about rules on
     paths that the run never touched; `brief` has shorter forms of some warnings; `recordings` says, if several were
     audited, in which each refusal occurs; `not_allowed` counts by verdict the calls on each path or port, including
-    accepted ones.
+    accepted ones. `unsure` are the kinds of calls that may be refused.
     """
 
     abi: int
@@ -96,6 +100,7 @@ class Summary:
     brief: dict[str, Brief] = field(default_factory=dict)
     recordings: dict[Refusal, list[str]] = field(default_factory=dict)
     not_allowed: dict[str, Counter[Place]] = field(default_factory=lambda: {"refused": Counter(), "moot": Counter()})
+    unsure: dict[Refusal, Counter[str]] = field(default_factory=dict)
 
     @property
     def others_refused(self) -> bool:
@@ -134,11 +139,13 @@ class Summaries:
             for some, answer in told.answered:
                 if _is_left_out(told.record, answer):
                     left_out.update(dict.fromkeys(some, times))
-                elif answer.refused:
+                elif answer.refused or answer.verdict == UNSURE:
                     self._refused(walk, told, answer, some, times, refusals)
                 else:
                     self._moot(told, answer, some, times)
         self._confines |= walk.confines
+        for abi, calls in walk.unsure.items():
+            self._by_abi[abi].verdicts[UNSURE] += calls
         for abi in abis:
             summary = self._by_abi[abi]
             summary.path_calls += walk.path_calls
@@ -150,7 +157,7 @@ class Summaries:
         place = place_of(told.record) if told.answered else None
         if place is not None:
             for some, answer in told.answered:
-                for abi in some:
+                for abi in some if answer.verdict != UNSURE else ():
                     self._by_abi[abi].not_allowed[answer.verdict][place] += times
 
     def _refused(
@@ -164,7 +171,7 @@ class Summaries:
     ) -> None:
         """Counts refused records under the ABIs that refuse them alike."""
         record = told.record
-        for abi in abis:
+        for abi in abis if answer.refused else ():
             self._by_abi[abi].verdicts["refused"] += times
         if not answer.layers and self._warned(record, answer, abis, times):
             return
@@ -173,7 +180,9 @@ class Summaries:
         if refusal is None:
             known[about] = refusal = _refusal(walk, record, answer)
         for abi in abis:
-            self._by_abi[abi].refusals.setdefault(refusal, Counter())[told.program or "-"] += times
+            summary = self._by_abi[abi]
+            kinds = summary.refusals if answer.refused else summary.unsure
+            kinds.setdefault(refusal, Counter())[told.program or "-"] += times
 
     def _warned(self, record: Record, answer: Answer, abis: Iterable[int], times: int) -> bool:
         """Warns of a ruleset that is not made or not filled; tells whether the record needs no other entry."""
@@ -212,7 +221,8 @@ class Summaries:
         was not traced.
         """
         for abi, summary in self._by_abi.items():
-            summary.verdicts["allowed"] = summary.seen - summary.verdicts["refused"] - summary.verdicts["moot"]
+            others = sum(summary.verdicts[verdict] for verdict in ("refused", "moot", UNSURE))
+            summary.verdicts["allowed"] = summary.seen - others
             if not self._confines:
                 _warn(summary, NO_LAYER, 1, Brief("no process confines itself: try a policy with --policy"))
             if 10 * summary.moot_path_calls > summary.path_calls:
@@ -255,7 +265,8 @@ def _refusal(walk: Walk, record: Record, answer: Answer) -> Refusal:
     kept = next((one for layer in told for one in layer.objections if isinstance(one, Kept)), None)
     condition = None if answer.layers else str(answer.condition)
     place = place_text(record, None if kept is None else kept.path)
-    return Refusal(call_text(record), place, answer.error or "-", told, condition)
+    unknown = str(record["unknown"]) if answer.verdict == UNSURE else None
+    return Refusal(call_text(record), place, answer.error or "-", told, condition, unknown)
 
 
 def _without_ruleset(condition: Condition) -> str:
@@ -325,7 +336,12 @@ def as_data(summary: Summary) -> dict[str, Any]:
         "allowed": summary.verdicts["allowed"],
         "refused": summary.verdicts["refused"],
         "moot": summary.verdicts["moot"],
+        "unsure": summary.verdicts[UNSURE],
         "refusals": [_refusal_data(refusal, programs, summary) for refusal, programs in summary.by_frequency()],
+        "may_be_refused": [
+            {**_refusal_data(refusal, programs, summary), "unknown": refusal.unknown}
+            for refusal, programs in summary.unsure.items()
+        ],
         "accepted": [{"times": times, **asdict(one)} for one, times in summary.accepted.most_common()],
         "moot_because": [
             {"why": why, "times": at.total(), "at": dict(at.most_common())}

@@ -9,7 +9,7 @@ from dataclasses import dataclass, replace
 from typing import TextIO
 
 from . import grouping, layout
-from .answers import NOT_OPEN, Closed, Kept, Missing, Objection
+from .answers import NOT_OPEN, UNSURE, Closed, Kept, Missing, Objection
 from .by_abi import Kind, Step
 from .grouping import Group, Lacking
 from .layout import Cell, Column, Lack, table, wide, words
@@ -81,6 +81,7 @@ def lines(summary: Summary, title: str, style: Style, beside: Beside = Beside())
     for text in beside.notes:
         yield from layout.folded(f"note: {text}", style.width)
     yield from _refusals(summary, style, each=beside.each)
+    yield from _unsure(summary, style, each=beside.each)
     if beside.suggesting:
         yield from ("", "rules for these:", *layout.command(beside.suggesting, style.width))
     yield from _accepted(summary, style)
@@ -111,14 +112,15 @@ def by_recording(each: Sequence[tuple[str, Summary]], style: Style) -> Iterator[
 def by_abi(steps: Sequence[Step], style: Style) -> Iterator[str]:
     """The lines of the table by ABI, which follows a summary."""
     yield from _heading("by ABI: what breaks there first, and what is refused no more", style)
-    columns = [Column(head, number=True) for head in ("ABI", *VERDICTS)]
-    rows = [row for step in steps for row in _step_rows(step)]
+    verdicts = (*VERDICTS, UNSURE) if any(step.verdicts[UNSURE] for step in steps) else VERDICTS
+    columns = [Column(head, number=True) for head in ("ABI", *verdicts)]
+    rows = [row for step in steps for row in _step_rows(step, verdicts)]
     yield from table((*columns, Column("what changes", short=True)), rows, style.width)
 
 
-def _step_rows(step: Step) -> Iterator[list[Cell]]:
+def _step_rows(step: Step, verdicts: Sequence[str]) -> Iterator[list[Cell]]:
     """The rows of an ABI: its counts are in the first, and each says one thing that changes."""
-    counts = [words(f"{number:,}") for number in (step.abi, *(step.verdicts[verdict] for verdict in VERDICTS))]
+    counts = [words(f"{number:,}") for number in (step.abi, *(step.verdicts[verdict] for verdict in verdicts))]
     for said in _changes(step) or [words("")]:
         yield [*counts, said]
         counts = [words("")] * len(counts)
@@ -155,7 +157,8 @@ def _counts(summary: Summary, style: Style) -> Iterator[str]:
     verdicts = summary.verdicts
     refused = f"{verdicts['refused']:,} refused"
     not_all = ", and NOT ALL IS JUDGED (see the end)" if summary.missing else ""
-    text = (f"{summary.records:,} records: {verdicts['allowed']:,} allowed, {refused}{_of_these(summary)}, "
+    unsure = f"{verdicts[UNSURE]:,} may be refused, " if verdicts[UNSURE] else ""
+    text = (f"{summary.records:,} records: {verdicts['allowed']:,} allowed, {refused}{_of_these(summary)}, {unsure}"
             f"{verdicts['moot']:,} not asked (moot){not_all}")
     for line in layout.folded(text, style.width):
         yield line.replace(refused, style.red(refused)) if summary.others_refused else line
@@ -201,6 +204,26 @@ def _refusals(summary: Summary, style: Style, *, each: bool) -> Iterator[str]:
         why = _why_column([_lacks(refusal) for refusal in summary.refusals])
         columns = (_TIMES, Column("call"), Column("place", short=True), *_behind(summary), why)
         yield from table(columns, rows, style.width)
+
+
+def _unsure(summary: Summary, style: Style, *, each: bool) -> Iterator[str]:
+    """The calls that may be refused, with what is not known of each."""
+    if not summary.unsure:
+        return
+    kinds = sorted(summary.unsure.items(), key=lambda item: -item[1].total())
+    shown = kinds if each else kinds[:MOST_ROWS]
+    yield from _heading(f"may be refused: what was there before is not known ({counted(len(kinds), 'kind')})", style)
+    columns = (_TIMES, Column("call"), Column("place", short=True), Column("not known", short=True),
+               _why_column([_lacks(refusal) for refusal, _ in shown]))
+    yield from table(columns, [_unsure_row(refusal, programs) for refusal, programs in shown], style.width)
+    if len(kinds) > len(shown):
+        yield f"  --all lists {counted(len(kinds) - len(shown), 'more kind')}"
+
+
+def _unsure_row(refusal: Refusal, programs: Counter[str]) -> list[Cell]:
+    place = layout.parts(_person(refusal.place).split(" -> "), " -> ")
+    return [words(f"{programs.total():,}"), words(refusal.call), place, words(refusal.unknown or "-"),
+            layout.lacks(_lacks(refusal))]
 
 
 def _behind(summary: Summary) -> tuple[Column, ...]:

@@ -137,6 +137,9 @@ def _add(found: Summary, name: str, one: Summary) -> None:
     for refusal, programs in one.refusals.items():
         found.refusals.setdefault(refusal, Counter()).update(programs)
         found.recordings.setdefault(refusal, []).append(name)
+    for refusal, programs in one.unsure.items():
+        found.unsure.setdefault(refusal, Counter()).update(programs)
+        found.recordings.setdefault(refusal, []).append(name)
     for why, at in one.moot.items():
         found.moot.setdefault(why, Counter()).update(at)
     for verdict, places in one.not_allowed.items():

@@ -6,6 +6,7 @@ What is expected of each probe was seen on Linux 6.18; a refusal that a kernel a
 from __future__ import annotations
 
 import json
+import os
 import shutil
 import socket
 import subprocess
@@ -32,7 +33,8 @@ REFUSALS = frozenset({"EACCES", "EPERM", "EXDEV"})
 class Expected:
     """What a probe meets: the steps that the policy refuses, how the bare recording's audit foretells them (by the
     kinds of its refused calls), and the classes in which it counts calls that may be refused. It is recorded with some
-    options of `run`, and with a TCP socket as standard input if `socket` says so.
+    options of `run`, and with a TCP socket as standard input if `socket` says so. If it is `told`, it depends on how
+    soon the recorder looks whether the audit foretells what is refused or tells that it may be.
     """
 
     met: frozenset[str] = frozenset()
@@ -40,6 +42,7 @@ class Expected:
     holes: frozenset[str] = frozenset()
     options: tuple[str, ...] = ()
     socket: bool = False
+    told: bool = False
 
 
 def _of(
@@ -49,9 +52,10 @@ def _of(
     options: tuple[str, ...] = (),
     *,
     socket: bool = False,
+    told: bool = False,
 ) -> Expected:
     split = (frozenset(filter(None, text.split(", "))) for text in (met, foretold))
-    return Expected(*split, frozenset(holes), options, socket)
+    return Expected(*split, frozenset(holes), options, socket, told)
 
 
 #: What the rule on ptrace refuses of the process that started a probe.
@@ -92,9 +96,17 @@ EXPECTED = {
     "sending": _of(holes=(beyond.BY_SENDING,)),
     "threads": _of(foretold="open"),
     "thread_runs": _of(),
-    "memory": _of(),
+    "memory": _of(told=True),
     "core": _of("core file", holes=(CORE_FILE,)),
     "many_closed": _of(),
+    "cut": _of("cut", told=True),
+    "made": _of(),
+    "kinds": _of("rename directory, rename pipe", told=True),
+    "swapped": _of("make by the first", told=True),
+    "script": _of("run", told=True),
+    "without_times": _of(told=True),
+    "for_ioctl": _of("make, cut", "mknod, truncate"),
+    "busy": _of(),
 }
 
 
@@ -116,6 +128,20 @@ class LiveProbes(unittest.TestCase):
         for name in ("given", "closed"):
             (self.work / name).write_text(f"{name}\n")
         shutil.copy(HERE / "probes.py", self.work)
+        shutil.copy("/bin/true", self.work / "program")
+        self.fill_state(Path(f"{self.work}-state"))
+
+    def fill_state(self, state: Path) -> None:
+        """A folder beside that one, which is not listed before the run."""
+        subprocess.run(["umount", state / "ram"], stderr=subprocess.DEVNULL, check=False)
+        shutil.rmtree(state, ignore_errors=True)
+        for name in ("directory", "first", "second", "ram"):
+            (state / name).mkdir(parents=True)
+        (state / "pid").write_text("1\n")
+        (state / "now").symlink_to("first")
+        os.mkfifo(state / "pipe")
+        if subprocess.run(["mount", "-t", "ramfs", "none", state / "ram"], stderr=subprocess.DEVNULL).returncode == 0:
+            self.addCleanup(subprocess.run, ["umount", state / "ram"], stderr=subprocess.DEVNULL, check=False)
 
     def run_recorded(
         self, out: str, *command: str, options: tuple[str, ...] = (), stdin: socket.socket | None = None
@@ -159,7 +185,10 @@ class LiveProbes(unittest.TestCase):
                 self.assertNotIn("cut", str(audit["not_judged"]))
                 ops = {refusal["call"].split(" ")[0] for refusal in audit["refusals"]}
                 self.assertLessEqual(expected.foretold, ops)
-                self.assertEqual(self.holes("bare"), expected.holes)
+                if not expected.told:
+                    self.assertEqual(self.holes("bare"), expected.holes)
+                elif expected.met:
+                    self.assertTrue(ops or audit["may_be_refused"] or audit["not_judged"])
                 compared = self.said("compare", str(self.folder / "confined"))
                 self.assertEqual([one for one in compared["differences"] if not one["named"]], [])
 

@@ -592,6 +592,67 @@ def many_closed() -> None:
     subprocess.run(["true"], check=True)
 
 
+STATE = Path(f"{Path.cwd()}-state")
+"""A folder beside the working directory, which is not listed before the run."""
+
+
+def cut() -> None:
+    """A file that was there is cut by an open that would have made it, and removed."""
+    path = STATE / "pid"
+    attempt("cut", lambda: os.close(os.open(path, os.O_WRONLY | os.O_CREAT | os.O_TRUNC, 0o644)))
+    attempt("remove", path.unlink)
+
+
+def made() -> None:
+    """A file that the run makes and removes: nothing is cut, and nothing is refused."""
+    path = STATE / "new"
+    list(STATE.iterdir())
+    attempt("make", lambda: os.close(os.open(path, os.O_WRONLY | os.O_CREAT | os.O_TRUNC, 0o644)))
+    attempt("remove", path.unlink)
+
+
+def kinds() -> None:
+    """A directory and a named pipe that are renamed and removed."""
+    for name, remove in (("directory", Path.rmdir), ("pipe", Path.unlink)):
+        attempt(f"rename {name}", lambda: (STATE / name).rename(STATE / f"{name}-old"))
+        attempt(f"remove {name}", lambda: remove(STATE / f"{name}-old"))
+
+
+def swapped() -> None:
+    """A directory is made by a link, which is then another one."""
+    attempt("make by the first", lambda: (STATE / "now" / "sub").mkdir())
+    attempt("make a link", lambda: (STATE / "then").symlink_to("second"))
+    attempt("replace the link", lambda: (STATE / "then").rename(STATE / "now"))
+    attempt("make by the second", lambda: (STATE / "now" / "sub").mkdir())
+
+
+def script() -> None:
+    """A script that is made, run and removed; its program may not be run."""
+    path = STATE / "script"
+    path.write_text(f"#!{Path('program').resolve()}\n")
+    path.chmod(0o755)
+    attempt("run", lambda: subprocess.run([path], check=True))
+    path.unlink()
+
+
+def without_times() -> None:
+    """A file system that does not keep when a file was made (ramfs)."""
+    attempt("make", lambda: os.close(os.open(STATE / "ram" / "new", os.O_WRONLY | os.O_CREAT, 0o644)))
+
+
+def for_ioctl() -> None:
+    """Opens with access mode 3 (open(2)): a file is made, another one is cut."""
+    attempt("make", lambda: os.close(os.open("kept-not", os.O_CREAT | 3, 0o644)))
+    attempt("cut", lambda: os.close(os.open("given", os.O_TRUNC | 3)))
+    attempt("open", lambda: os.close(os.open("given", 3)))
+
+
+def busy() -> None:
+    """A program that runs can't be written, whatever a policy says."""
+    attempt("write", lambda: os.close(os.open(sys.executable, os.O_WRONLY)))
+    attempt("cut", lambda: os.truncate(sys.executable, 0))
+
+
 PROBES: dict[str, Callable[[], None]] = {
     function.__name__: function
     for function in (
@@ -625,6 +686,14 @@ PROBES: dict[str, Callable[[], None]] = {
         memory,
         core,
         many_closed,
+        cut,
+        made,
+        kinds,
+        swapped,
+        script,
+        without_times,
+        for_ioctl,
+        busy,
     )
 }
 

@@ -33,6 +33,10 @@ DISK: list[jsonl.Record] = [
     {"path": "/w/hard-2", "kind": "reg", "inode": "1:7"},
     {"path": "/proc", "kind": "dir"},
     {"path": "/proc/self/fd", "kind": "dir"},
+    {"path": "/proc/self/fdinfo", "kind": "dir"},
+    {"path": "/proc/self/fdinfo/0", "kind": "reg"},
+    {"path": "/proc/self/task", "kind": "dir"},
+    *({"path": f"/proc/self/{name}", "kind": "reg"} for name in ("environ", "maps", "mem")),
 ]
 
 

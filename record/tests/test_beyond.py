@@ -8,9 +8,9 @@ from __future__ import annotations
 
 import unittest
 
-from landaudit_record.recorder.calls import beyond, descriptors, mounts, others
+from landaudit_record.recorder.calls import beyond, descriptors, mounts, others, programs
 
-from .written_logs import CWD, WrittenLogs, told
+from .written_logs import CWD, DISK, WrittenLogs, told
 
 EACCES = "-1 EACCES (Permission denied)"
 EPERM = "-1 EPERM (Operation not permitted)"
@@ -99,8 +99,14 @@ class Beyond(WrittenLogs):
         self.assertEqual(self.convert(socket, "sendto(0x3, 0x7f, 0x1, 0, 0, 0) = 1"), [])
         self.assertEqual(self.unsaid(), [])
 
-    def test_a_program_that_is_in_memory_alone_has_a_loader(self) -> None:
-        trace = self.convert('execveat(3</memfd:x>(deleted), "", ["x"], 0x1 /* 2 vars */, 0x1000 /* AT_EMPTY_PATH */) = 0')
+    RUN = 'execveat(3</memfd:x>(deleted), "", ["x"], 0x1 /* 2 vars */, 0x1000 /* AT_EMPTY_PATH */) = 0'
+
+    def test_a_program_that_is_in_memory_alone_may_have_any_loader(self) -> None:
+        self.assert_hole(programs.UNKNOWN_PROGRAM, self.RUN)
+
+    def test_a_program_that_is_in_memory_alone_has_the_loader_that_it_was_seen_to_have(self) -> None:
+        self.disk = [*DISK, {"program": "/memfd:x", "first": 1, "until": 1, "interpreter": "/w/loader"}]
+        trace = self.convert(self.RUN)
         self.assertEqual(
             told(trace, "op", "path", "role")[:2],
             [("open", "/w/loader", "interpreter"), ("exec", "/w/loader", "interpreter")],
@@ -213,6 +219,9 @@ class OtherProcesses(WrittenLogs):
             ("5</proc/1>", "fdinfo/0", "/proc/1/fdinfo/0"),
         ):
             with self.subTest(path):
+                own = (("fdinfo", "dir"), ("fdinfo/0", "reg"), ("environ", "reg"), ("maps", "reg"), ("mem", "reg"))
+                self.disk = [*DISK, *({"path": f"/proc/self/{name}", "kind": kind} for name, kind in own),
+                             {"path": "/proc", "kind": "dir"}, {"path": "/proc/self/task", "kind": "dir"}]
                 trace = self.convert(f'openat({base}, "{path}", 0 /* O_RDONLY */) = 3<{opened}>')
                 self.assertEqual([record["op"] for record in trace], ["open"])
                 self.assertEqual(self.unsaid(), [(others.INTO_ANOTHER, True)])

@@ -109,7 +109,7 @@ class Written(unittest.TestCase):
     def test_as_data(self) -> None:
         data = by_abi.as_data(by_abi.steps([summary(1, MOVE, warnings=("a",)), summary(2)]))
         move = {"call": "rename", "place": "/a/f -> /b/f", "error": "EXDEV"}
-        counts = {"allowed": 10, "moot": 1}
+        counts = {"allowed": 10, "moot": 1, "unsure": 0}
         self.assertEqual(data, [
             {"abi": 1, "records": 12, "refused": 1, **counts, "breaks": [move], "refused_no_more": [],
              "more_warnings": ["a"]},

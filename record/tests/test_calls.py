@@ -8,6 +8,8 @@ from __future__ import annotations
 
 import unittest
 
+from landaudit_record.recorder.calls import descriptors
+
 from .kept_logs import bare
 from .strace_lines import CONFINED, CWD, StraceLines
 
@@ -45,7 +47,7 @@ class Calls(StraceLines):
         self.assertEqual((looped["path"], looped.get("create")), ("/w/loop~new~", None))
 
     def test_a_refused_creation_that_made_the_file_is_seen_by_a_later_call(self) -> None:
-        _, refused, _, later, _ = self.convert(
+        _, refused, _, later, *_ = self.convert(
             CONFINED,
             f'openat({CWD}, "n", 0x42 /* O_RDWR|O_CREAT */, 0600) = -1 EACCES (Permission denied)',
             f'openat({CWD}, "n", 0 /* O_RDONLY */) = -1 EACCES (Permission denied)',
@@ -64,10 +66,40 @@ class Calls(StraceLines):
                          ["restrict", "open", "close", "mkdir"])
 
     def test_an_exchange_that_is_refused_says_that_both_are_there(self) -> None:
-        exchange = self.one(
-            f'renameat2({CWD}, "f", {CWD}, "d/g", 0x2 /* RENAME_EXCHANGE */) = -1 EXDEV (Invalid cross-device link)'
+        exchange = f'renameat2({CWD}, "f", {CWD}, "d/in", 0x2 /* RENAME_EXCHANGE */)'
+        _, said = self.convert(CONFINED, f"{exchange} = -1 EXDEV (Invalid cross-device link)")
+        self.assertEqual(bare(said), {"op": "rename", "from": "/w/f", "to": "/w/d/in", "exchange": True})
+
+    def test_a_move_between_file_systems_is_no_question_to_landlock(self) -> None:
+        self.assertEqual(self.convert('rename("f", "d/g") = -1 EXDEV (Invalid cross-device link)'), [])
+        self.assertEqual(self.unsaid(), ["EXDEV before Landlock is asked"])
+
+    def test_what_a_file_forbids_comes_before_landlock(self) -> None:
+        for error in ("ETXTBSY (Text file busy)", "EPERM (Operation not permitted)", "EROFS (Read-only file system)"):
+            with self.subTest(error):
+                calls = (f'openat({CWD}, "f", 0x1 /* O_WRONLY */) = -1 {error}', f'truncate("f", 0) = -1 {error}')
+                self.assertEqual(self.convert(*calls), [])
+                self.assertEqual(self.unsaid(), [f"{error.split()[0]} before Landlock is asked"] * 2)
+
+    def test_nothing_is_asked_where_nothing_can_be_written(self) -> None:
+        error = "-1 EROFS (Read-only file system)"
+        calls = ("mkdir", "rmdir", "unlink", "symlink", "rename", "link", "mknod", "creat")
+        more = {"symlink": ', "n"', "rename": ', "n"', "link": ', "n"', "mknod": ", 0100600, 0", "mkdir": ", 0700"}
+        self.assertEqual(self.convert(*(f'{name}("f"{more.get(name, "")}) = {error}' for name in calls)), [])
+
+    def test_access_mode_3_asks_to_make_and_to_truncate(self) -> None:
+        made, cut = self.convert(
+            f'openat({CWD}, "d/n", 0x43 /* O_ACCMODE|O_CREAT */, 0600) = 3</w/d/n>',
+            f'openat({CWD}, "f", 0x203 /* O_ACCMODE|O_TRUNC */) = 4</w/f>',
+            f'openat({CWD}, "f", 0x3 /* O_ACCMODE */) = 5</w/f>',
         )
-        self.assertEqual(exchange, {"op": "rename", "from": "/w/f", "to": "/w/d/g", "exchange": True})
+        self.assertEqual(bare(made), {"op": "mknod", "path": "/w/d/n~new~", "kind": "reg"})
+        self.assertEqual(bare(cut), {"op": "truncate", "path": "/w/f"})
+
+    def test_a_device_opened_with_access_mode_3_remembers_what_it_may(self) -> None:
+        self.convert(f'openat({CWD}, "/dev/x", 0x3 /* O_ACCMODE */) = 3</dev/x<char 7:1>>',
+                     "ioctl(3</dev/x<char 7:1>>, 0x5401 /* TCGETS */, 0x1) = -1 ENOTTY (Inappropriate ioctl)")
+        self.assertEqual(self.unsaid(), [descriptors.FOREIGN])
 
     def test_a_path_that_was_one_kind_and_then_another(self) -> None:
         trace = self.convert(

@@ -39,12 +39,6 @@ class Links(unittest.TestCase):
         self.assertEqual(disk.look(str(self.one)), disk.look(str(self.other)))
         self.assertIsNotNone(getattr(disk.look(str(self.one)), "inode"))
 
-    def test_links_that_the_run_may_have_made_tell_nothing(self) -> None:
-        os.link(self.one, self.other)
-        changed = self.one.stat().st_ctime
-        for since, told in ((changed + 1, True), (changed, False)):
-            self.assertEqual(getattr(disk.look(str(self.one), since), "inode") is not None, told)
-
     def test_what_is_kept_is_read_again(self) -> None:
         os.link(self.one, self.other)
         kept = self.one.with_name("kept")
@@ -106,7 +100,11 @@ class Interpreters(unittest.TestCase):
     def test_what_is_no_file(self) -> None:
         self.assertIsNone(disk.interpreter("/nothere"))
         self.assertIsNone(disk.interpreter("/a\0b"))
-        self.assertIsNone(disk.Disk(0.0).interpreter("/dev/null"))
+        self.assertFalse(disk.Disk(0.0).program("/dev/null", 1).known)
+
+    def test_only_blanks_end_the_name_of_a_program(self) -> None:
+        self.assertEqual(self.of(b"#! \t/bin/i \t-a b\n"), "/bin/i")
+        self.assertEqual(self.of(b"#!/bin/i\r\n"), "/bin/i\r")
 
 
 if __name__ == "__main__":

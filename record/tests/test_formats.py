@@ -82,11 +82,15 @@ class Foreign(unittest.TestCase):
         folder = Path(self.enterContext(tempfile.TemporaryDirectory()))
         (folder / "toy").write_bytes(TOY)
         seen = disk.Disk(0.0)
-        self.assertEqual((seen.head(str(folder / "toy")), seen.head("/bin/sh")), (TOY, b""))
+        self.assertEqual(self.heads(seen, folder / "toy"), (TOY, b""))
         seen.keep(folder / "objects.jsonl")
         (folder / "toy").unlink()
         kept = disk.kept(folder / "objects.jsonl", 0.0)
-        self.assertEqual((kept.head(str(folder / "toy")), kept.head("/bin/sh")), (TOY, b""))
+        self.assertEqual(self.heads(kept, folder / "toy"), (TOY, b""))
+
+    def heads(self, seen: disk.Disk, toy: Path) -> tuple[bytes, bytes]:
+        """How a file of a format begins, and what is kept of one that needs none."""
+        return seen.program(str(toy), 1).head, seen.program(str(Path("/bin/sh").resolve()), 1).head
 
 
 class Run(WrittenLogs):

@@ -10,6 +10,7 @@ import random
 import unittest
 
 from landaudit_record import jsonl
+from landaudit_record.recorder.names import OF_KIND, REPLACED_OR_NOT
 
 from .strace_lines import CONFINED, CWD, StraceLines
 
@@ -179,6 +180,8 @@ class Objects(StraceLines):
 class Linked(StraceLines):
     """A file with two names from before the run."""
 
+    watched = True
+
     def test_it_is_one_object(self) -> None:
         self.convert(reads("hard-2"), reads("hard-1"), 'unlink("hard-1") = 0', makes("hard-1"), reads("hard-1"))
         listed = self.listed()
@@ -192,7 +195,9 @@ class Unwatched(StraceLines):
 
     def test_what_is_known_by_a_call_alone_was_there(self) -> None:
         trace = self.convert(reads("conf"), makes("new"), 'rename("new", "conf") = 0', reads("conf"))
-        self.assertEqual((trace[0]["path"], trace[-1]["path"]), ("/w/conf", "/w/conf~2~"))
+        self.assertEqual([record for record in trace if record.get("unknown") == OF_KIND], [])
+        read = [record["path"] for record in trace if record.get("mode") == "r" and "otherwise" not in record]
+        self.assertEqual((read[0], read[-1]), ("/w/conf", "/w/conf~2~"))
         self.assertEqual(self.listed()["/w/conf"], {"kind": "reg"})
 
     def test_what_was_missing_before_was_made(self) -> None:
@@ -201,8 +206,10 @@ class Unwatched(StraceLines):
         self.assertEqual(self.listed()["/w/conf"], {"kind": "reg", "made": True})
 
     def test_a_rename_onto_a_name_of_which_nothing_is_known_may_replace_something(self) -> None:
-        (moved,) = self.convert('rename("f", "unknown") = 0')
-        self.assertEqual((moved["from"], moved["to"]), ("/w/f", "/w/unknown"))
+        moved, otherwise = self.convert('rename("f", "text") = 0')
+        self.assertEqual((moved["from"], moved["to"], moved["unknown"]), ("/w/f", "/w/text", REPLACED_OR_NOT))
+        self.assertEqual((otherwise["from"], otherwise["to"]), ("/w/f", "/w/text~new~"))
+        self.assertTrue(otherwise["otherwise"])
 
     def test_a_rename_that_replaces_nothing(self) -> None:
         (moved,) = self.convert(f'renameat2({CWD}, "f", {CWD}, "unknown", 0x1 /* RENAME_NOREPLACE */) = 0')

@@ -53,6 +53,13 @@ NOT_OPEN = moot("unopened", fd=9)
 Call = tuple[Record, Said]
 
 
+def in_doubt(record: Record, otherwise: int = 0) -> Record:
+    """A record of a call that may be another one; or that other one, with the number of its descriptor."""
+    marks: Record = {"unknown": "its kind", "otherwise": True} if otherwise else {"unknown": "its kind"}
+    return {**marks, **record, "fd": otherwise or record["fd"]}
+
+
+
 def summed(
     calls: Sequence[Call], abi: int = 5, unsaid: Counter[str] | None = None, *, tried: bool = False
 ) -> Summary:
@@ -514,8 +521,8 @@ class Data(unittest.TestCase):
         data = summary.as_data(summed([NNP, *LAYER, (READ, REFUSED), ({"op": "close", "fd": 9}, NOT_OPEN)]))
         self.assertEqual(
             sorted(data),
-            ["abi", "accepted", "allowed", "moot", "moot_because", "moot_path_calls", "not_judged", "not_traced"]
-            + ["path_calls", "records", "refusals", "refused", "unsaid", "warnings"],
+            ["abi", "accepted", "allowed", "may_be_refused", "moot", "moot_because", "moot_path_calls", "not_judged"]
+            + ["not_traced", "path_calls", "records", "refusals", "refused", "unsaid", "unsure", "warnings"],
         )
         self.assertEqual((data["records"], data["allowed"], data["refused"], data["moot"]), (6, 4, 1, 1))
         self.assertEqual(
@@ -523,6 +530,23 @@ class Data(unittest.TestCase):
             ["call", "condition", "error", "layers", "place", "programs", "times"],
         )
         json.dumps(data)
+
+    def test_calls_that_may_be_refused(self) -> None:
+        found = summed([NNP, *LAYER, (in_doubt(READ), "allowed"), (in_doubt(READ, 6), REFUSED)])
+        data = summary.as_data(found)
+        self.assertEqual([data[name] for name in ("records", "allowed", "refused", "unsure")], [5, 4, 0, 1])
+        (told,) = data["may_be_refused"]
+        about = (told["call"], told["place"], told["unknown"], told["times"])
+        self.assertEqual(about, ("open r", "/a/f", "its kind", 1))
+        self.assertEqual((data["refusals"], found.others_refused), ([], False))
+        lines = list(summary_text.lines(found, "title", Style(False)))
+        self.assertIn("5 records: 4 allowed, 0 refused, 1 may be refused, 0 not asked (moot)", lines)
+        self.assertIn("may be refused: what was there before is not known (1 kind)", lines)
+
+    def test_calls_that_are_refused_in_all_cases(self) -> None:
+        data = summary.as_data(summed([NNP, *LAYER, (in_doubt(READ), REFUSED), (in_doubt(READ, 6), REFUSED)]))
+        self.assertEqual([data[name] for name in ("records", "allowed", "refused", "unsure")], [5, 4, 1, 0])
+        self.assertEqual(([one["times"] for one in data["refusals"]], data["may_be_refused"]), ([1], []))
 
 
 class Joining(unittest.TestCase):

@@ -70,7 +70,8 @@ Each = Sequence[tuple[Member, list[Summary]]]
 def run(arguments: argparse.Namespace) -> int:
     """Writes OUT/report.jsonl of each recording, and prints the summary of all.
 
-    The status is 1 if an ABI refuses a record, else 5 if not everything that a policy may refuse could be judged.
+    The status is 1 if an ABI refuses a record, else 5 if an ABI may refuse one, or if not everything that a policy may
+    refuse could be judged.
     """
     program = landaudit.find(arguments.landaudit)
     policy = None if arguments.policy is None else policies.read(Path(arguments.policy))
@@ -97,7 +98,8 @@ def run(arguments: argparse.Namespace) -> int:
         page.write(arguments.html, about, summaries, parts, together.tried_of(members))
     if any(summary.others_refused for _, found in each for summary in found):
         return 1
-    return NOT_ALL_JUDGED if any(member.recording.missing for member in members) else 0
+    unsure = any(summary.unsure for _, found in each for summary in found)
+    return NOT_ALL_JUDGED if unsure or any(member.recording.missing for member in members) else 0
 
 
 def _summaries(member: Member, auditing: Auditing, abis: range) -> list[Summary]:

@@ -17,7 +17,7 @@ from pathlib import Path
 from .. import PROGRAMS, RECORDER, confining, landaudit, policies, surroundings
 from ..options import add_abi
 from ..problems import USAGE, WANTING, Problem
-from ..recorder import formats, recordings, tracing, witness
+from ..recorder import beside, formats, recordings, tracing, witness
 from . import audit, convert
 
 NAME = "run"
@@ -81,7 +81,10 @@ def run(arguments: argparse.Namespace) -> int:
         if policy is not None:
             command = confining.under(policy.kept_in(folder), policy.abi, command)
         listening = witness.Witness(folder) if arguments.witness else None
+    following = beside.Beside(folder / "strace.txt", about.directory, about.started, about.watched, about.registered)
+    following.start()
     outcome = tracing.run(folder / "strace.txt", command, readlink=arguments.readlink)
+    following.stop(folder / recordings.BESIDE)
     if listening is not None:
         listening.end()
     replace(about, ended=outcome.ended, taken=list(outcome.taken)).write(folder)

@@ -64,6 +64,7 @@ def _parts(summaries: Sequence[Summary], found: Paths, tried: Tried | None) -> I
     """All parts that a page may have, in their order."""
     newest, abis = summaries[-1], [summary.abi for summary in summaries]
     yield Section("refused", "Refused", sections.refused(summaries))
+    yield Section("unsure", "May be refused", sections.unsure(summaries))
     yield Section("accepted", "Refused and accepted", sections.accepted(summaries))
     yield Section("totals", "By ABI", sections.totals(by_abi.steps(summaries)))
     yield Section("paths", "Paths", sections.paths(abis, found))

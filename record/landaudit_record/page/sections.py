@@ -6,6 +6,7 @@ from collections import Counter
 from collections.abc import Iterable, Iterator, Sequence
 from dataclasses import dataclass
 
+from ..answers import UNSURE
 from ..by_abi import Kind, Step
 from ..policies import Policy
 from ..rights import FS, NET
@@ -25,6 +26,9 @@ LONGEST = 300
 MOST_KINDS = 20
 
 MOOT = "A call is moot if Landlock is not asked: for example, the file does not exist, or the call fails earlier."
+
+UNKNOWN = ("The recording does not know what was there before these calls: in one case the policy refuses them, in "
+           "another it does not.")
 
 
 @dataclass(frozen=True)
@@ -88,6 +92,7 @@ def _figures(summary: Summary) -> Markup:
         (f"{summary.records:,}", f"records at ABI {summary.abi}", ""),
         (f"{verdicts['allowed']:,}", "allowed", "allowed"),
         (f"{verdicts['refused']:,}", f"refused{of_these}", "refused" if summary.others_refused else "none"),
+        *([(f"{verdicts[UNSURE]:,}", "may be refused", "refused")] if verdicts[UNSURE] else ()),
         (f"{verdicts['moot']:,}", "not asked (moot)", "moot"),
     )
     told = (element("div", element("b", number), " ", element("span", what), kind=kind)
@@ -157,6 +162,27 @@ def refused(summaries: Sequence[Summary]) -> Markup:
     told = [paragraph(_how_many(summary), kind=kinds([summary.abi])) for summary in summaries]
     rows = (_refusal(refusal, by_abi) for refusal, by_abi in found)
     return together((*told, *((_filter(), table("refusals", heads, rows)) if found else ())))
+
+
+def unsure(summaries: Sequence[Summary]) -> Markup:
+    """The table of the calls of all ABIs that may be refused; the page shows those of the chosen ABI."""
+    found: dict[Refusal, dict[int, Counter[str]]] = {}
+    for summary in reversed(summaries):
+        for refusal, programs in summary.unsure.items():
+            found.setdefault(refusal, {})[summary.abi] = programs
+    if not found:
+        return Markup()
+    heads = ("times", "call", "place", "not known", "error", "why", "program")
+    rows = (_unsure(refusal, by_abi) for refusal, by_abi in found.items())
+    return together((paragraph(UNKNOWN), table("unsure", heads, rows)))
+
+
+def _unsure(refusal: Refusal, by_abi: dict[int, Counter[str]]) -> Markup:
+    abis = sorted(by_abi)
+    times = varied(abis, [f"{by_abi[abi].total():,}" for abi in abis])
+    programs = varied(abis, [named(names(by_abi[abi])) for abi in abis])
+    cells = (times, refusal.call, named(refusal.place), refusal.unknown or "-", refusal.error, named(why(refusal)))
+    return row(*cells, programs, kind=kinds(abis))
 
 
 def _by_refusal(summaries: Sequence[Summary]) -> list[tuple[Refusal, dict[int, Counter[str]]]]:

@@ -8,13 +8,13 @@ from typing import Any
 from ..finished import Converted
 from ..problems import Problem
 from . import disk, strace_log, unrecorded
-from .calls import HANDLERS, others
+from .calls import HANDLERS, arguments, others
 from .modes import NOBODY_KNOWN
-from .names import Names
+from .names import Doubts, Names, UnknownWay
 from .ports import Ports
 from .processes import Handle, Place, Process, Thread
 from .progress import Progress
-from .recordings import OBJECTS, About, read_about, read_before
+from .recordings import BESIDE, OBJECTS, About, read_about, read_before
 from .scene import Scene
 from .strace_log import Call, Ended, Superseded, Unread
 from .unsaid import NOT_UNDERSTOOD, CannotSay
@@ -28,11 +28,27 @@ LINES_APART = 64
 
 
 def convert(folder: Path, ports: Ports, limits: Limits = LIMITS) -> Converted:
-    """Writes the trees and traces of a recording from its log; the files are put in place when all are written."""
+    """Writes the trees and traces of a recording from its log; the files are put in place when all are written.
+
+    A conversion may find out that it took something to be known that is not: then it begins again.
+    """
     about = read_about(folder)
+    kept = disk.kept(folder / OBJECTS, about.started, about.registered, folder / BESIDE)
+    doubts = Doubts()
+    while True:
+        found = doubts.size()
+        done = _convert(folder, about, kept, doubts, ports, limits, found)
+        if done is not None:
+            (folder / BESIDE).unlink(missing_ok=True)
+            return done
+
+
+def _convert(
+    folder: Path, about: About, kept: disk.Disk, doubts: Doubts, ports: Ports, limits: Limits, found: int
+) -> Converted | None:
+    """One conversion; None if it added to the `found` doubts."""
     log = strace_log.find_log(folder)
-    kept = disk.kept(folder / OBJECTS, about.started, about.registered)
-    names = Names(kept, read_before(folder), about.watched, about.whiteouts, about.unlisted)
+    names = Names(kept, read_before(folder), about.watched, about.whiteouts, about.unlisted, doubts)
     with Recording(folder, Tree(names), limits) as recording, Progress("records") as progress:
         births = strace_log.births(log)
         scene = Scene(names, kept, recording, births, ports, reads_links=about.readlink, hides=about.hidepid)
@@ -48,6 +64,8 @@ def convert(folder: Path, ports: Ports, limits: Limits = LIMITS) -> Converted:
             raise Problem(f"{log} is not a log that 'landaudit-record run' wrote: record the program with it")
         if recording.records == 0:
             raise Problem(f"{log} has no call of a program: record it again")
+        if doubts.size() > found:
+            return None
         for place in about.taken:
             recording.leave_out(TAKEN_AWAY, 0, 0, place, asks=True)
         kept.keep(folder / OBJECTS)
@@ -70,6 +88,7 @@ def _take(scene: Scene, event: Ended | Superseded | Unread) -> None:
 def _take_call(scene: Scene, about: About, call: Call) -> None:
     """Takes a call, whose records are all written or none; most calls are of a thread that is known already."""
     handler = HANDLERS.get(call.name)
+    scene.names.line = call.line
     try:
         thread = scene.threads.get(call.tid)
         if thread is None or scene.unmet:
@@ -85,7 +104,8 @@ def _take_call(scene: Scene, about: About, call: Call) -> None:
             others.passed_by_links(scene, thread, call)
     except CannotSay as reason:
         scene.recording.drop()
-        scene.recording.leave_out(str(reason), call.line, call.tid, call.text, asks=reason.asks)
+        asks = reason.asks and not (isinstance(reason, UnknownWay) and call.error in arguments.NOT_REACHED)
+        scene.recording.leave_out(str(reason), call.line, call.tid, call.text, asks=asks)
 
 
 def _started(scene: Scene, about: About, call: Call) -> Thread:

@@ -4,10 +4,12 @@ from __future__ import annotations
 
 import ctypes
 import os
+import re
 import stat
-from collections.abc import Container, Sequence
+from collections.abc import Container, Mapping, Sequence
 from dataclasses import dataclass
 from functools import cache
+from itertools import chain
 from pathlib import Path
 from struct import Struct
 from sys import maxsize
@@ -26,6 +28,7 @@ _KINDS = {
     stat.S_IFIFO: "fifo",
     stat.S_IFSOCK: "sock",
 }
+_BLANKS = re.compile(rb"[ \t]+")
 _AT_FDCWD = -100
 _AT_SYMLINK_NOFOLLOW = 0x100
 _STATX_BTIME = 0x800
@@ -39,15 +42,45 @@ WHITEOUT = "whiteout"
 class Seen:
     """An object: its kind, a link's target, whether it was made after the run began, and whether a file may be run.
 
-    `inode` is set if the object has several names (hard links) and had them when the run began: names with the same
-    `inode` are one object.
+    `new` is None if the file system keeps no birth times. `inode` is set if the object has several names (hard links):
+    names with the same `inode` are one object.
     """
 
     kind: str
     target: str | None = None
-    new: bool = False
+    new: bool | None = False
     runs: bool = False
     inode: str | None = None
+
+
+#: The line of the log until which calls may have come before what was seen after the run: every line.
+AFTER = maxsize
+
+
+@dataclass(frozen=True, slots=True)
+class Observed:
+    """What was seen at a path, nothing or an object.
+
+    `until` is the last line of the log that had begun by then: calls that began on later lines came after it.
+    """
+
+    seen: Seen | None
+    until: int = AFTER
+
+
+@dataclass(frozen=True, slots=True)
+class Program:
+    """How a file says that it is run: by which interpreter or loader, and how it begins if a format may run it.
+
+    It was read for runs from the line `first` of the log on; `until` is as in `Observed`. If it could not be read then,
+    it is not `known`.
+    """
+
+    interpreter: str | None = None
+    head: bytes = b""
+    known: bool = True
+    first: int = 0
+    until: int = AFTER
 
 
 def kind_of(mode: int, device: int) -> str:
@@ -63,12 +96,17 @@ def look(path: str, since: float = 0.0) -> Seen | None:
         target = os.readlink(path) if stat.S_ISLNK(status.st_mode) else None
     except (OSError, ValueError):
         return None
-    born = _born(path) if since else None
     kind = kind_of(status.st_mode, status.st_rdev)
-    linked = status.st_nlink > 1 and kind != "dir" and (not since or status.st_ctime < since)
+    linked = status.st_nlink > 1 and kind != "dir"
     inode = f"{status.st_dev}:{status.st_ino}" if linked else None
     runs = kind == "reg" and status.st_mode & 0o111 != 0
-    return Seen(kind, target, born is not None and born >= since, runs, inode)
+    return Seen(kind, target, _is_new(path, since), runs, inode)
+
+
+def _is_new(path: str, since: float) -> bool | None:
+    """Whether an object was made after a time, if its file system says so; nothing is newer than no time."""
+    born = _born(path) if since else 0.0
+    return None if born is None else bool(since) and born >= since
 
 
 def mode(path: str) -> Mode | None:
@@ -108,12 +146,36 @@ def interpreter(path: str) -> str | None:
         with open(path, "rb") as program:
             head = program.read(HEAD)
             if head.startswith(b"#!"):
-                words = head[2:].split(b"\n", 1)[0].split(None, 1)
-                return _text(words[0]) if words else None
+                return _after_mark(head)
             layout = _LAYOUTS.get(head[:6])
             return _loader(program, head, layout) if layout is not None else None
     except (OSError, ValueError):
         return None
+
+
+def _after_mark(head: bytes) -> str | None:
+    """The program after `#!`, as the kernel reads it: only blanks and tabs end its name, not a carriage return."""
+    words = _BLANKS.split(head[2:].split(b"\n", 1)[0].strip(b" \t"), maxsplit=1)
+    return _text(words[0])
+
+
+def program(path: str, formats: Sequence[Format]) -> Program:
+    """How a file says that it is run, if it is a regular file that can be read."""
+    return program_at(path, formats) if stat.S_ISREG(_mode_bits(path)) else Program(known=False)
+
+
+def program_at(path: str, formats: Sequence[Format]) -> Program:
+    """How what a path leads to says that it is run, if it can be read."""
+    begins = head(path)
+    by_format = is_foreign(begins) or first_of(formats, "", begins) is not None
+    return Program(interpreter(path), begins if by_format else b"") if begins else Program(known=False)
+
+
+def _mode_bits(path: str) -> int:
+    try:
+        return os.lstat(path).st_mode
+    except (OSError, ValueError):
+        return 0
 
 
 def head(path: str) -> bytes:
@@ -207,48 +269,51 @@ def _read(program: BinaryIO, place: int, length: int) -> bytes:
 
 
 class Disk:
-    """The disk as a recording sees it: each answer is kept and used again."""
+    """The disk as a recording sees it: each answer is kept and used again.
+
+    `seen` and `programs` have what was seen while the run went on; what they lack is looked up now, after the run, or
+    is what `kept` and `after` have of that time.
+    """
 
     def __init__(
         self,
         since: float,
-        kept: dict[str, Seen] | None = None,
-        by: dict[str, str] | None = None,
-        modes: dict[str, Mode] | None = None,
+        kept: Mapping[str, Seen] | None = None,
+        after: Mapping[str, Program] | None = None,
+        modes: Mapping[str, Mode] | None = None,
         *,
         formats: Sequence[Format] = (),
-        heads: dict[str, bytes] | None = None,
+        seen: Mapping[str, Observed] | None = None,
+        programs: Mapping[str, list[Program]] | None = None,
     ) -> None:
         self._since = since
         self._live = kept is None
-        self._seen: dict[str, Seen | None] = dict(kept or {})
-        self._interpreters: dict[str, str | None] = dict(by or {})
+        self._observed = {path: Observed(one) for path, one in (kept or {}).items()} | dict(seen or {})
+        self._programs = dict(programs or {})
+        self._after = dict(after or {})
         self._modes: dict[str, Mode | None] = dict(modes or {})
         self.formats = formats
-        self._heads: dict[str, bytes] = dict(heads or {})
+
+    def observed(self, path: str) -> Observed:
+        """What was seen at a path."""
+        found = self._observed.get(path)
+        if found is None:
+            found = self._observed[path] = Observed(look(path, self._since) if self._live else None)
+        return found
 
     def look(self, path: str) -> Seen | None:
-        """The object at a path after the run."""
-        if path not in self._seen:
-            self._seen[path] = look(path, self._since) if self._live else None
-        return self._seen[path]
+        """The object that was seen at a path."""
+        return self.observed(path).seen
 
-    def interpreter(self, path: str) -> str | None:
-        """The interpreter of a file, if the file still exists and names one."""
-        seen = self.look(path)
-        if path not in self._interpreters:
-            runs = self._live and seen is not None and seen.kind == "reg"
-            self._interpreters[path] = interpreter(path) if runs else None
-        return self._interpreters[path]
-
-    def head(self, path: str) -> bytes:
-        """The beginning of a file that is run by a format, known or not; nothing for all other files."""
-        seen = self.look(path)
-        if path not in self._heads:
-            begins = head(path) if self._live and seen is not None and seen.kind == "reg" else b""
-            by_format = begins and (is_foreign(begins) or first_of(self.formats, "", begins) is not None)
-            self._heads[path] = begins if by_format else b""
-        return self._heads[path]
+    def program(self, path: str, line: int) -> Program:
+        """How the file at a path said that it is run when it was run on a line of the log."""
+        found = [one for one in self._programs.get(path, ()) if one.first <= line]
+        if found:
+            return found[-1]
+        if path not in self._after:
+            self.observed(path)
+            self._after[path] = program(path, self.formats) if self._live else Program(known=False)
+        return self._after[path]
 
     def mode(self, path: str) -> Mode | None:
         """The mode of the object that a path leads to, if it still exists."""
@@ -259,45 +324,88 @@ class Disk:
 
     def keep(self, file: Path) -> None:
         """Writes the kept answers, for a later conversion."""
-        jsonl.write(file, (self._line(path, seen) for path, seen in self._seen.items() if seen is not None))
+        seen = (_seen_line(path, of) for path, of in self._observed.items())
+        objects = (self._with_more(line) for line in seen if line["kind"] is not None or "until" in line)
+        programs = (_program_line(path, one) for path, found in self._programs.items() for one in found)
+        jsonl.write(file, chain(objects, programs))
 
-    def _line(self, path: str, seen: Seen) -> jsonl.Record:
-        line: jsonl.Record = {"path": path, "kind": seen.kind}
-        if seen.target is not None:
-            line["target"] = seen.target
-        if seen.new:
-            line["new"] = True
-        if seen.runs:
-            line["runs"] = True
-        if seen.inode is not None:
-            line["inode"] = seen.inode
+    def _with_more(self, line: jsonl.Record) -> jsonl.Record:
+        """The line of an object with its mode, and how it is run, if these are known."""
+        path = line["path"]
         if (of := self._modes.get(path)) is not None:
             line["mode"] = [of.bits, of.uid, of.gid]
-        if self._interpreters.get(path) is not None:
-            line["interpreter"] = self._interpreters[path]
-        if self._heads.get(path):
-            line["head"] = self._heads[path].hex()
-        return line
+        after = self._after.get(path)
+        return line if after is None else line | _how_run(after)
 
 
-def kept(file: Path, since: float, formats: Sequence[Format] = ()) -> Disk:
-    """The disk as an earlier conversion kept it, or the disk of this machine where there was none."""
-    if not file.is_file():
-        return Disk(since, formats=formats)
-    seen: dict[str, Seen] = {}
-    loaders: dict[str, str] = {}
+def _seen_line(path: str, of: Observed) -> jsonl.Record:
+    """The line of what was seen at a path."""
+    line: jsonl.Record = {"path": path, "kind": None if of.seen is None else of.seen.kind}
+    if of.until != AFTER:
+        line["until"] = of.until
+    if (seen := of.seen) is not None:
+        more = {"target": seen.target, "runs": seen.runs or None, "inode": seen.inode}
+        line |= {name: value for name, value in more.items() if value is not None}
+        line |= {"new": seen.new} if seen.new is not False else {}
+    return line
+
+
+def _program_line(path: str, one: Program) -> jsonl.Record:
+    """The line of how a file was run."""
+    return {"program": path, "first": one.first, "until": one.until, **_how_run(one)}
+
+
+def _how_run(one: Program) -> jsonl.Record:
+    line: jsonl.Record = {} if one.known else {"known": False}
+    line |= {} if one.interpreter is None else {"interpreter": one.interpreter}
+    return line | ({"head": one.head.hex()} if one.head else {})
+
+
+def _program_of(line: jsonl.Record) -> Program:
+    head = bytes.fromhex(line.get("head", ""))
+    told = (line.get("interpreter"), head, line.get("known", True))
+    return Program(*told, line.get("first", 0), line.get("until", AFTER) if "program" in line else AFTER)
+
+
+def write_beside(file: Path, seen: Mapping[str, Observed], programs: Mapping[str, list[Program]]) -> None:
+    """Writes what was seen while the run went on."""
+    objects = (_seen_line(path, of) for path, of in seen.items())
+    runs = (_program_line(path, one) for path, found in programs.items() for one in found)
+    jsonl.write(file, chain(objects, runs))
+
+
+def kept(file: Path, since: float, formats: Sequence[Format] = (), beside: Path | None = None) -> Disk:
+    """The disk as an earlier conversion kept it. Where there was none, it is this machine's, and what was seen `beside`
+    the run comes before it.
+    """
+    live = not file.is_file()
+    lines = [line for _, line in jsonl.numbered(file)] if not live else []
+    if live and beside is not None and beside.is_file():
+        lines = [line for _, line in jsonl.numbered(beside)]
+    after: dict[str, Seen] = {}
+    seen: dict[str, Observed] = {}
     modes: dict[str, Mode] = {}
-    heads: dict[str, bytes] = {}
-    for _, line in jsonl.numbered(file):
-        new, runs = line.get("new", False), line.get("runs", False)
-        seen[line["path"]] = Seen(line["kind"], line.get("target"), new, runs, line.get("inode"))
-        if "interpreter" in line:
-            loaders[line["path"]] = line["interpreter"]
+    programs: dict[str, list[Program]] = {}
+    for line in lines:
+        if "program" in line:
+            programs.setdefault(line["program"], []).append(_program_of(line))
+            continue
+        path = line["path"]
+        if "until" in line:
+            seen[path] = Observed(_seen_of(line), line["until"])
+        elif (one := _seen_of(line)) is not None:
+            after[path] = one
         if "mode" in line:
-            modes[line["path"]] = Mode(*line["mode"])
-        if "head" in line:
-            heads[line["path"]] = bytes.fromhex(line["head"])
-    return Disk(since, seen, loaders, modes, formats=formats, heads=heads)
+            modes[path] = Mode(*line["mode"])
+    run_after = {line["path"]: _program_of(line) for line in lines if line.get("kind") == "reg" and not live}
+    return Disk(since, None if live else after, run_after, modes, formats=formats, seen=seen, programs=programs)
+
+
+def _seen_of(line: jsonl.Record) -> Seen | None:
+    """What a line says was seen."""
+    if line["kind"] is None:
+        return None
+    return Seen(line["kind"], line.get("target"), line.get("new", False), line.get("runs", False), line.get("inode"))
 
 
 def list_below(

@@ -1,7 +1,9 @@
 """The names of objects while a log is converted: the file system as the program saw it, call after call.
 
 Every object is one node for its whole life, whatever its names are. Calls that make, remove and move objects change
-the nodes. An object that the run does not touch is as the listing before the run says, else as the disk says after it.
+the nodes. An object that no call has touched yet is as a listing says that was made before the run or before the call.
+What was seen later counts if no call up to then changed that name; if one did, nobody knows what was there before, and
+the log is converted again with this in mind (`Doubts`).
 """
 
 from __future__ import annotations
@@ -12,16 +14,63 @@ from functools import lru_cache
 from typing import Protocol
 
 from . import values
-from .disk import WHITEOUT, Disk, Seen
+from .disk import WHITEOUT, Disk, Program, Seen
+from .unsaid import CannotSay
 
 MOST_LINKS = 40
 #: Under this directory, links do not lead where their targets say (proc(5)).
 PROC = ["proc"]
 _IN_PROC = "/proc"
+#: What /proc has of each process is what it has of the one that looks (proc(5)).
+OWN_FILES, _THREADS = "/proc/self", "task"
 #: Last components of a path that are not names in a directory.
 _NO_NAMES = ("", ".")
 #: The kinds of objects through which a path may lead.
 _ON_WAYS = ("dir", "sym")
+#: The kinds of objects, those first that are met most.
+KINDS = ("reg", "dir", "sym", "fifo", "sock", "char", "block")
+NO_DIRECTORIES = tuple(kind for kind in KINDS if kind != "dir")
+#: What is not known of an object.
+OF_KIND, MADE_OR_THERE, REPLACED_OR_NOT = "its kind", "made or there before", "another object replaced or not"
+UNKNOWN_WAY = "a path by a name of which nobody knows whether it was a link"
+
+
+class UnknownWay(CannotSay):
+    """A path that leads nobody knows where."""
+
+    def __init__(self) -> None:
+        super().__init__(UNKNOWN_WAY)
+
+
+@dataclass
+class Doubts:
+    """What nobody knows, as a conversion finds out that it took it to be known.
+
+    `objects` are the paths at which something else was seen than what was there at first, `programs` the runs of files
+    that were read too late, each with its line. `kinds` are the kinds that an object may have had by what later calls
+    did with it.
+    """
+
+    objects: set[str] = field(default_factory=set)
+    programs: set[tuple[str, int]] = field(default_factory=set)
+    kinds: dict[str, tuple[str, ...]] = field(default_factory=dict)
+
+    def size(self) -> int:
+        """How much there is: it grows until nothing is taken to be known that is not."""
+        return len(self.objects) + len(self.programs) + len(self.kinds)
+
+
+@dataclass(slots=True)
+class _Late:
+    """What was seen at a path after the call on `line` had begun, until the line `until`.
+
+    `is_there` says that a call has shown that an object was there before.
+    """
+
+    line: int
+    until: int
+    seen: Seen | None
+    is_there: bool = False
 
 
 @dataclass(slots=True, eq=False)
@@ -30,7 +79,8 @@ class Node:
 
     `start` is its path when the run begins ("" for the root), None if it does not exist then; `first` is the name under
     which the tree lists it first; `ruled` says that the program puts a rule on it; `over` and `name` are the directory
-    that it is in, or was in last, and its name there.
+    that it is in, or was in last, and its name there. `others` are the objects that may be there in its place, if
+    nobody knows which it is, and `doubt` says what is not known.
     """
 
     kind: str
@@ -42,6 +92,8 @@ class Node:
     ruled: bool = False
     over: "Node | None" = None
     name: str = ""
+    others: tuple["Node", ...] = ()
+    doubt: str = ""
 
     @property
     def shares(self) -> bool:
@@ -111,7 +163,7 @@ class Names:
     """All objects that the run met, by their names at this moment.
 
     `turns` counts how often a directory got or lost a name, which changes the names of what is beneath it. `whiteouts`
-    is the kind of object as which the kernel guards whiteouts (docs/SEMANTICS.md).
+    is the kind of object as which the kernel guards whiteouts (docs/SEMANTICS.md). `line` is that of the current call.
 
     Programs name the same directories over and over. So the results of walks to directories are kept, `_walked` by
     root, starting point and text, and `_reached` by real path, until a directory or a link on the way may have changed,
@@ -125,8 +177,14 @@ class Names:
         watched: list[str],
         whiteouts: str = "char",
         unlisted: Sequence[str] = (),
+        doubts: Doubts | None = None,
     ) -> None:
         self.whiteouts = whiteouts
+        self.doubts = Doubts() if doubts is None else doubts
+        self.line = 0
+        self._late: dict[str, _Late] = {}
+        self._unknown: set[str] = set()
+        self._read_late: dict[str, list[tuple[int, int]]] = {}
         self._disk = disk
         self._before = before
         self._watched = [top.rstrip("/") + "/" for top in watched]
@@ -150,6 +208,8 @@ class Names:
     def _initial(self, node: Node, name: str) -> Node | None:
         """The object of a name that the run has not touched yet."""
         start = None if node.start is None else f"{node.start}/{name}"
+        if self._is_proc(node) and name.isdecimal():
+            return Node("dir", origin=OWN_FILES, over=node, name=name)
         seen = self._seen(node, name, start)
         found = None
         if seen is not None:
@@ -165,26 +225,92 @@ class Names:
         return found
 
     def _seen(self, node: Node, name: str, start: str | None) -> Seen | None:
-        """What the listing before the run, else the disk after it, says about a name."""
+        """What a listing says about a name, or the disk as it was seen later."""
         if start is not None and self._is_watched(start):
             return self._before.get(start)
         if node.origin is None:
             return None
-        seen = self._disk.look(f"{node.origin}/{name}")
+        path = f"{node.origin}/{name}"
+        if path in self.doubts.objects:
+            self._unknown.add(path)
+            return None
+        observed = self._disk.observed(path)
+        seen = observed.seen
+        if observed.until < self.line or node.origin.startswith(_IN_PROC):
+            return seen
+        self._late[path] = _Late(self.line, observed.until, seen)
         return None if seen is None or seen.new else seen
+
+    def is_unknown(self, path: str) -> bool:
+        """Whether nobody knows if an object was at a path before the current call, or of which kind it was."""
+        return path in self._unknown
+
+    def check_way(self, here: Sequence[str], name: str, node: Node | None) -> None:
+        """Checks that a name which is followed is known to be a link or none."""
+        if node is None:
+            unknown = bool(self._unknown) and join([*here, name]) in self._unknown
+        else:
+            unknown = bool(node.others) and any("sym" in (node.kind, other.kind) for other in node.others)
+        if unknown:
+            raise UnknownWay
+
+    def may_be_made(self, path: str) -> bool:
+        """Whether nobody knows if a file at a path was there before the current call, which may have made it."""
+        late = self._late.get(path)
+        if late is None or late.is_there or late.until < self.line or late.seen is None:
+            return self.is_unknown(path)
+        return late.seen.new is None and late.seen.kind == "reg"
+
+    def may_be_replaced(self, path: str) -> bool:
+        """Whether nobody knows if an object was at a path before the current call, which put another one there."""
+        late = self._late.get(path)
+        if late is None or late.is_there or late.until < self.line:
+            return self.is_unknown(path)
+        return late.seen is not None
+
+    def is_there(self, path: str) -> None:
+        """Notes that a call has shown that an object was at a path before."""
+        if (late := self._late.get(path)) is not None:
+            late.is_there = True
+
+    def settle(self, path: str) -> None:
+        """Notes that a call has shown what was at a path before, or that nothing was.
+
+        If an object was seen there later, an earlier call may have met another one, or none.
+        """
+        late = self._late.pop(path, None)
+        if late is not None and late.line < self.line <= late.until and late.seen is not None:
+            self.doubts.objects.add(path)
+        self._unknown.discard(path)
+
+    def program(self, path: str) -> Program:
+        """How the file at a path said that it is run, as the current call runs it."""
+        found = self._disk.program(path, self.line)
+        if (path, self.line) in self.doubts.programs:
+            return Program(known=False)
+        if found.known and found.until >= self.line:
+            self._read_late.setdefault(path, []).append((self.line, found.until))
+        return found
+
+    def changed(self, path: str) -> None:
+        """Notes that a call changes what is at a path, or what is in the file there: what was seen later is not it."""
+        late = self._late.get(path)
+        if late is not None and late.line < self.line:
+            if self.line <= late.until:
+                self.doubts.objects.add(path)
+            del self._late[path]
+        self._unknown.discard(path)
+        self.rewritten(path)
+
+    def rewritten(self, path: str) -> None:
+        """Notes that a call may change what is in the file at a path."""
+        for line, until in self._read_late.pop(path, ()):
+            if line < self.line <= until:
+                self.doubts.programs.add((path, line))
 
     def kind(self, seen: str) -> str:
         """The kind as which Landlock guards what was seen."""
         return self.whiteouts if seen == WHITEOUT else seen
-
-    def knows(self, path: str) -> bool:
-        """Whether the object of a name is known, by the listing before the run or by a call since."""
-        over, _, name = path.rpartition("/")
-        directory = self.at(over or "/")
-        if directory is None or directory.start is None:
-            return directory is not None
-        start = f"{directory.start}/{name}"
-        return start in self._starts or self._is_watched(start)
 
     def _is_watched(self, path: str) -> bool:
         return any(path.startswith(top) for top in self._watched) and not path.startswith(self._unlisted)
@@ -231,8 +357,11 @@ class Names:
         self._breaks.clear()
         self._reached = {"": self.root}
 
-    def ensure(self, path: str, kind: str) -> Node:
-        """The object at a real path, which is known to exist: a name that says otherwise is corrected."""
+    def ensure(self, path: str, kind: str, among: Sequence[str] = ()) -> Node:
+        """The object at a real path, which is known to exist: a name that says otherwise is corrected.
+
+        `among` are the kinds of which it may be if nothing has said what was there.
+        """
         node = self.root
         names = split(path)
         for count, name in enumerate(names, start=1):
@@ -240,8 +369,27 @@ class Names:
             child = self.child(node, name)
             if child is None or (child.kind != wanted and (wanted == "dir" or child.kind in ("dir", "sym"))):
                 child = self._met(node, name, Node(wanted, origin=join(names[:count]) if wanted == "dir" else None))
+                self._doubt_kind(child, path, among if count == len(names) else ())
             node = child
+        self.is_there(path)
+        self._unknown.discard(path)
         return node
+
+    def _doubt_kind(self, node: Node, path: str, among: Sequence[str]) -> None:
+        """Notes that an object may be of other kinds, but for those that later calls rule out."""
+        may_be = self.doubts.kinds.get(path, among)
+        others = [kind for kind in among if kind in may_be]
+        if others and node.kind not in may_be:
+            node.kind = others[0]
+            node.origin = path if node.kind == "dir" else None
+        node.others = tuple(Node(kind) for kind in others if kind != node.kind)
+        node.doubt = OF_KIND if node.others else ""
+
+    def is_of(self, node: Node, *kinds: str) -> None:
+        """Notes the kinds of which an object is that was in doubt: the next conversion knows it from the beginning."""
+        if node.doubt == OF_KIND and node.start is not None:
+            may_be = self.doubts.kinds.get(node.start, KINDS)
+            self.doubts.kinds[node.start] = tuple(kind for kind in may_be if kind in kinds)
 
     def _met(self, directory: Node, name: str, node: Node) -> Node:
         """An object whose existence a call shows, though no listing does.
@@ -280,13 +428,17 @@ class Names:
             node.over, node.name = directory, name
 
     def _is_proc(self, directory: Node) -> bool:
-        return directory.name == PROC[0] and directory.over is self.root
+        """Whether a directory is that of the processes, or of the threads of one."""
+        if directory.name == PROC[0]:
+            return directory.over is self.root
+        return directory.name == _THREADS and directory.over is not None and directory.over.origin == OWN_FILES
 
     def put(self, path: str, node: Node | None) -> None:
         """Puts an object under a name, or takes the name away."""
         names = split(path)
         if not names:
             return
+        self.changed(path)
         directory = self.ensure(join(names[:-1]), "dir") if names[:-1] else self.root
         before = self.child(directory, names[-1])
         if directory.start is not None:
@@ -297,6 +449,7 @@ class Names:
 
     def never(self, path: str) -> None:
         """Notes that nothing is at a path of which nothing was known: nothing was there when the run began either."""
+        self.settle(path)
         self._starts.setdefault(path, None)
 
     def gone(self, path: str) -> None:
@@ -304,6 +457,7 @@ class Names:
 
         If no call has met the name yet, nothing was there when the run began either.
         """
+        self.settle(path)
         node = self.at(path)
         if node is not None and self._starts.get(path) is node and (node.first is None or node.start != path):
             self._unmake(path, node)
@@ -314,6 +468,8 @@ class Names:
         node = self.at(start)
         if node is not None and node.origin is not None:
             node.origin = end
+            for path in [path for path in self._late if path.startswith(f"{start}/")]:
+                self.changed(path)
         self.put(start, None)
         self.put(end, node)
 
@@ -338,6 +494,8 @@ class Names:
         if led.node is None:
             return Found([*led.names, name], None, led.broken)
         child = self.child(led.node, name)
+        if follow:
+            self.check_way(led.names, name, child)
         if child is None:
             return Found([*led.names, name], None, len(led.names))
         if follow and child.kind == "sym":
@@ -410,6 +568,8 @@ class _Walk:
             if self._follow_magic(name):
                 return True
         child = self._names.child(directory, name)
+        if follows:
+            self._names.check_way(self._here, name, child)
         if child is None:
             return False
         if follows and child.kind == "sym":

@@ -22,6 +22,7 @@ from ..problems import Problem
 ABOUT = "recording.json"
 BEFORE = "before.jsonl"
 OBJECTS = "objects.jsonl"
+BESIDE = "beside.jsonl"
 POLICY = "policy.toml"
 MOST_WATCHED = 100_000
 CAP_SYS_ADMIN = 21

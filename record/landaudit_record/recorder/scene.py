@@ -4,7 +4,7 @@ from __future__ import annotations
 
 import re
 from bisect import bisect_left
-from collections.abc import Iterable
+from collections.abc import Iterable, Sequence
 from contextlib import suppress
 from dataclasses import dataclass, replace
 from typing import Any
@@ -14,7 +14,7 @@ from . import modes
 from .disk import Disk
 from .looks import Near
 from .modes import NOBODY_KNOWN
-from .names import Found, Names, Node, join, split
+from .names import OWN_FILES, Found, Names, Node, join, split
 from .ports import Ports
 from .processes import Handle, Place, Process, Thread
 from .strace_log import Birth, Births, Call
@@ -31,8 +31,6 @@ CLONE_NEWUSER = 0x10000000
 MOST_ENDED = 1_024
 #: The directory of processes.
 PROC = "proc"
-#: What /proc has of each process is what it has of the one that looks (proc(5)).
-OWN_FILES = "/proc/self"
 #: A ruleset, as strace names the target of its descriptor.
 RULESET = "anon_inode:[landlock-ruleset]"
 NO_PATH = "a file without a path"
@@ -146,7 +144,39 @@ class Scene:
             raise NotAsked(BY_MODES)
         if process.unseen_layer and error in ERRORS_OF_LAYERS:
             raise CannotSay(BY_UNSEEN_LAYER)
+        if error == "EXDEV" and not process.confined:
+            raise NotAsked("EXDEV before Landlock is asked")
+        others = self._others(members) if self.tree.doubted else []
+        if others:
+            members = {**members, "unknown": others[0]["unknown"]}
         self.recording.add(op, process.pid, call.line, error or "ok", members)
+        self.say_instead(thread, call, op, *others)
+
+    def say_instead(self, thread: Thread, call: Call, op: str, *others: Members) -> None:
+        """Writes after a record, of which `unknown` says what is not known, what it would be otherwise."""
+        opened: list[int] = []
+        for members in others:
+            said: dict[str, Any] = {**members, "otherwise": True}
+            if "fd" in members:
+                said["fd"] = thread.process.made_up()
+                opened.append(said["fd"])
+            self.recording.add(op, thread.process.pid, call.line, call.error or "ok", said)
+        for number in opened:
+            self.note_close(thread, call, number)
+
+    def _others(self, members: Members) -> list[dict[str, Any]]:
+        """What a record would be with the other objects that may be at its paths."""
+        found: list[dict[str, Any]] = [dict(members)]
+        for member, shown in (("path", "shown"), ("from", "shown"), ("to", "shown_to")):
+            doubted = self.tree.doubted.get(members.get(member, ""))
+            if doubted is None:
+                continue
+            real, node = doubted
+            spots = [self.there(real, other) for other in node.others]
+            found += [
+                {**one, member: spot.path, shown: spot.shown, "unknown": node.doubt} for one in found for spot in spots
+            ]
+        return found[1:]
 
     def _modes_refuse(self, process: Process, call: Call, op: str, members: Members) -> bool:
         """Whether file modes refuse a call, as far as they are known."""
@@ -256,9 +286,9 @@ class Scene:
         """A name in a directory, at which nothing is."""
         return Spot(self.tree, real, None, len(split(real)) - 1)
 
-    def present(self, real: str, kind: str) -> Spot:
-        """An object that is known to exist, whatever was known of it before."""
-        return self.there(real, self.names.ensure(real, kind))
+    def present(self, real: str, kind: str, among: Sequence[str] = ()) -> Spot:
+        """An object that is known to exist, whatever was known of it before; `among` are the kinds that it may have."""
+        return self.there(real, self.names.ensure(real, kind, among))
 
     def as_missing(self, spot: Spot) -> Spot:
         """The same name, now that the kernel says that nothing is there."""

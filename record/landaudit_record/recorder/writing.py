@@ -18,7 +18,7 @@ from .. import jsonl
 from ..finished import CONVERTED, Converted, Part, Size, files_of_parts, numbered
 from ..living import Living, Members
 from ..trees import ROOT, directory_of, upwards
-from .names import Names, Node, join
+from .names import OF_KIND, Names, Node, join
 from .processes import FIRST_MADE_UP
 from .unsaid import CannotSay as CannotSay
 from .unsaid import NotUnderstood
@@ -59,6 +59,8 @@ class Tree:
         self._gaps: dict[str, str] = {}
         self._lost: dict[str, Node] = {}
         self._turns = 0
+        #: Objects in whose place others may be, by their names here, each with its real path.
+        self.doubted: dict[str, tuple[str, Node]] = {}
         #: What was listed since this was last emptied.
         self.fresh: list[str] = []
 
@@ -85,7 +87,16 @@ class Tree:
                 self._list_over(real)
             self._list_start(node)
             text = self._places[real, node] = "/" if real == "/" else self._named(self._wanted(real), real, node)
+            if node.others:
+                self._doubt(real, text, node)
         return text
+
+    def _doubt(self, real: str, text: str, node: Node) -> None:
+        """Notes that another object may be in the place of one; of another kind, it is another name of the same."""
+        self.doubted[text] = real, node
+        for other in node.others:
+            if node.doubt == OF_KIND:
+                other.ruled, other.first = True, other.first or node.first
 
     def rule(self, real: str, node: Node) -> str:
         """The name of an object on which the program puts a rule: from now on no other object has this name."""
@@ -219,6 +230,8 @@ class Limits:
     own: int = 500_000
 
 
+#: The members of a record that may be another one, and of what it would be then.
+IN_DOUBT = ("unknown", "otherwise")
 LIMITS = Limits()
 _value, _text = jsonl.value, jsonl.text
 #: The records that are kept free for the last call of a part; a call has far fewer.
@@ -273,8 +286,10 @@ class Recording:
 
     def add(self, op: str, pid: int, call: int, kernel: str | None, members: Members) -> None:
         """Adds a record as `write` does, from members that do not change afterwards."""
-        line = f'{{"op":"{op}","pid":{pid}'
-        for name, value in members.items():
+        line, said = f'{{"op":"{op}","pid":{pid}', members
+        if "unknown" in members:
+            line, said = _in_doubt(line, members)
+        for name, value in said.items():
             if type(value) is str:
                 line += f',"{name}":{_text(value)}'
             elif type(value) is int:
@@ -424,6 +439,15 @@ class Recording:
         self._list_fresh()
         self._trace.close()
         self._parts.append(_PartInMaking(self._part, self._objects, self._in_part, self._again))
+
+
+def _in_doubt(line: str, members: Members) -> tuple[str, Members]:
+    """The beginning of a record that may be another one, which says so first, and its other members.
+
+    All other records begin with their operations, by which a reader tells at once that they are not in doubt.
+    """
+    marks = {name: members[name] for name in IN_DOUBT if name in members}
+    return f"{_value(marks)[:-1]},{line[1:]}", {name: of for name, of in members.items() if name not in marks}
 
 
 def _is_judged(waiting: _Waiting) -> bool:

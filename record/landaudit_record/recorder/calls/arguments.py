@@ -2,7 +2,10 @@
 
 from __future__ import annotations
 
+from collections.abc import Sequence
+
 from .. import values
+from ..names import UnknownWay
 from ..processes import Thread
 from ..scene import NO_PATH, Scene, Spot
 from ..strace_log import Call
@@ -15,6 +18,9 @@ AT_SYMLINK_NOFOLLOW = 0x100
 
 #: Errors with which a call fails before the kernel has looked at its paths.
 BEFORE_PATHS = frozenset({"EBADF", "EFAULT", "EINVAL", "EMFILE", "ENAMETOOLONG", "ENFILE", "ENOSYS"})
+
+#: The error of a call that would change a file system which is mounted read-only; the kernel finds it first.
+READ_ONLY = "EROFS"
 
 #: Errors that may mean that a path led nowhere.
 NOT_REACHED = frozenset({"ENOENT", "ENOTDIR", "ELOOP", "ENXIO"})
@@ -36,7 +42,7 @@ def number_at(call: Call, index: int) -> int:
 
 def spot_at(scene: Scene, thread: Thread, call: Call, base: int | None, path: int, follow: bool) -> Spot:
     """What a path argument names, from the directory that the argument `base` is a descriptor of."""
-    if call.error in BEFORE_PATHS:
+    if call.error in BEFORE_PATHS or call.error == READ_ONLY:
         raise NotAsked(f"{call.error} before Landlock is asked")
     return scene.spot(thread, descriptor_at(call, base), path_at(call, path), follow)
 
@@ -53,19 +59,29 @@ def name_at(scene: Scene, thread: Thread, call: Call, base: int | None, path: in
     return spot
 
 
-def object_at(scene: Scene, call: Call, spot: Spot, kind: str) -> Spot:
+def object_at(scene: Scene, call: Call, spot: Spot, kind: str, among: Sequence[str] = ()) -> Spot:
     """The object that a call needs; the kernel's answer decides whether it exists.
 
-    The kernel looks for the object before it asks Landlock: so if it answers anything but that
-    nothing is there, the object exists.
+    The kernel looks for the object before it asks Landlock: so if it answers anything but that nothing is there, the
+    object exists. `among` are the kinds of which it may be, if nothing else says what it is.
     """
     if values.is_in_memory(spot.real):
         raise NotAsked(NO_PATH)
     if call.error == "ENOENT":
         return scene.as_missing(spot)
+    led_on(scene, call, spot)
     if spot.node is None and spot.in_directory and call.error not in NOT_REACHED:
-        return scene.present(spot.real, kind)
+        return scene.present(spot.real, kind, among)
     return spot
+
+
+def led_on(scene: Scene, call: Call, spot: Spot) -> None:
+    """Checks that a path led on, if its call succeeded: else something on its way was not what it is taken to be.
+
+    Where a path through another process leads is not known anyway, and is counted.
+    """
+    if call.ok and not spot.in_directory and not scene.through:
+        raise UnknownWay
 
 
 def descriptor_at(call: Call, index: int | None) -> Descriptor | None:

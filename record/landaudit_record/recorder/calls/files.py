@@ -6,7 +6,7 @@ import stat
 
 from .. import values
 from ..disk import kind_of
-from ..names import Node
+from ..names import KINDS, NO_DIRECTORIES, Node
 from ..processes import Thread
 from ..scene import Scene, Spot
 from ..strace_log import Call
@@ -19,10 +19,13 @@ AF_UNIX = 1
 
 def _made(scene: Scene, thread: Thread, call: Call, op: str, spot: Spot, node: Node, **members: str) -> None:
     """A call that makes an object under a name."""
+    arguments.led_on(scene, call, spot)
     if call.ok and spot.node is not None:
         spot = scene.absent(spot.real)
     elif call.error == "EEXIST" and spot.node is None and spot.in_directory:
-        spot = scene.present(spot.real, "reg")
+        spot = scene.present(spot.real, "reg", KINDS)
+    elif call.ok:
+        scene.names.settle(spot.real)
     scene.say(thread, call, op, path=spot.path, **members, **arguments.shown(spot))
     if call.ok:
         scene.names.put(spot.real, node)
@@ -89,13 +92,18 @@ def _unlinkat(scene: Scene, thread: Thread, call: Call) -> None:
 def _removed(scene: Scene, thread: Thread, call: Call, op: str, spot: Spot) -> None:
     spot = arguments.object_at(scene, call, spot, "dir" if op == "rmdir" else "reg")
     scene.say(thread, call, op, path=spot.path, **arguments.shown(spot))
+    if call.ok and spot.node is not None:
+        scene.names.is_of(spot.node, *(("dir",) if op == "rmdir" else NO_DIRECTORIES))
     if call.ok:
         scene.names.put(spot.real, None)
 
 
 def _truncate(scene: Scene, thread: Thread, call: Call) -> None:
+    if call.error in ("ETXTBSY", "EPERM"):
+        raise NotAsked(f"{call.error} before Landlock is asked")
     spot = arguments.object_at(scene, call, arguments.spot_at(scene, thread, call, None, 0, True), "reg")
     scene.say(thread, call, "truncate", path=spot.path, **arguments.shown(spot))
+    scene.names.rewritten(spot.real)
 
 
 def _chdir(scene: Scene, thread: Thread, call: Call) -> None:

@@ -2,7 +2,9 @@
 
 from __future__ import annotations
 
-from ..names import Node
+from typing import Any
+
+from ..names import KINDS, NO_DIRECTORIES, REPLACED_OR_NOT, Node
 from ..processes import Thread
 from ..scene import Scene, Spot
 from ..strace_log import Call
@@ -37,18 +39,31 @@ def _renamed(scene: Scene, thread: Thread, call: Call, start: Argument, end: Arg
     target = arguments.name_at(scene, thread, call, *end)
     moved = _source(scene, call, moved, target, exchange)
     if exchange and call.error != "ENOENT":
-        target = arguments.object_at(scene, call, target, "reg")
+        target = arguments.object_at(scene, call, target, "reg", KINDS)
     elif call.ok and flags & RENAME_NOREPLACE:
         target = scene.absent(target.real)
-    elif call.ok and target.node is None and moved.node is not None and not scene.names.knows(target.real):
-        target = scene.present(target.real, moved.node.kind)
     if flags & RENAME_WHITEOUT and scene.names.whiteouts == "reg":
         _say_whiteout(scene, thread, call, moved)
-    _say_move(scene, thread, call, "rename", moved, target, exchange)
+    if call.ok and moved.node is not None and not exchange and scene.names.may_be_replaced(target.real):
+        target = _say_both(scene, thread, call, moved, moved.node, target)
+    else:
+        _say_move(scene, thread, call, "rename", moved, target, exchange)
     if call.ok and moved.node is not target.node:
         _take_place(scene, moved, target, exchange)
     if call.ok and flags & RENAME_WHITEOUT:
         scene.names.put(moved.real, Node(scene.names.whiteouts))
+
+
+def _say_both(scene: Scene, thread: Thread, call: Call, moved: Spot, node: Node, target: Spot) -> Spot:
+    """A rename of which nobody knows whether it replaced an object: as one that did, and as one that did not."""
+    gap = scene.missing(target.real)
+    scene.names.settle(target.real)
+    target = scene.present(target.real, node.kind)
+    shown = arguments.shown(moved, target)
+    members: dict[str, Any] = {"from": moved.path, "to": target.path, **shown, "unknown": REPLACED_OR_NOT}
+    scene.judged(thread, call, "rename", members)
+    scene.say_instead(thread, call, "rename", {**members, "to": gap.path, "shown_to": gap.shown})
+    return target
 
 
 def _say_whiteout(scene: Scene, thread: Thread, call: Call, moved: Spot) -> None:
@@ -64,6 +79,8 @@ def _take_place(scene: Scene, moved: Spot, target: Spot, exchange: bool) -> None
         scene.names.exchange(moved.real, target.real)
         ways[target.real] = moved.real
     else:
+        if target.node is not None and moved.node is not None:
+            scene.names.is_of(target.node, *(("dir",) if moved.node.kind == "dir" else NO_DIRECTORIES))
         scene.names.move(moved.real, target.real)
     if "dir" in [one.node.kind for one in (moved, target) if one.node is not None]:
         scene.moved(ways)
@@ -73,7 +90,7 @@ def _source(scene: Scene, call: Call, source: Spot, target: Spot, exchange: bool
     """The object that is moved or linked. ENOENT is about it if everything else that the call needs exists."""
     if call.error == "ENOENT" and target.node is None and (exchange or not target.in_directory):
         return source
-    return arguments.object_at(scene, call, source, "reg")
+    return arguments.object_at(scene, call, source, "reg", KINDS)
 
 
 def _say_move(scene: Scene, thread: Thread, call: Call, op: str, start: Spot, end: Spot, exchange: bool) -> None:

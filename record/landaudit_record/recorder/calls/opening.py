@@ -3,11 +3,11 @@
 from __future__ import annotations
 
 from contextlib import suppress
-from dataclasses import replace
+from dataclasses import dataclass, replace
 from typing import Any
 
 from .. import values
-from ..names import Node, join, split
+from ..names import MADE_OR_THERE, Node, join, split
 from ..processes import Handle, Thread
 from ..scene import Scene, Spot
 from ..strace_log import Call
@@ -29,6 +29,8 @@ ACCESS_MODE = 0o3
 RESOLVE_IN_ROOT = 0x10
 #: The errors with which the `resolve` flags of openat2(2) end a call before Landlock is asked.
 RESOLVE_ERRORS = frozenset({"EAGAIN", "ELOOP", "EXDEV"})
+#: Errors of an open that may have made a file, or would have.
+MAY_BE_MADE = frozenset({"EACCES", "EPERM"})
 #: The name of a file that O_TMPFILE would have made if it had been allowed.
 UNNAMED = "#tmpfile"
 
@@ -101,32 +103,105 @@ def succeeded(
         handle.adopted = "reg"
         return
     if flags & ACCESS_MODE == ACCESS_MODE:
-        handle.adopted = "device" if scene.device(result) else "other"
-        raise NotAsked("an open for ioctl alone (access mode 3)")
+        _for_ioctl_alone(scene, thread, call, result, flags)
+        return
     handle.unsure = not gone and not flags & (O_CREAT | O_DIRECTORY) and scene.is_unsure(result)
-    spot, made = (scene.there(result.path, gone), False) if gone else _opened_spot(scene, result.path, result, flags)
-    _say_open(scene, thread, call, spot, result.number, flags, made)
+    opened = _Opened(scene.there(result.path, gone)) if gone else _opened_spot(scene, result.path, result, flags)
+    _say_opened(scene, thread, call, opened, result.number, flags)
     handle.in_trace = True
-    handle.node = spot.node
-    if made:
+    handle.node = opened.spot.node
+    if opened.made:
         handle.node = Node("reg")
         scene.names.put(result.path, handle.node)
+    elif flags & ACCESS_MODE:
+        scene.names.rewritten(result.path)
 
 
-def _opened_spot(scene: Scene, path: str, result: Descriptor, flags: int) -> tuple[Spot, bool]:
+@dataclass(frozen=True)
+class _Opened:
+    """What was opened: an object that was there or, if the call `made` it, the name at which nothing was.
+
+    With `in_doubt`, nobody knows whether the call made the object.
+    """
+
+    spot: Spot
+    made: bool = False
+    in_doubt: bool = False
+
+
+def _say_opened(scene: Scene, thread: Thread, call: Call, opened: _Opened, number: int, flags: int) -> None:
+    """Writes an open; if nobody knows whether it made the file, as both."""
+    spot, node = opened.spot, opened.spot.node
+    if not opened.in_doubt or node is None:
+        _say_open(scene, thread, call, spot, number, flags, opened.made)
+        return
+    gap = scene.missing(spot.real)
+    members = {**_members(spot, number, flags, False), "unknown": MADE_OR_THERE}
+    scene.judged(thread, call, "open", members)
+    made = {**_members(gap, number, flags, True), "unknown": MADE_OR_THERE}
+    scene.say_instead(thread, call, "open", made)
+    node.others, node.doubt = (Node("reg"),), MADE_OR_THERE
+    scene.names.turns += 1
+
+
+def _for_ioctl_alone(scene: Scene, thread: Thread, call: Call, result: Descriptor, flags: int) -> None:
+    """An open with access mode 3 (open(2)): Landlock is asked neither to read nor to write.
+
+    It is asked to make and to truncate the file. A trace can't say which rights the descriptor of a device has.
+    """
+    handle = thread.process.table[result.number]
+    device = scene.device(result)
+    handle.adopted = "device" if device else "other"
+    handle.foreign = device is not None
+    opened = _opened_spot(scene, result.path or "/", result, flags)
+    _say_for_ioctl(scene, thread, call, opened, flags)
+    if opened.made:
+        handle.node = Node("reg")
+        scene.names.put(result.path or "/", handle.node)
+
+
+def _say_for_ioctl(scene: Scene, thread: Thread, call: Call, opened: _Opened, flags: int) -> None:
+    """What Landlock is asked about an open with access mode 3, if anything."""
+    spot, gap = opened.spot, scene.missing(opened.spot.real) if opened.in_doubt else opened.spot
+    unknown = {"unknown": MADE_OR_THERE} if opened.in_doubt else {}
+    making: dict[str, Any] = {"path": gap.path, "kind": "reg", **arguments.shown(gap), **unknown}
+    cut = flags & O_TRUNC and spot.node is not None and spot.node.kind == "reg"
+    if opened.made:
+        scene.judged(thread, call, "mknod", making)
+    elif opened.in_doubt or cut:
+        there: dict[str, Any] = {"path": spot.path, **arguments.shown(spot), **unknown}
+        scene.judged(thread, call, *(("truncate", there) if cut else ("mknod", there | {"kind": "reg"})))
+        if opened.in_doubt:
+            scene.say_instead(thread, call, "mknod", making)
+
+
+def _opened_spot(scene: Scene, path: str, result: Descriptor, flags: int) -> _Opened:
     """The object that was opened, and whether the call made it."""
     node = scene.names.at(path)
     if flags & O_TMPFILE == O_TMPFILE:
-        return _without_name(scene, path), False
-    if not flags & O_EXCL and (device := scene.device(result)) is not None:
-        return scene.present(path, device), False
-    if flags & O_CREAT and (node is None or flags & O_EXCL):
-        return (scene.missing(path) if node is None else scene.absent(path)), True
+        return _Opened(_without_name(scene, path))
+    if flags & O_CREAT and flags & O_EXCL:
+        return _Opened(scene.missing(path) if node is None else scene.absent(path), made=True)
+    device = scene.device(result)
+    if flags & O_CREAT and device is None and scene.names.may_be_made(path):
+        return _Opened(scene.present(path, "reg"), in_doubt=True)
+    if device is not None:
+        return _Opened(scene.present(path, device))
+    if flags & O_CREAT and node is None:
+        return _Opened(scene.missing(path), made=True)
     if flags & O_DIRECTORY:
-        return scene.present(path, "dir"), False
+        return _Opened(scene.present(path, "dir"))
     if node is not None:
-        return scene.there(path, node), False
-    return scene.present(path, _kind_after(scene, path)), False
+        scene.names.is_there(path)
+        return _Opened(scene.there(path, node))
+    return _Opened(scene.present(path, "reg", _kinds(flags)))
+
+
+def _kinds(flags: int) -> tuple[str, ...]:
+    """The kinds that an opened object may be of that is no device: a directory can't be opened for writing."""
+    if flags & ACCESS_MODE == 0 and not flags & O_TRUNC:
+        return ("reg", "dir")
+    return ("reg", "fifo") if flags & O_TRUNC else ("reg",)
 
 
 def _gone(scene: Scene, thread: Thread, call: Call, base: int | None, path: int) -> Node:
@@ -144,12 +219,6 @@ def _without_name(scene: Scene, path: str) -> Spot:
     return scene.there(path, Node("reg", over=scene.names.at(directory or "/"), name=name))
 
 
-def _kind_after(scene: Scene, path: str) -> str:
-    """The kind of an object of which nothing was known: as the disk says after the run, else a regular file."""
-    seen = scene.disk.look(path)
-    return scene.names.kind(seen.kind) if seen is not None and seen.kind != "sym" else "reg"
-
-
 def _list_links(scene: Scene, thread: Thread, call: Call, base: int | None, path: int, opened: str | None) -> None:
     """Lists the symbolic links by which a path led to the file that was opened, if it led there by any."""
     text = values.text(call.arguments[path])
@@ -158,19 +227,38 @@ def _list_links(scene: Scene, thread: Thread, call: Call, base: int | None, path
 
 
 def _failed(scene: Scene, thread: Thread, call: Call, base: int | None, path: int, flags: int) -> None:
-    if flags & ACCESS_MODE == ACCESS_MODE:
-        raise NotAsked("an open for ioctl alone (access mode 3)")
     exclusive = bool(flags & O_CREAT and flags & O_EXCL)
     spot = arguments.spot_at(scene, thread, call, base, path, not flags & O_NOFOLLOW and not exclusive)
     if call.error == "EEXIST":
         raise NotAsked("EEXIST before Landlock is asked")
+    unsure = bool(flags & O_CREAT) and not exclusive and scene.names.may_be_made(spot.real)
     spot = _after_failure(scene, call, spot, flags)
+    if _comes_before(call, spot, flags):
+        raise NotAsked(f"{call.error} before Landlock is asked")
     made = spot.node is None and bool(flags & O_CREAT) and call.error != "ELOOP"
     create = made or (call.error == "EISDIR" and bool(flags & O_CREAT))
+    if flags & ACCESS_MODE == ACCESS_MODE:
+        _say_for_ioctl(scene, thread, call, _Opened(spot, create), flags)
+        return
     number = thread.process.made_up()
-    _say_open(scene, thread, call, spot, number, flags, create)
+    if unsure and call.error in MAY_BE_MADE and spot.in_directory:
+        there = scene.present(spot.real, "reg")
+        _say_opened(scene, thread, call, _Opened(there, in_doubt=True), number, flags)
+        made = True
+    else:
+        _say_open(scene, thread, call, spot, number, flags, create)
     if spot.node is not None or made:
         scene.note_close(thread, call, number)
+
+
+def _comes_before(call: Call, spot: Spot, flags: int) -> bool:
+    """Whether an open failed before Landlock was asked: a program that runs, or an immutable file, can't be written.
+
+    A device says EPERM itself, after Landlock.
+    """
+    writes = bool(flags & (ACCESS_MODE | O_TRUNC)) or bool(flags & O_CREAT)
+    on_file = spot.node is None or spot.node.kind in ("reg", "dir")
+    return writes and (call.error == "ETXTBSY" or (call.error == "EPERM" and on_file))
 
 
 def _after_failure(scene: Scene, call: Call, spot: Spot, flags: int) -> Spot:
@@ -182,11 +270,11 @@ def _after_failure(scene: Scene, call: Call, spot: Spot, flags: int) -> Spot:
         return _without_name(scene, join([*split(spot.real), UNNAMED])) if there else scene.as_missing(spot)
     if flags & O_CREAT:
         return scene.as_missing(spot) if call.error == "ENOENT" else spot
-    return arguments.object_at(scene, call, spot, "dir" if flags & O_DIRECTORY else "reg")
+    return arguments.object_at(scene, call, spot, "dir" if flags & O_DIRECTORY else "reg", _kinds(flags))
 
 
-def _say_open(scene: Scene, thread: Thread, call: Call, spot: Spot, number: int, flags: int, create: bool) -> None:
-    """Writes an open, the most frequent record of all, with only the members that are set."""
+def _members(spot: Spot, number: int, flags: int, create: bool) -> dict[str, Any]:
+    """The members of an open, the most frequent record of all: only those that are set."""
     members: dict[str, Any] = {"path": spot.path, "fd": number, "mode": MODES[flags & ACCESS_MODE]}
     if create:
         members["create"] = True
@@ -194,7 +282,12 @@ def _say_open(scene: Scene, thread: Thread, call: Call, spot: Spot, number: int,
         members["trunc"] = True
     if (shown := spot.shown) is not None:
         members["shown"] = shown
-    scene.judged(thread, call, "open", members)
+    return members
+
+
+def _say_open(scene: Scene, thread: Thread, call: Call, spot: Spot, number: int, flags: int, create: bool) -> None:
+    """Writes an open."""
+    scene.judged(thread, call, "open", _members(spot, number, flags, create))
 
 
 #: Where each call has the descriptor of a directory, if it has one, and its path.

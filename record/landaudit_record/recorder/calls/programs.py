@@ -5,7 +5,7 @@ from __future__ import annotations
 from dataclasses import replace
 
 from .. import formats, values
-from ..disk import MOST_INTERPRETERS
+from ..disk import MOST_INTERPRETERS, Program
 from ..processes import Thread
 from ..scene import CLONE_FILES, CLONE_FS, CLONE_NEWUSER, Scene, Spot
 from ..strace_log import Call
@@ -14,8 +14,8 @@ from . import arguments, users
 from .descriptors import OWN_TABLE
 
 CLONE_UNTRACED = 0x800000
-USUAL_PROGRAM = "/bin/sh"
 NOT_FOLLOWED = "a process that strace can't follow (CLONE_UNTRACED)"
+UNKNOWN_PROGRAM = "a program whose interpreter or loader is not known: it was gone, or another, when it was read"
 UNKNOWN_FORMAT = "a program that the kernel runs by a format which is not known (binfmt_misc)"
 
 
@@ -72,8 +72,9 @@ def _interpreters(scene: Scene, thread: Thread, call: Call, program: Spot) -> li
     found: list[Spot] = []
     spot, called = program, _called(call)
     for _ in range(MOST_INTERPRETERS):
-        of = formats.first_of(scene.disk.formats, called, scene.disk.head(spot.real))
-        called = of.interpreter if of is not None else _named(scene, thread, call, spot, is_first=spot is program)
+        how = scene.names.program(spot.real)
+        of = formats.first_of(scene.disk.formats, called, how.head)
+        called = of.interpreter if of is not None else _named(scene, thread, call, how)
         if not called:
             return found
         spot = scene.spot(thread, None, called, True)
@@ -89,17 +90,15 @@ def _called(call: Call) -> str:
     return values.text(call.arguments[1 if call.name == "execveat" else 0]) or ""
 
 
-def _named(scene: Scene, thread: Thread, call: Call, spot: Spot, *, is_first: bool) -> str:
-    """The interpreter or loader that a file names, if it names one."""
-    if scene.disk.head(spot.real):
-        if call.ok:
-            scene.leave_out(thread, call, UNKNOWN_FORMAT, asks=True)
-        return ""
-    text = scene.disk.interpreter(spot.real)
-    if text is None and is_first and scene.disk.look(spot.real) is None:
-        scene.leave_out(thread, call, "a program that is gone: its loader is taken to be the usual one")
-        text = scene.disk.interpreter(scene.spot(thread, None, USUAL_PROGRAM, True).real)
-    return text or ""
+def _named(scene: Scene, thread: Thread, call: Call, how: Program) -> str:
+    """The interpreter or loader that a file names, if it names one; those that nobody knows are counted."""
+    if how.known and not how.head:
+        return how.interpreter or ""
+    if call.error == "EACCES" and not how.known:
+        raise CannotSay(UNKNOWN_PROGRAM)
+    if call.ok:
+        scene.leave_out(thread, call, UNKNOWN_FORMAT if how.known else UNKNOWN_PROGRAM, asks=True)
+    return ""
 
 
 def _became(scene: Scene, thread: Thread, call: Call, spot: Spot) -> None:

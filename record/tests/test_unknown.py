@@ -1,0 +1,246 @@
+"""What is not known of the state before a call: written logs over disks of which each line says when it was seen."""
+
+from __future__ import annotations
+
+import unittest
+from collections import Counter
+
+from landaudit_record import jsonl, reports
+from landaudit_record.kernel_calls import judged_calls
+from landaudit_record.comparing import agree
+from landaudit_record.answers import ALLOWED, REFUSED, Answer, Refusing
+from landaudit_record.processes import Process
+from landaudit_record.recorder.calls import programs
+from landaudit_record.recorder.names import MADE_OR_THERE, OF_KIND, REPLACED_OR_NOT, UNKNOWN_WAY
+
+from .strace_lines import CONFINED, CWD
+from .written_logs import WrittenLogs
+
+FIRST = 2
+"""The line of the first call of a test."""
+MAKES = "0x41 /* O_WRONLY|O_CREAT */, 0644"
+CUTS = "0x241 /* O_WRONLY|O_CREAT|O_TRUNC */, 0644"
+TREE: list[jsonl.Record] = [
+    {"path": path, "kind": "dir", "until": 0} for path in ("/w", "/w/d", "/s", "/s/v1", "/s/v2", "/s/d")
+]
+
+
+def seen(path: str, kind: str | None, until: int | None = None, **more: object) -> jsonl.Record:
+    """What was seen at a path when the log had so many lines, or after the run."""
+    return {"path": path, "kind": kind, **({} if until is None else {"until": until}), **more}
+
+
+def opens(path: str, flags: str = "0 /* O_RDONLY */", fd: int = 3) -> str:
+    return f'openat({CWD}, "{path}", {flags}) = {fd}<{path}>'
+
+
+class Unknown(WrittenLogs):
+    """A folder `/s` that was not listed before the run."""
+
+    def run_over(self, objects: list[jsonl.Record], *calls: str) -> list[jsonl.Record]:
+        """The records of calls, where the disk was seen to be so."""
+        self.disk = [*TREE, seen("/w/p", "reg", 0, runs=True), *objects]
+        return self.convert(*calls)
+
+    def trace(self) -> list[jsonl.Record]:
+        """The records that were written last."""
+        return [record for _, record in jsonl.numbered(self.out / "trace.jsonl")]
+
+    def doubts(self, objects: list[jsonl.Record], *calls: str) -> Counter[str]:
+        """What is not known of the calls, and how often."""
+        found = self.run_over(objects, *calls)
+        return Counter(record["unknown"] for record in found if "unknown" in record and "otherwise" not in record)
+
+
+class Making(Unknown):
+    """open(2) with O_CREAT."""
+
+    def test_what_was_seen_before_the_call_is_known(self) -> None:
+        (there,) = self.run_over([seen("/s/f", "reg", FIRST - 1)], opens("/s/f", CUTS))
+        self.assertEqual((there["path"], there.get("create")), ("/s/f", None))
+        (made,) = self.run_over([seen("/s/f", None, FIRST - 1)], opens("/s/f", CUTS))
+        self.assertEqual((made["path"], made["create"]), ("/s/f~new~", True))
+
+    def test_what_was_seen_later_tells_when_it_was_made(self) -> None:
+        for new, made in ((False, None), (True, True)):
+            (record,) = self.run_over([seen("/s/f", "reg", FIRST, new=new)], opens("/s/f", MAKES))
+            self.assertEqual(record.get("create"), made)
+
+    def test_a_file_system_without_times_leaves_it_unknown(self) -> None:
+        there, made, closed = self.run_over([seen("/s/f", "reg", FIRST, new=None)], opens("/s/f", CUTS))
+        self.assertEqual((there["unknown"], there["path"], there.get("create")), (MADE_OR_THERE, "/s/f", None))
+        self.assertEqual((made["otherwise"], made["path"], made["create"]), (True, "/s/f~new~", True))
+        self.assertEqual((closed["op"], closed["fd"]), ("close", made["fd"]))
+        self.assertGreater(made["fd"], 1_000_000)
+
+    def test_what_was_gone_when_it_was_looked_at(self) -> None:
+        calls = (opens("/s/f", CUTS), "close(3) = 0", 'unlink("/s/f") = 0')
+        for until in (FIRST + 2, None):
+            with self.subTest(until):
+                self.assertEqual(self.doubts([seen("/s/f", None, until)], *calls), {MADE_OR_THERE: 2})
+                self.assertEqual({line["op"] for line in self.trace() if "unknown" in line}, {"open", "unlink"})
+
+    def test_what_was_gone_later_and_was_seen_in_time(self) -> None:
+        calls = (opens("/s/f", CUTS), "close(3) = 0", 'unlink("/s/f") = 0')
+        self.assertEqual(self.doubts([seen("/s/f", "reg", FIRST + 1, new=False)], *calls), {})
+
+    def test_the_call_itself_tells(self) -> None:
+        disk = [seen("/s/f", None)]
+        alone = opens("/s/f", "0xc1 /* O_WRONLY|O_CREAT|O_EXCL */, 0600")
+        missing = f'openat({CWD}, "/s/f", 0 /* O_RDONLY */) = -1 ENOENT (No such file or directory)'
+        for first in (alone, missing):
+            calls = (first, opens("/s/f", CUTS, 4), 'unlink("/s/f") = 0')
+            self.assertEqual(self.doubts(disk, *calls), {})
+
+    def test_later_calls_are_about_either_object(self) -> None:
+        *_, there, other, closed = self.run_over(
+            [seen("/s/f", "reg", FIRST, new=None)], opens("/s/f", MAKES), 'truncate("/s/f", 0) = 0', opens("/s/f", fd=4)
+        )
+        self.assertEqual((there["path"], other["path"], other["shown"]), ("/s/f", "/s/f~2~", "/s/f"))
+        self.assertEqual((other["otherwise"], closed["op"]), (True, "close"))
+
+    def test_a_refused_creation(self) -> None:
+        refused = f'openat({CWD}, "/s/f", {CUTS}) = -1 EACCES (Permission denied)'
+        found = self.doubts([seen("/s/f", "reg", new=None)], CONFINED, refused)
+        self.assertEqual(found, {MADE_OR_THERE: 1})
+
+
+class Others(Unknown):
+    """Kinds of objects, and names onto which something is renamed."""
+
+    def test_an_object_that_is_renamed_and_gone_may_be_of_any_kind(self) -> None:
+        disk = [seen("/s/x", None, FIRST + 1), seen("/s/d/y", None, 0)]
+        records = self.run_over(disk, 'rename("/s/x", "/s/d/y") = 0', 'unlink("/s/d/y") = 0')
+        moves = [record for record in records if record["op"] == "rename"]
+        self.assertEqual({record["unknown"] for record in moves}, {OF_KIND})
+        tree = {line["path"]: line["kind"] for _, line in jsonl.numbered(self.out / "tree.jsonl")}
+        kinds = {tree[record["from"]] for record in moves}
+        self.assertEqual(kinds, {"reg", "sym", "fifo", "sock", "char", "block"})
+
+    def test_a_later_call_tells_the_kind(self) -> None:
+        disk = [seen("/s/x", None, FIRST + 1), seen("/s/y", None, 0)]
+        moved, removed = self.run_over(disk, 'rename("/s/x", "/s/y") = 0', 'rmdir("/s/y") = 0')
+        self.assertNotIn("unknown", moved)
+        tree = {line["path"]: line["kind"] for _, line in jsonl.numbered(self.out / "tree.jsonl")}
+        self.assertEqual((tree[moved["from"]], tree[removed["path"]]), ("dir", "dir"))
+
+    def test_a_file_or_a_directory_that_is_read(self) -> None:
+        calls = (opens("/s/x"), 'rename("/s/x", "/s/y") = 0')
+        self.assertEqual(self.doubts([seen("/s/x", None)], *calls)[OF_KIND], 2)
+        self.assertEqual(self.doubts([seen("/s/x", None)], opens("/s/x", "0x10000 /* O_RDONLY|O_DIRECTORY */")), {})
+        self.assertEqual(self.doubts([seen("/s/x", "reg", FIRST)], *calls)[OF_KIND], 0)
+
+    def test_a_name_onto_which_something_is_renamed(self) -> None:
+        known = seen("/s/x", "reg", 0)
+        for there, doubts in (
+            (seen("/s/y", "reg", FIRST - 1), {}),
+            (seen("/s/y", None, FIRST - 1), {}),
+            (seen("/s/y", "reg", FIRST), {REPLACED_OR_NOT: 1}),
+            (seen("/s/y", "reg"), {REPLACED_OR_NOT: 1}),
+        ):
+            with self.subTest(there):
+                self.assertEqual(self.doubts([known, there], 'rename("/s/x", "/s/y") = 0'), doubts)
+
+    def test_a_link_that_another_one_replaced(self) -> None:
+        swap = ('symlink("v2", "/s/t") = 0', 'rename("/s/t", "/s/now") = 0')
+        disk = [seen("/s/now", "sym", FIRST + 2, target="v2", new=True), seen("/s/t", None, FIRST + 2)]
+        self.run_over(disk, 'mkdir("/s/now/sub", 0755) = 0', *swap)
+        self.assertEqual(self.unsaid(), [(UNKNOWN_WAY, True)])
+        disk = [seen("/s/now", "sym", FIRST - 1, target="v1"), *disk[1:]]
+        made, *_ = self.run_over(disk, 'mkdir("/s/now/sub", 0755) = 0', *swap)
+        self.assertEqual((made["path"], self.unsaid()), ("/s/v1/sub~new~", []))
+
+    def test_a_path_that_leads_nowhere_is_no_question(self) -> None:
+        calls = ('mkdir("/s/no/sub", 0755) = -1 ENOENT (No such file or directory)', 'mkdir("/s/no", 0755) = 0')
+        self.run_over([seen("/s/no", "dir", new=True)], *calls)
+        self.assertEqual(self.unsaid(), [(UNKNOWN_WAY, False)])
+
+
+class Programs(Unknown):
+    """Files that are run, of which the interpreters were read when the log had so many lines."""
+
+    RUNS = 'execve("/s/x", ["x"], 0x1 /* 2 vars */) = 0'
+    SCRIPT = seen("/s/x", "reg", 0, runs=True)
+    READ: jsonl.Record = {"program": "/s/x", "first": FIRST, "until": FIRST + 1, "interpreter": "/s/i"}
+
+    def run_by(self, read: list[jsonl.Record], *calls: str) -> list[str]:
+        """The interpreters of what is run, by their paths."""
+        found = self.run_over([self.SCRIPT, seen("/s/i", "reg", 0, runs=True), *read], *calls)
+        return [record["path"] for record in found if record["op"] == "exec" and "role" in record]
+
+    def test_what_was_read_in_time(self) -> None:
+        self.assertEqual(self.run_by([{**self.READ, "until": FIRST}], self.RUNS, 'unlink("/s/x") = 0'), ["/s/i"])
+        self.assertEqual(self.unsaid(), [])
+
+    def test_what_was_rewritten_before_it_was_read(self) -> None:
+        opened = opens("/s/x", "0x201 /* O_WRONLY|O_TRUNC */")
+        for change in ('unlink("/s/x") = 0', opened, 'rename("/s/i", "/s/x") = 0'):
+            with self.subTest(change):
+                self.assertEqual(self.run_by([self.READ], self.RUNS, change.replace("= 3", "= 5")), [])
+                self.assertEqual(self.unsaid(), [(programs.UNKNOWN_PROGRAM, True)])
+
+    def test_what_was_gone(self) -> None:
+        gone = {"program": "/s/x", "first": FIRST, "until": FIRST + 1, "known": False}
+        self.assertEqual(self.run_by([gone], self.RUNS), [])
+        self.assertEqual(self.unsaid(), [(programs.UNKNOWN_PROGRAM, True)])
+
+    def test_each_run_of_a_file_that_changes(self) -> None:
+        again = {"program": "/s/x", "first": FIRST + 2, "until": FIRST + 2, "interpreter": "/s/x2"}
+        read = [{**self.READ, "until": FIRST}, again, seen("/s/x2", "reg", 0, runs=True)]
+        calls = (self.RUNS, opens("/s/x", "0x201 /* O_WRONLY|O_TRUNC */"), self.RUNS)
+        self.assertEqual(self.run_by(read, *calls), ["/s/i", "/s/x2"])
+
+
+def said(line: int, *answers: tuple[int, int, str], **more: object) -> bytes:
+    """The line of a report on a record."""
+    told = [
+        {"abi": [oldest, newest], "answer": answer,
+         **({"error": "EACCES", "layers": [{"layer": 1}]} if answer == REFUSED else {})}
+        for oldest, newest, answer in answers
+    ]
+    return jsonl.line({"line": line, "pid": 1, "op": "open", "answers": told, **more}).encode()
+
+
+class United(unittest.TestCase):
+    """The answers to a record in doubt, and to what it would be otherwise."""
+
+    def known(self, *lines: bytes) -> tuple[list[dict[int, str]], frozenset[int]]:
+        """What is told of each line, by ABI, and where a call may be refused."""
+        found, unsure = reports.united(lines, range(1, 4))
+        told = []
+        for line in found:
+            answers = reports.not_allowed(reports.split(line)[3]) if line else ()
+            told.append({abi: answer.verdict for abis, answer in answers for abi in abis})
+        return told, unsure
+
+    def test_all_cases_refused(self) -> None:
+        found = self.known(said(1, (1, 3, REFUSED)), said(2, (1, 3, REFUSED)))
+        self.assertEqual(found, ([dict.fromkeys((1, 2, 3), "refused"), {}], frozenset()))
+
+    def test_one_case_refused(self) -> None:
+        both = said(1, (1, 2, ALLOWED), (3, 3, REFUSED)), said(2, (1, 1, ALLOWED), (2, 3, REFUSED))
+        self.assertEqual(self.known(*both), ([{3: "refused"}, {2: "unsure"}], frozenset({2})))
+        self.assertEqual(self.known(*both[::-1]), ([{2: "unsure", 3: "refused"}, {}], frozenset({2})))
+
+    def test_no_case_refused(self) -> None:
+        moot = said(2, (1, 3, "moot"))
+        self.assertEqual(self.known(said(1, (1, 3, ALLOWED)), moot), ([{}, {}], frozenset()))
+        self.assertEqual(self.known(moot, said(1, (1, 3, ALLOWED)))[0][0], dict.fromkeys((1, 2, 3), "moot"))
+
+    def test_a_report_of_refused_records_alone(self) -> None:
+        self.assertEqual(self.known(b"", said(2, (1, 3, REFUSED)))[1], frozenset({1, 2, 3}))
+
+    def test_the_kernel_agrees_with_either_case(self) -> None:
+        refused = Answer(REFUSED, "EACCES", (Refusing(1),))
+        record = {"op": "open", "pid": 1, "path": "/f", "fd": 1, "mode": "w", "call": 1, "unknown": MADE_OR_THERE}
+        for kernel in ("ok", "EACCES"):
+            for one, other in ((refused, Answer(ALLOWED)), (Answer(ALLOWED), refused)):
+                process = Process(domain=(object(),))  # type: ignore[arg-type]
+                both = [({**record, "kernel": kernel}, one, process),
+                        ({**record, "kernel": kernel, "otherwise": True}, other, process)]
+                (call,) = judged_calls(both, 5)
+                self.assertTrue(agree(call))
+
+
+if __name__ == "__main__":
+    unittest.main()
