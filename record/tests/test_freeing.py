@@ -2,6 +2,8 @@
 
 from __future__ import annotations
 
+import ctypes
+import errno
 import io
 import tempfile
 import time
@@ -73,6 +75,14 @@ class Connections(unittest.TestCase):
             self.assertTrue(freeing.take_away(NEW))
             self.assertEqual((folder / "41" / "abort").read_text(), "1")
             self.assertFalse(freeing.take_away(replace(NEW, place=str(folder), device="0:42")))
+
+
+    def test_where_connections_have_no_files_an_unmount_by_force_ends_them_also_in_use(self) -> None:
+        with mock.patch.object(freeing, "CONNECTIONS", Path("/nothing")), mock.patch.object(ctypes, "CDLL") as libc:
+            for failed, number, ends in ((0, 0, True), (-1, errno.EBUSY, True), (-1, errno.EPERM, False)):
+                libc.return_value.umount2.return_value = failed
+                with mock.patch.object(ctypes, "get_errno", return_value=number):
+                    self.assertIs(freeing.take_away(NEW), ends)
 
 
 class Told(unittest.TestCase):

@@ -8,6 +8,7 @@ of the connection between the kernel and the server does (Documentation/filesyst
 from __future__ import annotations
 
 import ctypes
+import errno
 import os
 import signal
 import sys
@@ -34,8 +35,14 @@ def take_away(mount: Mount) -> bool:
     try:
         (CONNECTIONS / mount.device.partition(":")[2] / "abort").write_text("1", encoding="ascii")
     except OSError:
-        return bool(ctypes.CDLL(None, use_errno=True).umount2(os.fsencode(mount.place), MNT_FORCE) == 0)
+        return _end_by_unmounting(mount.place)
     return True
+
+
+def _end_by_unmounting(place: str) -> bool:
+    """Ends a connection as umount(2) does with MNT_FORCE, before it looks whether the file system is still used."""
+    failed = ctypes.CDLL(None, use_errno=True).umount2(os.fsencode(place), MNT_FORCE)
+    return not failed or ctypes.get_errno() == errno.EBUSY
 
 
 def served_to(pid: int | str) -> set[Mount]:
