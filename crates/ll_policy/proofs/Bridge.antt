@@ -1,5 +1,6 @@
 -- A layer lets a way up pass exactly where it lacks nothing on the path, and a way up is a chain.
-use Rattle.std.proofs.Common.{◌≡◌, ℕ, zero, suc, ◌+◌, ◌<◌, Bool, true, false, not, ◌&&◌, ◌||◌, List, [], ◌∷◌, ◌++◌, map, length, get_or, refl, sym, ap, ◌∙◌, subst, inl, inr, ◌⊎◌, arith}
+use Rattle.std.proofs.Common.{◌≡◌, ℕ, zero, suc, ◌+◌, ◌<◌, Bool, true, false, not, ◌&&◌, ◌||◌, List, []}
+use Rattle.std.proofs.Common.{◌∷◌, ◌++◌, map, length, get_or, refl, sym, ap, ◌∙◌, subst, inl, inr, ◌⊎◌, arith}
 use Rattle.std.specs.Prelude.{◌↔◌, All, if◌then◌else◌}
 use Rattle.std.specs.List.{Contains, filter, list_any}
 use Rattle.std.proofs.lemmas.Bool.{cases_lt, and_parts, and_from, false≢true}
@@ -35,7 +36,8 @@ unfolding some_right all_rights named_rights
 picked test execute = or_false (test execute)
 picked test right = or_false (test right)
 
-pub lacks-only : (layer : RulesOn Path) (path : Path) (right : FsRight) → lacks layer path (only right) ≡ (handles layer right && not (granted layer path right))
+pub lacks-only : (layer : RulesOn Path) (path : Path) (right : FsRight) → lacks layer path (only right) ≡
+    (handles layer right && not (granted layer path right))
 lacks-only layer path right =
     some_agree (λ own. has (only right) own && handles layer own && not (granted layer path own))
     (λ own. is_right own right && (handles layer own && not (granted layer path own)))

@@ -1,5 +1,6 @@
 -- What holds of chains holds of the objects of every tree, and of moves in it.
-use Rattle.std.proofs.Common.{◌≡◌, ℕ, zero, suc, ◌+◌, ◌<◌, Bool, true, false, not, ◌&&◌, ◌||◌, List, [], ◌∷◌, ◌++◌, map, length, get_or, refl, sym, ap, ◌∙◌, subst, inl, inr, arith, lit<}
+use Rattle.std.proofs.Common.{◌≡◌, ℕ, zero, suc, ◌+◌, ◌<◌, Bool, true, false, not, ◌&&◌, ◌||◌, List, []}
+use Rattle.std.proofs.Common.{◌∷◌, ◌++◌, map, length, get_or, refl, sym, ap, ◌∙◌, subst, inl, inr, arith, lit<}
 use Rattle.std.specs.Prelude.{All, if◌then◌else◌}
 use Rattle.std.specs.List.{Contains, filter, list_any}
 use Rattle.std.proofs.lemmas.Bool.{and_parts, and_from, false≢true}
@@ -25,14 +26,17 @@ use Rattle.ll_rules.specs.declared.moves.Target.{Target}
 use Rattle.ll_rules.specs.declared.moves.Target.TheVariants.{New, Over}
 use Rattle.ll_rules.specs.declared.moves.Verdict.{Verdict}
 use Rattle.ll_rules.specs.declared.moves.Verdict.TheVariants.{Passed}
-use Rattle.ll_rules.specs.Moves.{lacks_one_of, gains, other_gains, denies, holds_back, source_of, destination_of, kind_there, asked_of_source, asked_of_destination, refused_or, move_verdict}
+use Rattle.ll_rules.specs.Moves.{lacks_one_of, gains, other_gains, denies, holds_back, source_of}
+use Rattle.ll_rules.specs.Moves.{destination_of, kind_there, asked_of_source, asked_of_destination, refused_or, move_verdict}
 use Rattle.ll_policy.specs.Chains.{Granting, is_among, IsChain, lets, passes}
 use Rattle.ll_policy.specs.Granted.{granting, NothingMoreOnObjects}
 use Rattle.ll_policy.specs.Gains.{granting_there, KeepsGains, AllKeepGains}
 use Rattle.ll_policy.specs.WaysUp.{ruled, all_ruled, way_up, is_file_at, TellsFiles, IsTargetOf, AreRuledIn}
-use Rattle.ll_policy.proofs.Lists.{here, there, some_passes, that_passes, each_passes, passes_among, that_fails, filtered, filter_test, kept_within, in_flat_map, flat_from}
+use Rattle.ll_policy.proofs.Lists.{here, there, some_passes, that_passes, each_passes, passes_among}
+use Rattle.ll_policy.proofs.Lists.{that_fails, filtered, filter_test, kept_within, in_flat_map, flat_from}
 use Rattle.ll_policy.proofs.Exactly.{among-contains, not_true, not_false}
-use Rattle.ll_policy.proofs.Bridge.{lacks-only, is_by, granted_by, mapped_from, mapped_to, AreRuledBy, lets_where_nothing_lacks, file_on_way, on_way, way_up_chain, way_up_begins}
+use Rattle.ll_policy.proofs.Bridge.{lacks-only, is_by, granted_by, mapped_from, mapped_to}
+use Rattle.ll_policy.proofs.Bridge.{AreRuledBy, lets_where_nothing_lacks, file_on_way, on_way, way_up_chain, way_up_begins}
 
 -- ---- rights that are asked
 
@@ -274,7 +278,8 @@ module _ (is_file : ℕ → Bool) (old new : List (RulesOn ℕ)) (tree : List En
                 (λ file.
                 let same = file_on_way (suc directory.0) tree (node number) directory (omega arith) listed listed_node within
                 (not_true (is_dir (kind_at tree (node number))) file) parts.0 in
-                false≢true (sym (not_true (is_dir (kind_at tree (node number))) file) ∙ ap (λ (n : NodeId). is_dir (kind_at tree n)) same ∙ ap is_dir is_directory)),
+                false≢true (sym (not_true (is_dir (kind_at tree (node number))) file) ∙ ap (λ (n : NodeId). is_dir (kind_at tree n)) same
+                ∙ ap is_dir is_directory)),
             parts.0,
           )
 
@@ -319,7 +324,8 @@ module _ (is_file : ℕ → Bool) (old new : List (RulesOn ℕ)) (tree : List En
           (sym (lets_lack from.0 object right (new_ruled from.0 from.1)) ∙ ap (lets (chain object)) from.2 ∙ stopped) in
           let layer = in_tree tree from.0 in
           false≢true (sym (none from.0 from.1)
-          ∙ some_passes (λ one. granted layer directory one && (handles layer one && (is_dir kind || is_file_right one)) && not (granted layer (path_at tree object) one))
+          ∙ some_passes (λ one. granted layer directory one && (handles layer one && (is_dir kind || is_file_right one)) && not
+          (granted layer (path_at tree object) one))
           all_rights right (each_there right)
           (gain_from (granted layer directory right) (handles layer right) (is_dir kind || is_file_right right) (granted layer (path_at tree object) right)
           (granted_under from.0 number directory right given prefix) counted lacking))
@@ -331,15 +337,18 @@ module _ (is_file : ℕ → Bool) (old new : List (RulesOn ℕ)) (tree : List En
           let rules = in_tree tree layer in
           not_true-false (gains rules kind (path_at tree object) path)
           (λ some.
-          let found = that_passes (λ one. granted rules path one && (handles rules one && (is_dir kind || is_file_right one)) && not (granted rules (path_at tree object) one))
+          let found = that_passes (λ one. granted rules path one && (handles rules one && (is_dir kind || is_file_right one)) && not
+          (granted rules (path_at tree object) one))
           all_rights some in
           let right = found.0 in
-          let parts = gain_parts (granted rules path right) (handles rules right) (is_dir kind || is_file_right right) (granted rules (path_at tree object) right) found.2 in
+          let parts = gain_parts (granted rules path right) (handles rules right) (is_dir kind || is_file_right right)
+          (granted rules (path_at tree object) right) found.2 in
           let rule = granted_above layer inside directory.at directory.is_node directory.is_dir right
           (ap (λ (p : Path). granted rules p right) directory.is_path ∙ parts.0) in
           let stopped : lets (chain object) (granting right layer) ≡ false =
           lets_lack layer object right (old_ruled layer inside)
-          ∙ ap not (and_from (handles rules right) (not (granted rules (path_at tree object) right)) parts.1 (not_false (granted rules (path_at tree object) right) parts.3)) in
+          ∙ ap not (and_from (handles rules right) (not (granted rules (path_at tree object) right)) parts.1
+          (not_false (granted rules (path_at tree object) right) parts.3)) in
           let keeps = All-contains (KeepsGains is_file (map (granting right) new)) (map (granting right) old) (granting right layer) (gaining right)
           (mapped_to (granting right) old layer inside) in
           let blocked : passes (granting_there rule.0 (map (granting right) new)) (chain object) ≡ false =
@@ -391,8 +400,10 @@ module _ (is_file : ℕ → Bool) (old new : List (RulesOn ℕ)) (tree : List En
         holds_kept : Kept (holds_back tree move)
         holds_kept =
             either_kept (λ layer. lacks_one_of layer (source_of tree move) (refer ∷ []) || lacks_one_of layer (destination_of tree move.target) (refer ∷ []))
-            (λ layer. gains layer (kind_at tree move.moved) (path_at tree move.moved) (destination_of tree move.target) || other_gains tree move layer move.how move.target)
-            (either_kept (λ layer. lacks_one_of layer (source_of tree move) (refer ∷ [])) (λ layer. lacks_one_of layer (destination_of tree move.target) (refer ∷ []))
+            (λ layer. gains layer (kind_at tree move.moved) (path_at tree move.moved) (destination_of tree move.target)
+            || other_gains tree move layer move.how move.target)
+            (either_kept (λ layer. lacks_one_of layer (source_of tree move) (refer ∷ []))
+            (λ layer. lacks_one_of layer (destination_of tree move.target) (refer ∷ []))
             (asked_of (source_of tree move) (above tree move.moved listed within) (refer ∷ []))
             (asked_of (destination_of tree move.target) (destination move.target there_in of) (refer ∷ [])))
             (either_kept (λ layer. gains layer (kind_at tree move.moved) (path_at tree move.moved) (destination_of tree move.target))

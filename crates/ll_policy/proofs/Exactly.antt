@@ -7,7 +7,8 @@ use Rattle.std.proofs.lemmas.Option.{none-some}
 use Rattle.std.proofs.lemmas.List.Elements.{All-contains, Contains-append_cases, Contains-append_right}
 use Rattle.ll_policy.specs.Chains.{Granting, is_among, IsChain, lets, some_among, passes, NothingMoreThan, IsExcess, AreDirectories}
 use Rattle.ll_policy.specs.Choices.{are_within, is_narrow, narrow_ones, some_grants, all_grant, is_open, open_file, counts, is_extra, AreBelow, IsChainOfExtra}
-use Rattle.ll_policy.proofs.Lists.{some_passes, that_passes, each_passes, passes_among, that_fails, filtered, filter_test, kept_within, found_passes, none_passes, in_range, contains_first, here}
+use Rattle.ll_policy.proofs.Lists.{some_passes, that_passes, each_passes, passes_among, that_fails, filtered}
+use Rattle.ll_policy.proofs.Lists.{filter_test, kept_within, found_passes, none_passes, in_range, contains_first, here}
 
 -- ---- Booleans
 
@@ -159,7 +160,8 @@ module _ (is_file : ℕ → Bool) where
         | inl holds ↦ or_left (is_file object) (is_among object old.grants) holds
         | inr fails ↦ or_right (is_file object) (is_among object old.grants)
             (given (counts is_file file object) (is_among object old.grants)
-            (passes_among (λ own. not (counts is_file file own) || is_among own old.grants) new.grants object parts.1 inside) (directory-counts file object fails))
+            (passes_among (λ own. not (counts is_file file own) || is_among own old.grants) new.grants object parts.1 inside)
+            (directory-counts file object fails))
       ]))
 
   covers-file : (old new : Granting) (file : ℕ) → covers (Some file) old new ≡ true → is_among file new.grants ≡ true → is_among file old.grants ≡ true

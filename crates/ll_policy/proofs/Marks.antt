@@ -1,5 +1,6 @@
 -- The marked numbers: when one is among them, and tests of all of them.
-use Rattle.std.proofs.Common.{◌≡◌, ℕ, zero, suc, ◌+◌, ◌<◌, Bool, true, false, not, ◌&&◌, ◌||◌, cond, List, [], ◌∷◌, ◌++◌, get_or, length, drop, ◌≤◌, refl, ap, ◌∙◌, arith}
+use Rattle.std.proofs.Common.{◌≡◌, ℕ, zero, suc, ◌+◌, ◌<◌, Bool, true, false, not, ◌&&◌, ◌||◌}
+use Rattle.std.proofs.Common.{cond, List, [], ◌∷◌, ◌++◌, get_or, length, drop, ◌≤◌, refl, ap, ◌∙◌, arith}
 use Rattle.std.specs.List.{list_all, enumerate_from}
 use Rattle.std.proofs.lemmas.List.{at_drop_more, at_drop_all}
 use Rattle.std.specs.Prelude.{All, Some, None, find, map, filter}
@@ -82,7 +83,8 @@ marked_from : {X : Type 0} (p : X → Bool) (n : ℕ) (xs : List X)
     → places_from n (map p xs) ≡ map (λ pair. pair.0) (filter (λ pair. p pair.1) (enumerate_from n xs))
 unfolding places_from
 marked_from p n [] = refl
-marked_from {X = X} p n (x ∷ xs) = by_test (p x) n (places_from (n + 1) (map p xs)) (filter (λ (pair : ℕ × X). p pair.1) (enumerate_from (n + 1) xs)) x (marked_from p (n + 1) xs)
+marked_from {X = X} p n (x ∷ xs) = by_test (p x) n (places_from (n + 1) (map p xs))
+    (filter (λ (pair : ℕ × X). p pair.1) (enumerate_from (n + 1) xs)) x (marked_from p (n + 1) xs)
 
 pub marked : {X : Type 0} (p : X → Bool) (xs : List X)
     → places_from 0 (map p xs) ≡ map (λ pair. pair.0) (filter (λ pair. p pair.1) (enumerate_from 0 xs))

@@ -40,7 +40,8 @@ module _ (is_file : ℕ → Bool) (always : List ℕ) (new : List Granting) wher
       → (list_all is_none found ≡ true) ↔ All (λ layer. NothingMoreThan is_file always layer new) old
   chains old found each =
       all_by (Tells is_file always new) is_none (λ (layer : Granting). NothingMoreThan is_file always layer new) old found
-      (none_or (λ (layer : Granting). NothingMoreThan is_file always layer new) (λ (layer : Granting) (chain : Vec ℕ Global). IsExcess is_file always layer new chain.items)
+      (none_or (λ (layer : Granting). NothingMoreThan is_file always layer new)
+      (λ (layer : Granting) (chain : Vec ℕ Global). IsExcess is_file always layer new chain.items)
       (λ layer chain. excess_is_more is_file always layer new chain.items)) each
 
   gains : (old : List Granting) (found : List (Option Gain)) → AllZip (TellsGain is_file new) old found

@@ -1,5 +1,6 @@
 -- Chains of ports are single ports, and the empty chain is a port without a rule.
-use Rattle.std.proofs.Common.{◌≡◌, ℕ, zero, suc, ◌+◌, ◌<◌, Bool, true, false, not, ◌&&◌, ◌||◌, ◌==◌, List, [], ◌∷◌, ◌++◌, map, length, get_or, refl, sym, ap, ◌∙◌, subst, inl, inr, ◌⊎◌, arith}
+use Rattle.std.proofs.Common.{◌≡◌, ℕ, zero, suc, ◌+◌, ◌<◌, Bool, true, false, not, ◌&&◌, ◌||◌, ◌==◌, List}
+use Rattle.std.proofs.Common.{[], ◌∷◌, ◌++◌, map, length, get_or, refl, sym, ap, ◌∙◌, subst, inl, inr, ◌⊎◌, arith}
 use Rattle.std.specs.Prelude.{◌↔◌, All, if◌then◌else◌}
 use Rattle.std.specs.List.{Contains, filter, flat_map}
 use Rattle.std.proofs.lemmas.Bool.{cases_Bool, and_parts, and_from, eqb-true}
@@ -82,7 +83,8 @@ refuses_none port right number (layer ∷ layers) =
           ap (λ (b : Bool). (if b then number ∷ [] else []) ++ numbers_from (λ own. lacks_on_port own port (only right)) (number + 1) layers) lacking
           ∙ rest.0 parts.1,
       λ none.
-          let parts = no_numbers (lacks_on_port layer port (only right)) number (numbers_from (λ own. lacks_on_port own port (only right)) (number + 1) layers) none in
+          let parts = no_numbers (lacks_on_port layer port (only right)) number
+          (numbers_from (λ own. lacks_on_port own port (only right)) (number + 1) layers) none in
           and_from (lets (port ∷ []) (granting_on_ports right layer)) (passes (map (granting_on_ports right) layers) (port ∷ []))
           (first ∙ not_false (lacks_on_port layer port (only right)) parts.0) (rest.1 parts.1),
     )
@@ -136,7 +138,8 @@ fresh layers =
       λ layer inside. elim (cases_Bool (is_among bound.0 layer.grants)) [
         | inr gone ↦ gone
         | inl among ↦
-            let below = bound.1 bound.0 (in_flat_map (λ (own : Granting). own.grants) layers layer bound.0 inside (among-contains bound.0 layer.grants among)) in
+            let below = bound.1 bound.0
+            (in_flat_map (λ (own : Granting). own.grants) layers layer bound.0 inside (among-contains bound.0 layer.grants among)) in
             absurd (omega (arith, below))
       ],
     )
@@ -160,7 +163,8 @@ pub ports_one_by_one : (old new : List (RulesOn ℕ)) → NothingMoreOnPorts old
     ↔ ((right : NetRight) (port : ℕ) → refusing_port new port (only right) ≡ [] → refusing_port old port (only right) ≡ [])
 ports_one_by_one old new = (
   λ nothing right port none.
-      (refuses_none port right 1 old).0 (nothing right (port ∷ []) (single-is_chain port) (All-nil (Contains (port ∷ []))) ((refuses_none port right 1 new).1 none)),
+      (refuses_none port right 1 old).0
+      (nothing right (port ∷ []) (single-is_chain port) (All-nil (Contains (port ∷ []))) ((refuses_none port right 1 new).1 none)),
   λ each right chain is begins passing.
       on_each_chain (map (granting_on_ports right) old) (map (granting_on_ports right) new)
       (λ port passing_new. (refuses_none port right 1 old).1 (each right port ((refuses_none port right 1 new).0 passing_new))) chain is passing,

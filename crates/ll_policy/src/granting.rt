@@ -34,7 +34,8 @@ fn handles_of(layer: &Layer, right: FsRight) -> bool
 
 /// For each of some sets, whether it has a right.
 fn marks_on_objects(alloc: Global, sets: &[Fs], right: FsRight) -> Result<Vec<bool>, AllocError>
-    ensures { IfOk result (λ on. on.items ≡ map (λ set. files.has set (fs_right right)) sets.now) }
+    ensures { IfOk result (λ on.
+        on.items ≡ map (λ set. files.has set (fs_right right)) sets.now) }
 {
     let mut on = Vec::new(alloc);
     for set in sets {
@@ -45,7 +46,8 @@ fn marks_on_objects(alloc: Global, sets: &[Fs], right: FsRight) -> Result<Vec<bo
 
 /// For each of some sets, whether it has a right.
 fn marks_on_ports(alloc: Global, sets: &[Net], right: NetRight) -> Result<Vec<bool>, AllocError>
-    ensures { IfOk result (λ on. on.items ≡ map (λ set. network.has set (net_right right)) sets.now) }
+    ensures { IfOk result (λ on.
+        on.items ≡ map (λ set. network.has set (net_right right)) sets.now) }
 {
     let mut on = Vec::new(alloc);
     for set in sets {

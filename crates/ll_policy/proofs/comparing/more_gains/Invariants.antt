@@ -9,4 +9,5 @@ use Rattle.ll_policy.proofs.comparing.more_gains.Given as goal
 -- what is found of the rights so far
 abbrev pub invariant-loop-right : goal.invariant-loop-right
 invariant-loop-right l =
-    AllZip (λ right. TellsGains (is_file_in l.files) (map rules_of l.old) (map rules_of l.new) (fs_right right)) (take l.right-index l.right-items) l.found.items
+    AllZip (λ right. TellsGains (is_file_in l.files) (map rules_of l.old) (map rules_of l.new) (fs_right right))
+    (take l.right-index l.right-items) l.found.items

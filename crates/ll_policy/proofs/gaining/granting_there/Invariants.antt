@@ -6,4 +6,5 @@ use Rattle.ll_policy.proofs.gaining.granting_there.Given as goal
 -- those so far, and those of what is left, are all
 abbrev pub invariant-loop-layer : goal.invariant-loop-layer
 invariant-loop-layer l =
-    l.found.items ++ filter (λ layer. is_among l.directory layer.grants) (drop l.layer-index l.layers) ≡ filter (λ layer. is_among l.directory layer.grants) l.layers
+    l.found.items ++ filter (λ layer. is_among l.directory layer.grants) (drop l.layer-index l.layers) ≡ filter
+    (λ layer. is_among l.directory layer.grants) l.layers
