@@ -154,7 +154,7 @@ refuse-tests:
 # brute force, in smaller numbers than they have by themselves.
 live:
 	$(call UNIT_TESTS,record) -p 'live_*.py' --verbose
-	record/tests/brute.py --pairs 40 --policies 20
+	record/tests/brute.py --pairs 40 --checks 40 --policies 20
 
 # Records probes with the witness on Debian's kernels 6.1 and 6.12, in QEMU, within 30 minutes; is no part of the gate,
 # and says what it skips and why.
