@@ -65,6 +65,7 @@ class Known(Protocol):
         """What is at a path whose directories are no links; None if that is not known."""
 
 
+@dataclass(frozen=True)
 class NothingElse:
     """No object: what a tree does not list is not there."""
 
@@ -73,6 +74,7 @@ class NothingElse:
         return NOTHING
 
 
+@dataclass(frozen=True)
 class Disk:
     """The objects that this machine has now."""
 
