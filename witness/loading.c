@@ -90,6 +90,12 @@ static void leave_out_absent(struct bpf_program *program, const struct btf *kern
         bpf_program__set_autoload(program, false);
 }
 
+static int not_attached(const char *name)
+{
+    fprintf(stderr, "landaudit-witness: no program can be attached to %s: %s\n", name, strerror(errno));
+    return 0;
+}
+
 /* Makes a program one of the module; a function of Landlock's own stays unheard. */
 static int make_module_program(struct loaded *loaded, struct bpf_program *program)
 {
@@ -102,9 +108,11 @@ static int make_module_program(struct loaded *loaded, struct bpf_program *progra
         loaded->unheard[loaded->unheard_number++] = function;
         return 1;
     }
-    return !bpf_program__set_type(program, BPF_PROG_TYPE_LSM) &&
-           !bpf_program__set_expected_attach_type(program, BPF_LSM_MAC) &&
-           !bpf_program__set_attach_target(program, 0, hook);
+    if (bpf_program__set_type(program, BPF_PROG_TYPE_LSM) ||
+        bpf_program__set_expected_attach_type(program, BPF_LSM_MAC) ||
+        bpf_program__set_attach_target(program, 0, hook))
+        return not_attached(hook);
+    return 1;
 }
 
 static int prepare(struct loaded *loaded)
@@ -136,7 +144,7 @@ static int attach(struct loaded *loaded)
         if (!bpf_program__autoload(program) || bpf_program__type(program) == BPF_PROG_TYPE_RAW_TRACEPOINT)
             continue;
         if (!(is_lsm ? bpf_program__attach_lsm(program) : bpf_program__attach(program)))
-            return 0;
+            return not_attached(bpf_program__section_name(program));
     }
     return 1;
 }

@@ -82,7 +82,7 @@ static __always_inline void count(u32 what)
     u64 *number = bpf_map_lookup_elem(&counts, &what);
 
     if (number)
-        (*number)++;
+        __sync_fetch_and_add(number, 1);
 }
 
 static __always_inline struct room *room_of_thread(u64 flags)
@@ -90,12 +90,14 @@ static __always_inline struct room *room_of_thread(u64 flags)
     return bpf_task_storage_get(&rooms, bpf_get_current_task_btf(), 0, flags);
 }
 
-/* The number that a process or thread has in the PID namespace of the witness. */
+/* The number that a process or thread has in the PID namespace of the witness, 0 if it has none there. */
 static __always_inline u32 number_of(struct pid *pid)
 {
     u32 number = 0;
     u64 at = bpf_core_field_offset(struct pid, numbers) + level * bpf_core_type_size(struct upid);
 
+    if (BPF_CORE_READ(pid, level) < level)
+        return 0;
     bpf_probe_read_kernel(&number, sizeof(number), (char *)pid + at + bpf_core_field_offset(struct upid, nr));
     return number;
 }

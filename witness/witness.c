@@ -124,7 +124,7 @@ static int input_ended(void)
     return poll(&input, 1, 0) > 0 && read(STDIN_FILENO, &byte, 1) <= 0;
 }
 
-/* Waits a moment for the end of what is followed; `status` is that of the command, if there is one. */
+/* Whether what is followed has ended, or the witness shall end; `status` becomes that of the command, if it is known. */
 static int has_ended(const struct loaded *loaded, const struct options *options, pid_t child, int *status)
 {
     if (asked_to_end)
@@ -154,6 +154,8 @@ static int follow(const struct loaded *loaded, const struct options *options, st
     while (!has_ended(loaded, options, child, &status))
         if (ring_buffer__consume(ring) == 0)
             usleep(PAUSE_MILLISECONDS * 1000);
+    if (!options->beside && !asked_to_end)
+        waitpid(child, &status, 0); /* it has ended, but may not have been a zombie when that was looked for */
     ring_buffer__consume(ring);
     ring_buffer__free(ring);
     return WIFEXITED(status) ? WEXITSTATUS(status) : 128 + WTERMSIG(status);

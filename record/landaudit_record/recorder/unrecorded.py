@@ -197,7 +197,7 @@ def _real(record: jsonl.Record, path: str = "path", shown: str = "shown") -> str
 
 
 class Check:
-    """Looks for the record of each event; `looks` and `signals` are the processes of which such calls are counted."""
+    """Looks for the record of each event; `looks` and `signals` are the threads of which such calls are counted."""
 
     def __init__(self, recording: Recording, asked: Asked, looks: set[int], signals: set[int]) -> None:
         self._recording = recording
@@ -282,7 +282,8 @@ class Check:
     def _ask_others(self, number: int, event: jsonl.Record) -> None:
         """What is not asked about files or ports: another process, and a layer that the process gets."""
         hook, pid = event["hook"], event["pid"]
-        if hook in self._counted and not event["followed"] and pid not in self._counted[hook]:
+        threads = {pid, event["tid"]}
+        if hook in self._counted and not event["followed"] and not threads & self._counted[hook]:
             if hook == "task_kill":
                 self._recording.leave_to_scope(SIGNAL, number, pid, described(event))
             else:
