@@ -124,7 +124,7 @@ static int input_ended(void)
     return poll(&input, 1, 0) > 0 && read(STDIN_FILENO, &byte, 1) <= 0;
 }
 
-/* Whether what is followed has ended, or the witness shall end; `status` becomes that of the command, if it is known. */
+/* Whether what is followed has ended, or the witness shall end; `status` becomes that of the command, if known. */
 static int has_ended(const struct loaded *loaded, const struct options *options, pid_t child, int *status)
 {
     if (asked_to_end)
