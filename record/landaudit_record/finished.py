@@ -50,7 +50,8 @@ class Converted:
 
     `unsaid` counts by class the calls that could not be written, `holes` those of them that the kernel may refuse by a
     policy and that an audit can't foresee, `scopes` the calls that the kernel may refuse if the policy has the scope.
-    `ended` says that the tracer ended by itself; `untraced` has the kinds of calls that the log does not have.
+    `ended` says that the tracer ended by itself; `untraced` has the kinds of calls that the log does not have;
+    `too_large` are the directories that hold too many objects to be listed before the run.
     """
 
     parts: tuple[Size, ...]
@@ -61,6 +62,7 @@ class Converted:
     scopes: Counter[str] = field(default_factory=Counter)
     ended: bool = True
     untraced: tuple[str, ...] = ()
+    too_large: tuple[str, ...] = ()
 
     @property
     def records(self) -> int:
@@ -69,7 +71,7 @@ class Converted:
 
     def write(self, folder: Path) -> None:
         """Marks the conversion in a folder as complete; the file appears in one step."""
-        names = ("processes", "objects", "unsaid", "holes", "scopes", "ended", "untraced")
+        names = ("processes", "objects", "unsaid", "holes", "scopes", "ended", "untraced", "too_large")
         said = {name: getattr(self, name) for name in names}
         parts = [asdict(part) for part in self.parts]
         beside = folder / f"{CONVERTED}.new"
@@ -146,6 +148,7 @@ class Finished:
     untraced: tuple[str, ...] = ()
     scoped: tuple[str, ...] = ()
     unknown: tuple[str, ...] = ()
+    too_large: tuple[str, ...] = ()
 
     @property
     def missing(self) -> list[str]:
@@ -183,7 +186,11 @@ class Finished:
 
     @property
     def notes(self) -> Iterator[str]:
-        """The notes on each audit: the kinds of calls that were not traced and that a layer may refuse."""
+        """The notes on each audit: directories that were not listed, and the kinds of calls that were not traced and
+        that a layer may refuse.
+        """
+        for directory in self.too_large:
+            yield f"{directory} holds too many objects to be listed before the run: what was there is known in part"
         if LOOKING in self.untraced:
             yield "calls that only look (stat, readlink) into other processes are not recorded: record it again"
         elif READING_LINKS in self.untraced:
@@ -202,7 +209,7 @@ def opened(folder: str) -> Finished:
         if not part.tree.is_file() or not part.trace.is_file() or part.trace.stat().st_size != size.bytes:
             raise Problem(f"{part.trace} is missing or has changed since the conversion: {_mending(path)}")
     said = (converted.unsaid, converted.holes, converted.ended, converted.scopes, converted.untraced)
-    return Finished(path, tuple(parts), *said)
+    return Finished(path, tuple(parts), *said, too_large=converted.too_large)
 
 
 def _mending(path: Path) -> str:
@@ -219,7 +226,8 @@ def _converted(folder: Path) -> Converted | None:
         parts = tuple(Size(**size) for size in said["parts"])
         counts = (Counter(said["unsaid"]), Counter(said["holes"]), Counter(said.get("scopes", {})))
         untraced = tuple(said.get("untraced", _OLDER))
-        return Converted(parts, said["processes"], said["objects"], *counts, said["ended"], untraced)
+        about = (said["ended"], untraced, tuple(said.get("too_large", ())))
+        return Converted(parts, said["processes"], said["objects"], *counts, *about)
     except (FileNotFoundError, NotADirectoryError):
         return None
     except OSError as error:

@@ -207,23 +207,27 @@ def _refusals(summary: Summary, style: Style, *, each: bool) -> Iterator[str]:
 
 
 def _unsure(summary: Summary, style: Style, *, each: bool) -> Iterator[str]:
-    """The calls that may be refused, with what is not known of each."""
+    """The calls that may be refused, with what is not known of each, and what it lacks in one case or another."""
     if not summary.unsure:
         return
-    kinds = sorted(summary.unsure.items(), key=lambda item: -item[1].total())
-    shown = kinds if each else kinds[:MOST_ROWS]
-    yield from _heading(f"may be refused: what was there before is not known ({counted(len(kinds), 'kind')})", style)
+    alike: dict[tuple[str, str, str], list[Refusal]] = {}
+    for refusal in summary.unsure:
+        alike.setdefault((refusal.call, refusal.place, refusal.unknown or "-"), []).append(refusal)
+    shown = list(alike.values()) if each else list(alike.values())[:MOST_ROWS]
+    yield from _heading(f"may be refused: what was there before is not known ({counted(len(alike), 'kind')})", style)
     columns = (_TIMES, Column("call"), Column("place", short=True), Column("not known", short=True),
-               _why_column([_lacks(refusal) for refusal, _ in shown]))
-    yield from table(columns, [_unsure_row(refusal, programs) for refusal, programs in shown], style.width)
-    if len(kinds) > len(shown):
-        yield f"  --all lists {counted(len(kinds) - len(shown), 'more kind')}"
+               Column("lacks in one case", short=True))
+    yield from table(columns, [_unsure_row(some, summary) for some in shown], style.width)
+    if len(alike) > len(shown):
+        yield f"  --all lists {counted(len(alike) - len(shown), 'more kind')}"
 
 
-def _unsure_row(refusal: Refusal, programs: Counter[str]) -> list[Cell]:
-    place = layout.parts(_person(refusal.place).split(" -> "), " -> ")
-    return [words(f"{programs.total():,}"), words(refusal.call), place, words(refusal.unknown or "-"),
-            layout.lacks(_lacks(refusal))]
+def _unsure_row(alike: Sequence[Refusal], summary: Summary) -> list[Cell]:
+    """A kind of calls that may be refused, perhaps in several cases."""
+    times = max(summary.unsure[refusal].total() for refusal in alike)
+    place = layout.parts(_person(alike[0].place).split(" -> "), " -> ")
+    lacking = layout.lacks([lack for refusal in alike for lack in _lacks(refusal)])
+    return [words(f"{times:,}"), words(alike[0].call), place, words(alike[0].unknown or "-"), lacking]
 
 
 def _behind(summary: Summary) -> tuple[Column, ...]:

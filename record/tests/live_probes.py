@@ -19,6 +19,7 @@ from typing import Any
 from landaudit_record.jsonl import numbered
 from landaudit_record.recorder.calls import beyond, descriptors, landlock, mounts, others, programs
 from landaudit_record.recorder.converting import CORE_FILE
+from landaudit_record.recorder.names import MADE_OR_THERE
 from landaudit_record.recorder.scene import BY_UNSEEN_LAYER, MOVING
 
 from .live_actor import CONFINER, HERE, POLICIES, PYTHON, RECORDER, wanting
@@ -34,7 +35,8 @@ class Expected:
     """What a probe meets: the steps that the policy refuses, how the bare recording's audit foretells them (by the
     kinds of its refused calls), and the classes in which it counts calls that may be refused. It is recorded with some
     options of `run`, and with a TCP socket as standard input if `socket` says so. If it is `told`, it depends on how
-    soon the recorder looks whether the audit foretells what is refused or tells that it may be.
+    soon the recorder looks whether the audit foretells what is refused or tells that it may be. `unsure` is what the
+    recorder can't know of it, if it runs with all privileges.
     """
 
     met: frozenset[str] = frozenset()
@@ -43,6 +45,7 @@ class Expected:
     options: tuple[str, ...] = ()
     socket: bool = False
     told: bool = False
+    unsure: str | None = None
 
 
 def _of(
@@ -53,9 +56,10 @@ def _of(
     *,
     socket: bool = False,
     told: bool = False,
+    unsure: str | None = None,
 ) -> Expected:
     split = (frozenset(filter(None, text.split(", "))) for text in (met, foretold))
-    return Expected(*split, frozenset(holes), options, socket, told)
+    return Expected(*split, frozenset(holes), options, socket, told, unsure)
 
 
 #: What the rule on ptrace refuses of the process that started a probe.
@@ -104,7 +108,7 @@ EXPECTED = {
     "kinds": _of("rename directory, rename pipe", told=True),
     "swapped": _of("make by the first", told=True),
     "script": _of("run", told=True),
-    "without_times": _of(told=True),
+    "without_times": _of(told=True, unsure=MADE_OR_THERE),
     "for_ioctl": _of("make, cut", "mknod, truncate"),
     "busy": _of(),
 }
@@ -189,6 +193,8 @@ class LiveProbes(unittest.TestCase):
                     self.assertEqual(self.holes("bare"), expected.holes)
                 elif expected.met:
                     self.assertTrue(ops or audit["may_be_refused"] or audit["not_judged"])
+                if expected.unsure is not None and os.geteuid() == 0:
+                    self.assertEqual({one["unknown"] for one in audit["may_be_refused"]}, {expected.unsure})
                 compared = self.said("compare", str(self.folder / "confined"))
                 self.assertEqual([one for one in compared["differences"] if not one["named"]], [])
 

@@ -636,8 +636,9 @@ def script() -> None:
 
 
 def without_times() -> None:
-    """A file system that does not keep when a file was made (ramfs)."""
-    attempt("make", lambda: os.close(os.open(STATE / "ram" / "new", os.O_WRONLY | os.O_CREAT, 0o644)))
+    """A file system that does not keep when a file was made (ramfs): a file that is made, and not cut."""
+    path = STATE / "ram" / "new"
+    attempt("make", lambda: os.close(os.open(path, os.O_WRONLY | os.O_CREAT | os.O_TRUNC, 0o644)))
 
 
 def for_ioctl() -> None:

@@ -4,11 +4,13 @@ from __future__ import annotations
 
 import unittest
 from collections import Counter
+from pathlib import Path
 
 from landaudit_record import jsonl, reports
-from landaudit_record.kernel_calls import judged_calls
-from landaudit_record.comparing import agree
 from landaudit_record.answers import ALLOWED, REFUSED, Answer, Refusing
+from landaudit_record.comparing import agree
+from landaudit_record.finished import Finished
+from landaudit_record.kernel_calls import judged_calls
 from landaudit_record.processes import Process
 from landaudit_record.recorder.calls import programs
 from landaudit_record.recorder.names import MADE_OR_THERE, OF_KIND, REPLACED_OR_NOT, UNKNOWN_WAY
@@ -50,6 +52,12 @@ class Unknown(WrittenLogs):
         """What is not known of the calls, and how often."""
         found = self.run_over(objects, *calls)
         return Counter(record["unknown"] for record in found if "unknown" in record and "otherwise" not in record)
+
+
+class Unlisted(unittest.TestCase):
+    def test_an_audit_notes_what_was_too_large_to_be_listed(self) -> None:
+        recording = Finished(Path("rec"), (), Counter(), Counter(), True, too_large=("/big",))
+        self.assertEqual([note.split(" ")[0] for note in recording.notes], ["/big"])
 
 
 class Making(Unknown):
@@ -98,6 +106,12 @@ class Making(Unknown):
         )
         self.assertEqual((there["path"], other["path"], other["shown"]), ("/s/f", "/s/f~2~", "/s/f"))
         self.assertEqual((other["otherwise"], closed["op"]), (True, "close"))
+
+    def test_an_open_file_that_is_cut(self) -> None:
+        calls = (opens("/s/f", MAKES), "ftruncate(3</s/f>, 0) = 0")
+        *_, cut, other = self.run_over([seen("/s/f", "reg", FIRST, new=None)], *calls)
+        self.assertEqual((cut["op"], cut["fd"], cut["unknown"]), ("ftruncate", 3, MADE_OR_THERE))
+        self.assertEqual((other["op"], other["path"], other["otherwise"]), ("truncate", "/s/f~2~", True))
 
     def test_a_refused_creation(self) -> None:
         refused = f'openat({CWD}, "/s/f", {CUTS}) = -1 EACCES (Permission denied)'
@@ -183,6 +197,13 @@ class Programs(Unknown):
         gone = {"program": "/s/x", "first": FIRST, "until": FIRST + 1, "known": False}
         self.assertEqual(self.run_by([gone], self.RUNS), [])
         self.assertEqual(self.unsaid(), [(programs.UNKNOWN_PROGRAM, True)])
+
+    def test_a_file_that_was_not_to_be_run_when_it_was_first_seen(self) -> None:
+        refused = 'execve("/s/x", ["x"], 0x1 /* 2 vars */) = -1 EACCES (Permission denied)'
+        for runs, ops in ((True, ["restrict", "open", "exec"]), (False, ["restrict"])):
+            with self.subTest(runs):
+                found = self.run_over([seen("/s/x", "reg", 0), {**self.READ, "runs": runs}], CONFINED, refused)
+                self.assertEqual([record["op"] for record in found][:3], ops)
 
     def test_each_run_of_a_file_that_changes(self) -> None:
         again = {"program": "/s/x", "first": FIRST + 2, "until": FIRST + 2, "interpreter": "/s/x2"}

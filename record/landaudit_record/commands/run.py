@@ -186,6 +186,7 @@ def _about(command: list[str], seen: recordings.Watched, strace: str, *, readlin
         descriptors=recordings.standard_descriptors(),
         watched=seen.watched,
         unlisted=[*seen.unread, *seen.of_kernel],
+        too_large=seen.too_large,
         strace=strace,
         kernel=os.uname().release,
         errata=recordings.errata(),

@@ -11,6 +11,7 @@ is not looked at, and only regular files are opened.
 from __future__ import annotations
 
 import ctypes
+import math
 import os
 import re
 import select
@@ -29,7 +30,7 @@ from .names import MOST_LINKS
 from .values import is_in_memory, unescaped
 
 #: The least time between two readings of the log, in seconds: many lines are read together.
-PAUSE = 0.0005
+PAUSE = 0.001
 #: How much of the log is read at once.
 BLOCK = 1 << 20
 #: Directories with more names than this are not listed; what the log leads to in them is looked at name by name.
@@ -47,13 +48,10 @@ _BASE = rb"(?:(-?\d+)(?: /\*[^*\n]*\*/)?(?:<([^<>\n]*)>)?(?:\(deleted\))?, )?"
 _HERE = b"-100"
 _TEXT = rb'"((?:[^"\\\n]|\\.)*)"'
 _ANY_TEXT = rb'"(?:[^"\\\n]|\\.)*"'
-#: The first path of a call, the second one of a move or link, what a call opened, and a program that is run.
-_FIRST = re.compile(rb"^\d+ +\w+\(" + _BASE + _TEXT, re.MULTILINE)
-_SECOND = re.compile(
-    rb"^\d+ +(?:rename|link|symlink)(?:at2?)?\([^\"\n]*" + _ANY_TEXT + rb", " + _BASE + _TEXT, re.MULTILINE
-)
-_OPENED = re.compile(rb"\) = \d+<(/[^<>\n]*)>$", re.MULTILINE)
-_RUN = re.compile(rb"^(\d+) +execve(?:at)?\(" + _BASE + _TEXT, re.MULTILINE)
+#: The first path of a call, the second one of a move or link, and a program that is run.
+_FIRST = re.compile(rb"\n\d+ +\w+\(" + _BASE + _TEXT)
+_SECOND = re.compile(rb"\n\d+ +(?:rename|link|symlink)(?:at2?)?\([^\"\n]*" + _ANY_TEXT + rb", " + _BASE + _TEXT)
+_RUN = re.compile(rb"\n(\d+) +execve(?:at)?\(" + _BASE + _TEXT)
 #: How paths begin that may lead to a program that is in memory alone.
 _BY_NUMBER = ("/proc/self/fd/", "/dev/fd/")
 
@@ -98,7 +96,7 @@ class _Read:
     state: tuple[int, ...] | None
 
 
-class _Mounts:
+class Mounts:
     """What is mounted, and what of it is not looked at."""
 
     def __init__(self, file: Path = Path("/proc/self/mountinfo")) -> None:
@@ -170,10 +168,13 @@ class Beside:
         self._in_watched: dict[str, Seen | None] = {}
         self._listings: dict[str, _Listing | None] = {}
         self._reads: dict[str, list[_Read]] = {}
+        self._real: dict[str, str] = {}
         self._led: set[_Led] = set()
         self._run_until = 0
         self._waiting: list[str] = []
-        self._mounts = _Mounts()
+        self._mounts = Mounts()
+        self._at = 0
+        self._until = math.inf
         self._stops = threading.Event()
         self._thread = threading.Thread(target=self._follow, daemon=True)
 
@@ -181,10 +182,15 @@ class Beside:
         """Begins to follow."""
         self._thread.start()
 
+    def is_up_to_date(self) -> bool:
+        """Whether all that the log has now was read, and all to which it leads was looked at."""
+        return self._at == self._length() and not self._waiting
+
     def stop(self, file: Path) -> None:
-        """Ends, and writes what was seen; nothing, if a file system does not answer."""
+        """Ends where the log ends, and writes what was seen; nothing, if a file system does not answer."""
+        self._until = time.monotonic() + _PATIENCE
         self._stops.set()
-        self._thread.join(_PATIENCE)
+        self._thread.join(2 * _PATIENCE)
         if not self._thread.is_alive():
             self._mounts.close()
             disk.write_beside(file, *self._told())
@@ -192,20 +198,24 @@ class Beside:
     def _follow(self) -> None:
         """Reads the log as it grows."""
         while not self._log.exists():
-            if self._stops.wait(PAUSE):
+            if self._stops.wait(PAUSE) and not self._log.exists():
                 return
         growth = _Growth(self._log)
         with open(self._log, "rb") as lines, closing(growth):
             text, at = b"", 0
-            while not self._stops.is_set():
-                more = lines.read(BLOCK)
-                if more:
+            while time.monotonic() < self._until:
+                stops = self._stops.is_set()
+                if more := lines.read(BLOCK):
                     text += more
                     self._read(at, text)
                     ends = text.rfind(b"\n") + 1
                     text, at = text[ends:], at + ends
+                    self._at = lines.tell()
                 elif self._waiting:
-                    self._lead(self._waiting.pop())
+                    self._lead(self._waiting[-1])
+                    self._waiting.pop()
+                elif stops:
+                    return
                 else:
                     growth.wait()
                     time.sleep(PAUSE)
@@ -215,13 +225,13 @@ class Beside:
 
         The piece begins at a place of the log. What it leads to last comes first, since a look is of use if it is soon.
         """
+        text = b"\n" + text
         for run in _RUN.finditer(text) if b"execve" in text else ():
             if at + run.start() >= self._run_until:
                 self._run_until = at + run.start() + 1
                 self._read_run(int(run[1]), self._joined(*run.groups()[1:]), at + run.start())
         met: dict[_Led, None] = dict.fromkeys(_FIRST.findall(text))
         met.update(dict.fromkeys(_SECOND.findall(text)))
-        met.update(((b"", b"", opened), None) for opened in _OPENED.findall(text))
         new = [led for led in met if led not in self._led]
         self._led.update(new)
         self._waiting.extend(self._joined(*led) for led in reversed(new))
@@ -301,8 +311,9 @@ class Beside:
     def _read_program(self, path: str, run: int) -> None:
         """Reads how a file says that it is run, and the files by which it is run, unless they are as they were."""
         for _ in range(MOST_READ):
-            if self._mounts.closes(path) or self._mounts.closes(path := os.path.realpath(path)):
+            if self._mounts.closes(path):
                 return
+            path = self._real.get(path) or os.path.realpath(path)
             reads = self._reads.setdefault(path, [])
             state = _state(path)
             if not reads or state is None or reads[-1].state != state:
@@ -312,6 +323,8 @@ class Beside:
             interpreter = reads[-1].program.interpreter
             if interpreter is None:
                 return
+            if interpreter not in self._real:
+                self._real[interpreter] = os.path.realpath(interpreter)
             path = interpreter
 
     def _told(self) -> tuple[dict[str, Observed], dict[str, list[Program]]]:

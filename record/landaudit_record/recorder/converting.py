@@ -71,7 +71,7 @@ def _convert(
         kept.keep(folder / OBJECTS)
         ended = about.ended and scene.have_ended(scene.threads)
         unrecorded.tell(folder, recording)
-        return recording.finish(ended, scene.further_names(), about.untraced)
+        return recording.finish(ended, scene.further_names(), about.untraced, about.too_large)
 
 
 def _take(scene: Scene, event: Ended | Superseded | Unread) -> None:

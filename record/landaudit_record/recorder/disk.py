@@ -7,7 +7,7 @@ import os
 import re
 import stat
 from collections.abc import Container, Mapping, Sequence
-from dataclasses import dataclass
+from dataclasses import dataclass, replace
 from functools import cache
 from itertools import chain
 from pathlib import Path
@@ -73,7 +73,7 @@ class Program:
     """How a file says that it is run: by which interpreter or loader, and how it begins if a format may run it.
 
     It was read for runs from the line `first` of the log on; `until` is as in `Observed`. If it could not be read then,
-    it is not `known`.
+    it is not `known`. `runs` says whether its mode then let anybody run it.
     """
 
     interpreter: str | None = None
@@ -81,6 +81,7 @@ class Program:
     known: bool = True
     first: int = 0
     until: int = AFTER
+    runs: bool = True
 
 
 def kind_of(mode: int, device: int) -> str:
@@ -132,6 +133,7 @@ def _born(path: str) -> float | None:
     return seconds + nanoseconds / 1e9
 
 
+@cache
 def _libc() -> ctypes.CDLL:
     return ctypes.CDLL(None, use_errno=True)
 
@@ -161,7 +163,8 @@ def _after_mark(head: bytes) -> str | None:
 
 def program(path: str, formats: Sequence[Format]) -> Program:
     """How a file says that it is run, if it is a regular file that can be read."""
-    return program_at(path, formats) if stat.S_ISREG(_mode_bits(path)) else Program(known=False)
+    bits = _mode_bits(path)
+    return replace(program_at(path, formats), runs=bits & 0o111 != 0) if stat.S_ISREG(bits) else Program(known=False)
 
 
 def program_at(path: str, formats: Sequence[Format]) -> Program:
@@ -352,7 +355,8 @@ def _seen_line(path: str, of: Observed) -> jsonl.Record:
 
 def _program_line(path: str, one: Program) -> jsonl.Record:
     """The line of how a file was run."""
-    return {"program": path, "first": one.first, "until": one.until, **_how_run(one)}
+    runs = {} if one.runs else {"runs": False}
+    return {"program": path, "first": one.first, "until": one.until, **_how_run(one), **runs}
 
 
 def _how_run(one: Program) -> jsonl.Record:
@@ -364,7 +368,9 @@ def _how_run(one: Program) -> jsonl.Record:
 def _program_of(line: jsonl.Record) -> Program:
     head = bytes.fromhex(line.get("head", ""))
     told = (line.get("interpreter"), head, line.get("known", True))
-    return Program(*told, line.get("first", 0), line.get("until", AFTER) if "program" in line else AFTER)
+    if "program" in line:
+        return Program(*told, line["first"], line["until"], line.get("runs", True))
+    return Program(*told, runs=line.get("runs", False))
 
 
 def write_beside(file: Path, seen: Mapping[str, Observed], programs: Mapping[str, list[Program]]) -> None:

@@ -44,7 +44,8 @@ class About:
     that calls which only look at an object and calls which send signals were traced, `readlink` that calls which read
     links were traced. `formats` are those that binfmt_misc had, None if they are not known; `hidepid` says that /proc
     is mounted with this option (proc(5)), and `taken` has the places of file systems that were taken from their servers
-    during the run. `machine` tells the machine from others, "" if it is not known.
+    during the run. `too_large` are directories that were to be listed and hold too many objects. `machine` tells the
+    machine from others, "" if it is not known.
     """
 
     command: list[str]
@@ -67,6 +68,7 @@ class About:
     hidepid: bool = False
     euid: int | None = None
     taken: list[str] = field(default_factory=list)
+    too_large: list[str] = field(default_factory=list)
     machine: str = ""
 
     @property

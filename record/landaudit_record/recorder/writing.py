@@ -365,12 +365,16 @@ class Recording:
         yield from (entry for _, entry in jsonl.numbered(self._undone / "unsaid.jsonl"))
 
     def finish(
-        self, ended: bool, further: Mapping[str, Sequence[str]] | None = None, untraced: Sequence[str] = ()
+        self,
+        ended: bool,
+        further: Mapping[str, Sequence[str]] | None = None,
+        untraced: Sequence[str] = (),
+        too_large: Sequence[str] = (),
     ) -> Converted:
         """Puts all files in place, and says last that the recording is whole.
 
         `further` are the further names that objects have on which the program puts a rule: it is put on these too.
-        `untraced` are the kinds of calls that were not traced.
+        `untraced` are the kinds of calls that were not traced, `too_large` directories that were to be listed.
         """
         self.commit()
         self._end_part()
@@ -379,7 +383,7 @@ class Recording:
             part.spread(further or {})
         sizes = tuple(part.finish(self.tree) for part in self._parts)
         counts = (self.unsaid, self._holes, self._scopes)
-        done = Converted(sizes, self.processes, len(self.tree), *counts, ended, tuple(untraced))
+        done = Converted(sizes, self.processes, len(self.tree), *counts, ended, tuple(untraced), tuple(too_large))
         (self._folder / CONVERTED).unlink(missing_ok=True)
         for old in files_of_parts(self._folder):
             old.unlink()

@@ -10,6 +10,7 @@ never free: they take effect at their end. So does an exec, which closes numbers
 from __future__ import annotations
 
 import re
+from typing import Any
 
 from .. import values
 from ..processes import Handle, Thread
@@ -225,7 +226,14 @@ def _ftruncate(scene: Scene, thread: Thread, call: Call) -> None:
     if handle.foreign and handle.adopted == "reg":
         raise CannotSay(FOREIGN)
     scene.adopt(thread, call, of.number, handle)
-    scene.say(thread, call, "ftruncate", fd=of.number)
+    node = handle.node
+    if node is None or not node.others or of.path is None:
+        scene.say(thread, call, "ftruncate", fd=of.number)
+        return
+    others = [scene.there(of.path, other) for other in node.others]
+    scene.say(thread, call, "ftruncate", fd=of.number, unknown=node.doubt)
+    asked: list[dict[str, Any]] = [{"path": spot.path, **arguments.shown(spot)} for spot in others]
+    scene.say_instead(thread, call, "truncate", *({**members, "unknown": node.doubt} for members in asked))
 
 
 HANDLERS = {

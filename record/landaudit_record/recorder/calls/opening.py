@@ -117,7 +117,7 @@ def succeeded(
         scene.names.rewritten(result.path)
 
 
-@dataclass(frozen=True)
+@dataclass(slots=True)
 class _Opened:
     """What was opened: an object that was there or, if the call `made` it, the name at which nothing was.
 

@@ -50,8 +50,10 @@ def _run(scene: Scene, thread: Thread, call: Call, spot: Spot) -> None:
 
 def _may_not_run(scene: Scene, spot: Spot) -> bool:
     """Whether the kind or the mode of a file forbids running it, whatever Landlock says (execve(2))."""
-    seen = scene.disk.look(spot.real)
-    return spot.node is not None and (spot.node.kind != "reg" or (seen is not None and not seen.runs))
+    if spot.node is None or spot.node.kind != "reg":
+        return spot.node is not None
+    how = scene.names.program(spot.real)
+    return how.known and not how.runs
 
 
 def _run_one(scene: Scene, thread: Thread, call: Call, spot: Spot, role: str | None) -> int | None:
