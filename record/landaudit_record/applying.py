@@ -230,7 +230,8 @@ def _of_layer(policy: Policy, layer: FittedLayer, tree: Tree, rs: int) -> Iterat
         for parent in rule.parents:
             led = _led(tree, parent, f"{policy.path}: layer {layer.number}, {rule.place}, parent")
             path = led.path if led.is_sure or led.path not in tree.kinds else NOWHERE
-            if rule.group is not None and not tree.is_there_before(path):
+            rights = rule.on(tree.kind(path))
+            if not rights or (rule.group is not None and not tree.is_there_before(path)):
                 continue
             of_rule: dict[str, Any] = {**origin, "rule": rule.place, "parent": parent}
             for name, about in _on(tree, path):
@@ -238,7 +239,7 @@ def _of_layer(policy: Policy, layer: FittedLayer, tree: Tree, rs: int) -> Iterat
                     "op": "add_path",
                     "rs": rs,
                     "path": name,
-                    "fs": rule.on(tree.kind(path)),
+                    "fs": rights,
                     "policy": {**of_rule, **about},
                 }
     for port_rule in layer.port_rules:

@@ -98,6 +98,8 @@ def _add(policy: Policy, ruleset: int, where: str, rule: FittedPathRule, place: 
     """A rule on what an open descriptor stands for."""
     is_directory = stat.S_ISDIR(os.fstat(place).st_mode)
     allowed = rule.on("dir" if is_directory else "reg")
+    if not allowed:
+        return
     try:
         landlock.add_path_beneath(ruleset, place, allowed)
     except OSError as error:

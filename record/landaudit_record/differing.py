@@ -21,7 +21,7 @@ from .answers import ALLOWED, MOOT, REFUSED
 from .anywhere import Chain
 from .asking import RULESET
 from .differing_layers import Abis, OfLayers
-from .fitting import FittedLayer, FittedPathRule
+from .fitting import FittedLayer
 from .jsonl import Record
 from .jsonl import value as json_of
 from .policies import Policy
@@ -179,7 +179,7 @@ def _with_files(layer: FittedLayer, regions: Regions) -> FittedLayer:
         named = [as_named(parent) for parent in rule.parents]
         as_files = [as_named(parent) for parent in rule.parents if not parent.endswith("/")]
         files = [regions.as_file(path, kind) for path in as_files for kind in RULED_KINDS]
-        rules.append(FittedPathRule(rule.place, (*named, *files), rule.on_directory, rule.on_file))
+        rules.append(replace(rule, parents=(*named, *files)))
     tried = regions.tried_ports.keys()
     ports = (replace(rule, ports=tuple(port for port in rule.ports if port in tried)) for rule in layer.port_rules)
     return FittedLayer(layer.number, layer.handled_fs, layer.handled_net, tuple(rules), tuple(ports))

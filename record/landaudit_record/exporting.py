@@ -43,6 +43,7 @@ _TYPES = """\
 struct policy_path {
 	const char *path;
 	uint64_t on_directory, on_file; /* what is allowed, by what the path is */
+	int of_group; /* left out on a file that it allows nothing on */
 };
 
 struct policy_port {
@@ -96,9 +97,9 @@ static int policy_add_path(int ruleset, const struct policy_path *rule, uint64_t
 		error = errno;
 	} else {
 		attr.allowed_access = rule->on_directory & handled;
-		if (!S_ISDIR(about.st_mode) && (rule->on_file & handled))
+		if (!S_ISDIR(about.st_mode) && (rule->of_group || (rule->on_file & handled)))
 			attr.allowed_access = rule->on_file & handled;
-		if (syscall(SYS_landlock_add_rule, ruleset, LANDLOCK_RULE_PATH_BENEATH, &attr, 0))
+		if (attr.allowed_access && syscall(SYS_landlock_add_rule, ruleset, LANDLOCK_RULE_PATH_BENEATH, &attr, 0))
 			error = errno;
 	}
 	close(attr.parent_fd);
@@ -227,7 +228,7 @@ def _path_rows(rule: PathRule, layer: Layer) -> Iterator[str]:
     for parent in rule.parents:
         yield f"\t{{{_text(parent)},"
         yield from _wrapped(f"{_set('FS', FS, on_directory)},")
-        yield from _wrapped(f"{_set('FS', FS, on_file)}}},")
+        yield from _wrapped(f"{_set('FS', FS, on_file)}, {int(rule.group is not None)}}},")
 
 
 def _port_rows(rule: PortRule, layer: Layer) -> Iterator[str]:

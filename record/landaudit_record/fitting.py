@@ -16,7 +16,8 @@ from .rights import FILE_RIGHTS, FS, NET, Family, Rights
 class FittedPathRule:
     """What a rule grants under its parents; a parent that is a file gets only those rights of a group that files have.
 
-    `group` is the group of rules that the rule belongs to, if any: its missing parents are left out without a note.
+    `group` is the group of rules that the rule belongs to, if any: its parents that are missing, or that are files and
+    get no right, are left out without a note.
     """
 
     place: str
@@ -28,10 +29,12 @@ class FittedPathRule:
     def on(self, kind: str | None) -> list[str]:
         """The rights that the rule asks for on an object of a kind; None is an object that is not listed.
 
-        If no right of the rule applies to a file, the rule asks for all of them
-        and the kernel refuses it: the audit then names the rule.
+        If no right of the rule applies to a file, a rule of a group asks for nothing, and is left out. Any other rule
+        asks for all of them and the kernel refuses it: the audit then names the rule.
         """
-        return self.on_directory if kind in ("dir", None) else self.on_file or self.on_directory
+        if kind in ("dir", None):
+            return self.on_directory
+        return self.on_file if self.on_file or self.group is not None else self.on_directory
 
 
 @dataclass(frozen=True)

@@ -131,6 +131,18 @@ class LiveExporting(unittest.TestCase):
         subprocess.run(["cc", "-std=c99", "policy.c", "main.c", "-o", "confined"], cwd=self.folder, check=True)
         self.assertEqual(self.said(self.folder / "confined", "true"), (99, "", "Invalid argument\n"))
 
+    def test_a_group_on_a_file_that_gets_no_right_of_it(self) -> None:
+        policy = self.folder / "policy.toml"
+        policy.write_text('[[layer]]\nhandled_access_fs = ["read_dir"]\ninclude = ["base", "nameservice", "ssl"]\n')
+        code = subprocess.run([sys.executable, CONFINER, "export", policy, "--c"], capture_output=True, check=True).stdout
+        (self.folder / "policy.c").write_bytes(code)
+        subprocess.run(["cc", "-std=c99", "policy.c", "main.c", "-o", "confined"], cwd=self.folder, check=True)
+        listing = ("sh", "-c", "echo /usr/lib/*; echo /h*")
+        by_c = self.said(self.folder / "confined", *listing)
+        self.assertEqual(by_c, self.said(PYTHON, CONFINER, "confine", policy, "--", *listing))
+        self.assertEqual((by_c[0], by_c[1].splitlines()[1]), (0, "/h*"))
+        self.assertNotIn("*", by_c[1].splitlines()[0])
+
 
 if __name__ == "__main__":
     unittest.main()

@@ -120,6 +120,19 @@ class Taken(unittest.TestCase):
         self.assertEqual(notes, [])
         self.assertIn(("path", "/dev/null", ["read_file"]), kernel.calls)
 
+    def test_on_a_file_that_gets_no_right_of_it(self) -> None:
+        policy = read('[[layer]]\nhandled_access_fs = ["read_dir"]\ninclude = ["base"]\n')
+        tree = Tree({ROOT: "dir", "/usr": "dir", "/usr/lib": "dir", "/etc": "dir", "/etc/ld.so.cache": "reg"})
+        layers, _ = fitting.fit(policy, 5)
+        on = [record["path"] for record in applying.records(policy, layers, tree, 1) if record["op"] == "add_path"]
+        self.assertEqual(on, ["/usr/lib"])
+        kernel = Kernel(5)
+        with mock.patch.object(confining, "landlock", kernel):
+            self.assertEqual(confining.confine(policy, 5), [])
+        asked = {str(call[1]): call[2] for call in kernel.calls if call[0] == "path"}
+        self.assertEqual({path for path in asked if not Path(path).is_dir()}, set())
+        self.assertEqual(set(map(str, asked.values())), {"['read_dir']"})
+
     def test_an_abi_that_has_none_of_its_rights(self) -> None:
         policy = read('[[layer]]\nhandled_access_fs = ["ioctl_dev", "read_file"]\ninclude = ["base"]\n')
         _, notes = fitting.fit(policy, 4)
