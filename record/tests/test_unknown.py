@@ -164,6 +164,12 @@ class Others(Unknown):
         made, *_ = self.run_over(disk, 'mkdir("/s/now/sub", 0755) = 0', *swap)
         self.assertEqual((made["path"], self.unsaid()), ("/s/v1/sub~new~", []))
 
+    def test_two_names_of_one_file_that_the_run_writes(self) -> None:
+        disk = [seen("/s/f", "reg", FIRST, inode="1:7", new=False), seen("/s/g", "reg", inode="1:7", new=False)]
+        self.run_over(disk, opens("/s/f", "0x1 /* O_WRONLY */"), opens("/s/g", fd=4))
+        same = {line["path"]: line.get("same") for _, line in jsonl.numbered(self.out / "tree.jsonl")}
+        self.assertEqual((same["/s/f"], same["/s/g"]), (None, "/s/f"))
+
     def test_a_path_that_leads_nowhere_is_no_question(self) -> None:
         calls = ('mkdir("/s/no/sub", 0755) = -1 ENOENT (No such file or directory)', 'mkdir("/s/no", 0755) = 0')
         self.run_over([seen("/s/no", "dir", new=True)], *calls)
