@@ -106,6 +106,18 @@ class Follows(unittest.TestCase):
         self.assertEqual([line["first"] for line in lines], [2, 3, 4])
         self.assertEqual([line.get("known", True) for line in lines], [True, True, False])
 
+    def test_what_no_file_can_be_called(self) -> None:
+        (self.there / "f").touch()
+        runs = '10  execve("a\\0b", ["a"], 0x1) = -1 ENOENT (No such file or directory)'
+        seen = self.follow(self.opened("a\\0b"), runs, self.opened("\\x9"), self.opened("f"))
+        self.assertEqual(seen[self.at("f")]["kind"], "reg")
+
+    def test_a_log_that_was_never_written(self) -> None:
+        following = beside.Beside(self.log, str(self.there), time.time(), ())
+        following.start()
+        following.stop(self.out)
+        self.assertFalse(self.out.exists())
+
     def test_a_pipe_is_not_waited_for(self) -> None:
         os.mkfifo(self.there / "pipe")
         seen = self.follow(self.opened("pipe"), '10  execve("pipe", ["pipe"], 0x1) = -1 EACCES (Permission denied)')

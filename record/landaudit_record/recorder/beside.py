@@ -27,6 +27,7 @@ from . import disk
 from .disk import Observed, Program, Seen
 from .formats import Format
 from .names import MOST_LINKS
+from .unsaid import NotUnderstood
 from .values import is_in_memory, unescaped
 
 #: The least time between two readings of the log, in seconds: many lines are read together.
@@ -191,8 +192,10 @@ class Beside:
         self._until = time.monotonic() + _PATIENCE
         self._stops.set()
         self._thread.join(2 * _PATIENCE)
-        if not self._thread.is_alive():
-            self._mounts.close()
+        if self._thread.is_alive():
+            return
+        self._mounts.close()
+        if self._log.exists():
             disk.write_beside(file, *self._told())
 
     def _follow(self) -> None:
@@ -229,12 +232,15 @@ class Beside:
         for run in _RUN.finditer(text) if b"execve" in text else ():
             if at + run.start() >= self._run_until:
                 self._run_until = at + run.start() + 1
-                self._read_run(int(run[1]), self._joined(*run.groups()[1:]), at + run.start())
+                with suppress(NotUnderstood):
+                    self._read_run(int(run[1]), self._joined(*run.groups()[1:]), at + run.start())
         met: dict[_Led, None] = dict.fromkeys(_FIRST.findall(text))
         met.update(dict.fromkeys(_SECOND.findall(text)))
         new = [led for led in met if led not in self._led]
         self._led.update(new)
-        self._waiting.extend(self._joined(*led) for led in reversed(new))
+        for led in reversed(new):
+            with suppress(NotUnderstood):
+                self._waiting.append(self._joined(*led))
 
     def _joined(self, number: bytes | None, base: bytes | None, path: bytes) -> str:
         """An absolute path. If the log does not name the working directory of a call, the last one that it named is
@@ -311,7 +317,7 @@ class Beside:
     def _read_program(self, path: str, run: int) -> None:
         """Reads how a file says that it is run, and the files by which it is run, unless they are as they were."""
         for _ in range(MOST_READ):
-            if self._mounts.closes(path):
+            if "\0" in path or self._mounts.closes(path):
                 return
             path = self._real.get(path) or os.path.realpath(path)
             reads = self._reads.setdefault(path, [])
