@@ -133,7 +133,7 @@ class Checking(unittest.TestCase):
         (self.folder / "closed" / "name").hardlink_to(self.folder / "open" / "file")
         policy = POLICY.replace('"@/open"', '"@/open/file"').replace('["read"]', '["read_file"]')
         status, lines = self.point('[[refused]]\ncall = "open r"\npath = "@/closed/name"\n', policy)
-        self.assertEqual((status, lines[2]), (1, '  abi 1-5: "allowed"'))
+        self.assertEqual((status, lines[2]), (1, '  "abi 1-5": "allowed"'))
 
     def test_a_path_that_leads_nowhere(self) -> None:
         policy = POLICY.replace('"@/open"', '"@/none/../open"')
