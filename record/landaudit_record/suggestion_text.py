@@ -22,7 +22,8 @@ def lines(suggestion: Suggestion, policy: Policy) -> Iterator[str]:
 
 
 def _of_layer(layer: Layer, rules: list[Rule], groups: Mapping[str, int], policy: Policy) -> Iterator[str]:
-    only = "" if len(policy.layers) == 1 else f": paste them under the [[layer]] of that number in {plain(str(policy.path))}"
+    where = f": paste them under the [[layer]] of that number in {plain(str(policy.path))}"
+    only = "" if len(policy.layers) == 1 else where
     with_groups = f" and {counted(len(groups), 'group')}" if groups else ""
     yield f"# {counted(len(rules), 'rule')}{with_groups} for layer {layer.number}{only}"
     if needs_refer(layer, rules):

@@ -11,9 +11,9 @@ another, and files have several names: there a line is to name a right that the 
 that are moved, a tree is made in which they are as it says. Paths are on this disk, where some of them are by way of
 links; policies have scopes and groups of rules. Random cases about files on this disk are checked (`random_checks`).
 
-Of each policy of ten rules `tighten` makes another for random recordings: it is to grant nothing more and refuse nothing
-new, and each right on each path and port is taken from it by itself, to see that something is refused. Policies with a
-rule that the kernel refuses are counted apart: `tighten` is to name such a rule.
+Of each policy of ten rules `tighten` makes another for random recordings: it is to grant nothing more and refuse
+nothing new, and each right on each path and port is taken from it by itself, to see that something is refused. Policies
+with a rule that the kernel refuses are counted apart: `tighten` is to name such a rule.
 """
 
 from __future__ import annotations

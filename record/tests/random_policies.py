@@ -118,8 +118,9 @@ class Layer:
                     yield {**of_rule, "op": "add_path", "path": path, "fs": FS.ordered(rights)}
         for number, rule in enumerate(self.ports, start=1):
             for port in rule.on:
+                net = NET.ordered(meant(rule.words, NET) & handled_net)
                 of_rule = {"rs": RULESET, "rule": f"port {number}", "on": port}
-                yield {**of_rule, "op": "add_port", "port": port, "net": NET.ordered(meant(rule.words, NET) & handled_net)}
+                yield {**of_rule, "op": "add_port", "port": port, "net": net}
         yield {"op": "restrict", "rs": RULESET}
         yield {"op": "close_rs", "rs": RULESET}
 

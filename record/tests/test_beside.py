@@ -132,15 +132,15 @@ class Mounts(unittest.TestCase):
     def mounts(self, *mounted: tuple[str, str]) -> beside.Mounts:
         file = Path(self.enterContext(tempfile.TemporaryDirectory())) / "mountinfo"
         lines = (self.LINE.format(id=number, at=at, kind=kind) for number, (at, kind) in enumerate(mounted, start=20))
-        file.write_text("".join(lines), encoding="ascii")
+        file.write_text("".join(lines), encoding="utf-8")
         found = beside.Mounts(file)
         self.addCleanup(found.close)
         return found
 
     def test_what_a_process_serves_is_closed(self) -> None:
-        served = (("/m\\040x", "fuse.sshfs"), ("/n", "fuse"), ("/b", "fuseblk"))
+        served = (("/m\\040x", "fuse.sshfs"), ("/n", "fuse"), ("/b", "fuseblk"), ("/ö", "fuse"), ("/ö\\040ü", "fuse"))
         found = self.mounts(("/", "ext4"), *served, ("/t", "tmpfs"))
-        for closed in ("/m x", "/m x/f", "/n/a/b", "/b", "/proc", "/proc/1"):
+        for closed in ("/m x", "/m x/f", "/n/a/b", "/b", "/ö/f", "/ö ü", "/proc", "/proc/1"):
             self.assertTrue(found.closes(closed), closed)
         for opened in ("/", "/m", "/nn", "/t/f", "/process"):
             self.assertFalse(found.closes(opened), opened)

@@ -215,7 +215,8 @@ port = 443
         calls += [{"op": "open", "path": f"{path}/f", "fd": fd, "mode": "r"}
                   for fd, path in enumerate(("/a", "/b", "/c"), start=3)]
         calls += [{"op": "bind", "port": port} for port in (443, 22)]
-        one = self.recording("one", [*tree, {"path": PROGRAM, "kind": "reg"}], [*calls, {"op": "truncate", "path": "/a/f"}])
+        objects = [*tree, {"path": PROGRAM, "kind": "reg"}]
+        one = self.recording("one", objects, [*calls, {"op": "truncate", "path": "/a/f"}])
         ports = "[[layer.net_port]]\nallowed_access = [\"all\"]\nport = [443, 80, 22]\n"
         rules = (('["read", "truncate"]', '["/d", "/c", "/a", "/b"]'), ('["execute"]', f'"{PROGRAM}"'))
         text = self.rules(*rules) + ports

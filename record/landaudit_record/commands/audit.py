@@ -79,8 +79,9 @@ def run(arguments: argparse.Namespace) -> int:
                 *(accepting.read(arguments.accepted) if arguments.accepted else ())]
     members = together.opened(arguments.recordings, policy, arguments.program)
     if policy is None and not arguments.as_recorded and not any(member.recording.has_layers() for member in members):
-        raise Problem(f"{', '.join(arguments.recordings)}: no program puts a layer on itself, so nothing can be refused: "
-                      "give a policy to try with --policy, or give --as-recorded", USAGE)
+        named = ", ".join(arguments.recordings)
+        raise Problem(f"{named}: no program puts a layer on itself, so nothing can be refused: give a policy to try with "
+                      "--policy, or give --as-recorded", USAGE)
     notes = together.policy_notes(members, arguments.abis, here=not arguments.json) + together.recording_notes(members)
     with together.audits(members, program, NAME, best_effort=not arguments.as_recorded) as audits:
         each = [(it, _summaries(it, auditing, arguments.abis)) for it, auditing in zip(members, audits)]

@@ -26,6 +26,7 @@ from pathlib import Path
 from . import disk
 from .disk import Observed, Program, Seen
 from .formats import Format
+from .mounted import MOUNTS, mounts
 from .names import MOST_LINKS
 from .unsaid import NotUnderstood
 from .values import is_in_memory, unescaped
@@ -100,28 +101,24 @@ class _Read:
 class Mounts:
     """What is mounted, and what of it is not looked at."""
 
-    def __init__(self, file: Path = Path("/proc/self/mountinfo")) -> None:
+    def __init__(self, file: Path = MOUNTS) -> None:
+        self._of = file
         self._file = open(file, "rb")
         self._changes = select.poll()
         self._changes.register(self._file, select.POLLERR | select.POLLPRI)
-        self._first: frozenset[str] | None = None
-        self._closed: tuple[str, ...] = ()
-        self._read()
+        self._first = frozenset(mount.place for mount in mounts(file))
+        self._closed = self._not_looked_at()
 
-    def _read(self) -> None:
-        """Reads what is mounted. What a process serves is not looked at, nor what the run mounts."""
-        self._file.seek(0)
-        lines = [line.split(b" ") for line in self._file.read().splitlines()]
-        mounts = {_plain(line[4]): line[line.index(b"-") + 1].decode("latin-1") for line in lines}
-        if self._first is None:
-            self._first = frozenset(mounts)
-        closed = (top for top, kind in mounts.items() if kind.startswith(_SERVED) or top not in self._first)
-        self._closed = (PROC, *closed)
+    def _not_looked_at(self) -> tuple[str, ...]:
+        """What a process serves, and what the run mounts."""
+        found = mounts(self._of)
+        closed = (one.place for one in found if one.kind.startswith(_SERVED) or one.place not in self._first)
+        return PROC, *closed
 
     def closes(self, path: str) -> bool:
         """Whether a path is where nothing is looked at."""
         if self._changes.poll(0):
-            self._read()
+            self._closed = self._not_looked_at()
         return any(path == top or path.startswith(f"{top.rstrip('/')}/") for top in self._closed)
 
     def close(self) -> None:
@@ -344,11 +341,6 @@ class Beside:
             for path, reads in self._reads.items()
         }
         return seen, programs
-
-
-def _plain(written: bytes) -> str:
-    """A path as /proc/self/mountinfo writes it, in plain letters."""
-    return unescaped(written.decode("latin-1"))
 
 
 def _state(path: str) -> tuple[int, ...] | None:

@@ -32,13 +32,15 @@ class Mount:
 
 def mounts(file: Path = MOUNTS) -> list[Mount]:
     """All mounts of a process, those of this one if no file of another one is named."""
-    with open(file, encoding="utf-8", errors="surrogateescape") as lines:
-        return [_mount(line.split()) for line in lines if " - " in line]
+    with open(file, encoding="latin-1") as lines:
+        return [_mount(line.split(" ")) for line in lines.read().split("\n") if " - " in line]
 
 
 def _mount(fields: list[str]) -> Mount:
+    """A line's mount; the escapes of a name stand for its bytes."""
+    place = fields[4] if "\\" in fields[4] else fields[4].encode("latin-1").decode("utf-8", "surrogateescape")
     kind = fields[fields.index("-") + 1]
-    return Mount(unescaped(fields[4]), fields[2], kind, tuple(fields[-1].split(",")))
+    return Mount(unescaped(place), fields[2], kind, tuple(fields[-1].split(",")))
 
 
 def of_kernel(among: Iterable[Mount]) -> list[str]:

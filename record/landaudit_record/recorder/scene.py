@@ -87,8 +87,9 @@ class Spot:
 class Scene:
     """The state of a conversion.
 
-    `call` is the present call. `ruled` has each name on which a record of the program puts a rule, with the object. `unmet` are the threads of
-    which the log has nothing yet but the fork that made them, each with whether that fork's result is to be doubted.
+    `call` is the present call. `ruled` has each name on which a record of the program puts a rule, with the object.
+    `unmet` are the threads of which the log has nothing yet but the fork that made them, each with whether that fork's
+    result is to be doubted.
     `placeless` says whether there was a descriptor that is in a mount without a place. `through` are the processes
     whose links in /proc a path of this call goes through, `near` says which paths may, `reads_links` whether
     readlink(2) was traced, and `hides` whether all of a process in /proc is only for those who may trace it. `abstract`
