@@ -91,7 +91,7 @@ class Install(unittest.TestCase):
         self.assertEqual(self.said(self.prefix / "bin" / "landaudit-policy", "--version")[0], 0)
         recording = shutil.copytree(LOG, self.root / "recording")
         self.assertEqual(self.said(recorder, "convert", recording)[0], 0)
-        status, text = self.said(recorder, "audit", recording)
+        status, text = self.said(recorder, "audit", recording, "--as-recorded")
         self.assertEqual(status, 4)
         self.assertIn(f"landaudit: a stand-in at {self.prefix}/bin/landaudit ", text)
 
@@ -110,7 +110,7 @@ class Install(unittest.TestCase):
         recording = shutil.copytree(LOG, self.root / "recording")
         recorder = self.prefix / "bin" / "landaudit-record"
         self.assertEqual(self.said(recorder, "convert", recording)[0], 0)
-        self.assertIn(self.said(recorder, "audit", recording)[0], (0, 1))
+        self.assertIn(self.said(recorder, "audit", recording, "--as-recorded")[0], (0, 1))
 
     @unittest.skipUnless(shutil.which("man"), "man is not installed")
     def test_man_finds_the_pages(self) -> None:
