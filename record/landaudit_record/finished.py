@@ -30,6 +30,8 @@ _SCOPED = {
     "abstract_unix_socket": "a connection to an abstract UNIX socket of another process",
     "signal": "a signal to another process",
 }
+#: The class of a layer that a conversion can't write into the trace.
+FOREIGN_RULESET = "a layer of a ruleset that came from elsewhere"
 #: The files that `landaudit-record run` writes and from which a recording can be converted.
 RECORDED = ("recording.json", "strace.txt", "strace.txt.gz")
 
@@ -167,7 +169,9 @@ class Finished:
         return told
 
     def has_layers(self) -> bool:
-        """Whether a process of the recording restricts itself."""
+        """Whether a process of the recording restricts itself, also by a layer that the trace does not have."""
+        if FOREIGN_RULESET in self.holes:
+            return True
         for part in self.parts:
             with open(part.trace, "rb") as lines:
                 for number, line in enumerate(lines, start=1):

@@ -11,7 +11,7 @@ import socket
 import unittest
 from pathlib import Path
 
-from landaudit_record import jsonl
+from landaudit_record import finished, jsonl
 from landaudit_record.recorder import converting, recordings, tracing
 from landaudit_record.recorder.calls import descriptors, landlock
 from landaudit_record.recorder.scene import BY_UNSEEN_LAYER, MOVING
@@ -257,6 +257,7 @@ class Rulesets(WrittenLogs):
         )
         asking = [reason for reason, asks in self.unsaid() if asks]
         self.assertEqual(asking, [landlock.FOREIGN_RULESET, BY_UNSEEN_LAYER])
+        self.assertTrue(finished.opened(str(self.out)).has_layers())
 
     def test_a_call_that_fails_makes_no_layer(self) -> None:
         restrict = f"landlock_restrict_self(5{RULESET}, 0) = {EINVAL}"

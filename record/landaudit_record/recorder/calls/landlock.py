@@ -4,6 +4,7 @@ from __future__ import annotations
 
 from .. import values
 from ..processes import Handle, Thread
+from ...finished import FOREIGN_RULESET
 from ...rights import FS, NET, Family
 from ..scene import Scene
 from ..strace_log import Call
@@ -19,7 +20,6 @@ SIZES = (8, 16, 24)
 
 #: What stands for a ruleset of which nothing is known, in the layers of a process.
 UNSEEN = -1
-FOREIGN_RULESET = "a layer of a ruleset that came from elsewhere"
 NOT_DECODED = " (strace before 6.7 does not decode it: see --port-rules)"
 
 
