@@ -334,6 +334,10 @@ def moving() -> None:
         worker.start()
     for worker in workers:
         worker.join()
+    for folder in folders:
+        os.fchdir(folder)
+        with contextlib.suppress(PermissionError):
+            os.mkdir("last")
 
 
 def roots() -> None:
