@@ -173,6 +173,11 @@ class Pair:
         """The paths that must be directories for both policies to be in force."""
         return self.old.directories | self.new.directories
 
+    def in_force(self, kinds: Kinds, names: Names | None) -> Abis:
+        """The ABIs at which the kernel takes all rules of both policies on a tree."""
+        of = kinds if names is None else {path: kinds[each[0]] for path, each in names.items() if each}
+        return frozenset(abi for abi in ABIS if not any(one.not_taken(of, abi) for one in (self.old, self.new)))
+
     def said(self, program: Path, ground: Ground) -> covering.Said:
         """What `diff` says of them."""
         paths = [ground.top / name for name in ("old.toml", "new.toml")]
@@ -223,11 +228,11 @@ def compared(program: Path, seed: int, count: int, ground: Ground) -> Tried:
             kinds, names = (pair.maker.elsewhere(paths, pair.directories) if is_moved
                             else (pair.maker.tree(paths, pair.directories), None))
             near = pair.changed if names is None else frozenset(one for path in pair.changed for one in names[path])
-            calls = list(Caller(pair.maker.of, kinds, near).calls(count // TREES))
+            calls, abis = list(Caller(pair.maker.of, kinds, near).calls(count // TREES)), pair.in_force(kinds, names)
             for call, old, new in pair.passing(program, Path(name), kinds, calls, names):
                 tried.calls += 1
                 tried.differ += old != new
-                faults = (faults_of if names is None else faults_elsewhere)(said, call, old, new)
+                faults = (faults_of if names is None else faults_elsewhere)(said, call, old, new, abis)
                 tried.faults += [f"seed {seed}, {fault}: {call}" for fault in faults]
         tried.faults += [f"seed {seed}, {fault}" for fault in _of_chains(program, Path(name), pair, said)]
     return tried
@@ -248,15 +253,15 @@ def _of_wholes(pair: Pair, said: covering.Said) -> Iterator[str]:
                 yield f"number of layers at ABI {abi}"
 
 
-def faults_elsewhere(said: covering.Said, call: Call, old: Abis, new: Abis) -> Iterator[str]:
-    """What is at fault in what is said of a call on objects that are not where policies name them.
+def faults_elsewhere(said: covering.Said, call: Call, old: Abis, new: Abis, abis: Abis) -> Iterator[str]:
+    """What is at fault, at some ABIs, in what is said of a call on objects that are not where policies name them.
 
     A move may differ there for the rights that an object would gain, of which `diff` knows by their names alone.
     """
     if any(isinstance(need, Move) for need in call.needs):
         return
     rights = {need.name for need in call.needs if isinstance(need, (Right, Port))}
-    for abi in ABIS:
+    for abi in sorted(abis):
         for one, other, lines in ((new, old, said.more), (old, new, said.less)):
             named = any(abi in line.abis and not rights.isdisjoint(re.findall("[a-z_]+", line.text.split(" /")[0]))
                         for line in lines)
@@ -326,9 +331,9 @@ def _of_chains(program: Path, folder: Path, pair: Pair, said: covering.Said) -> 
             yield f"no difference at ABI {sorted(line.abis - passes)}: {call.records}: {line.text}"
 
 
-def faults_of(said: covering.Said, call: Call, old: Abis, new: Abis) -> Iterator[str]:
-    """What is at fault in what is said of a call that two policies let pass at some ABIs."""
-    for abi in ABIS:
+def faults_of(said: covering.Said, call: Call, old: Abis, new: Abis, abis: Abis) -> Iterator[str]:
+    """What is at fault, at some ABIs, in what is said of a call that two policies let pass."""
+    for abi in sorted(abis):
         for one, other, more in ((new, old, True), (old, new, False)):
             differs = abi in one and abi not in other
             covered = said.covers(call.needs, abi, more)

@@ -336,11 +336,11 @@ old lets nothing pass that new refuses
         said = covering.read(1, printed, "old", "new", range(1, 6))
         inside, outside = (Call((), (Right("read_file", path, is_file=True),)) for path in ("/a/x", "/a/b/x"))
         every, none = frozenset(range(1, 6)), frozenset[int]()
-        self.assertEqual(list(brute.faults_of(said, inside, none, every)), [])
-        self.assertEqual(list(brute.faults_of(said, outside, none, none)), [])
-        self.assertEqual(len(list(brute.faults_of(said, outside, none, every))), 5)
-        self.assertEqual(len(list(brute.faults_of(said, inside, none, none))), 5)
-        self.assertEqual(len(list(brute.faults_of(said, inside, every, none))), 10)
+        self.assertEqual(list(brute.faults_of(said, inside, none, every, every)), [])
+        self.assertEqual(list(brute.faults_of(said, outside, none, none, every)), [])
+        self.assertEqual(len(list(brute.faults_of(said, outside, none, every, every))), 5)
+        self.assertEqual(len(list(brute.faults_of(said, inside, none, none, every))), 5)
+        self.assertEqual(len(list(brute.faults_of(said, inside, every, none, every))), 10)
 
 
 if __name__ == "__main__":
