@@ -35,7 +35,7 @@ def lines(found: Differences, old: Policy, new: Policy, abis: range) -> Iterator
 
 
 def _lines(found: Differences, old: Policy, new: Policy, abis: range) -> Iterator[str]:
-    regions = Regions.of((old, new))
+    regions = found.regions
     tried = f"{found.tried:,} calls tried under each, at ABI {span(abis)}"
     if not found.more and not found.less:
         yield f"no call differs: {tried}"

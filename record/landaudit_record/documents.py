@@ -5,7 +5,7 @@ from __future__ import annotations
 import difflib
 import tomllib
 from collections.abc import Callable, Iterable, Mapping
-from dataclasses import dataclass, replace
+from dataclasses import dataclass
 from pathlib import Path
 from typing import Any, NoReturn, TypeVar
 
@@ -33,7 +33,7 @@ class Place:
 
     def at(self, within: str | int) -> Place:
         """The position of a key, or of an item, of what is here."""
-        return replace(self, within=within)
+        return Place(self.path, self.steps, within)
 
     def fault(self, text: str) -> NoReturn:
         """Raises the Problem that this position has an error."""

@@ -109,12 +109,15 @@ def _ports_alike(layers: Sequence[Layer]) -> tuple[tuple[int, ...], ...]:
     granted: defaultdict[int, dict[int, Rights]] = defaultdict(dict)
     for number, layer in enumerate(layers):
         for rule in layer.net_port:
+            rights = rule.allowed_access.rights
             for port in rule.ports:
-                granted[port][number] = granted[port].get(number, NONE) | rule.allowed_access.rights
+                granted[port][number] = granted[port].get(number, NONE) | rights
     alike: defaultdict[tuple[tuple[int, Rights], ...], list[int]] = defaultdict(list)
     for port in sorted(granted):
         alike[tuple(granted[port].items())].append(port)
     return tuple(map(tuple, alike.values()))
+
+
 def _directories(policies: Sequence[Policy]) -> Iterator[tuple[str, int]]:
     """The paths that must be directories, with the ABIs at which they must: of a file, a rule asks for other rights."""
     for abi in ALL_ABIS:
