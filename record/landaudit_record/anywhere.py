@@ -25,12 +25,17 @@ from .trees import ROOT
 
 Abis = frozenset[int]
 
+#: A right that no call asks alone: the device must be opened first. So where no object can be opened at the paths as
+#: they are named, only one that is moved shows that it passes.
+OF_OPENED = "ioctl_dev"
+OPENING = ("read_file", "write_file")
+
 
 @dataclass(frozen=True)
 class Chain:
     """A right that passes by rules on some directories, one in the other, and perhaps on a file in them.
 
-    `layer` is the layer of the other policy that refuses it there.
+    Without either it passes everywhere. `layer` is the layer of the other policy that refuses it there.
     """
 
     right: str
@@ -62,7 +67,12 @@ def chains(one: Policy, other: Policy, regions: Regions, abis: range) -> dict[Ch
         for right in FS.ordered(FS.known(abi)):
             new, old = ([_granting(layer, right, directories) for layer in of if right in layer.handled_fs]
                         for of in layers)
-            for chain in chains_of(right, old, new):
+            passing = list(chains_of(right, old, new))
+            if right == OF_OPENED:
+                opening = ([_granting(layer, one, directories) for layer in layers[0] if one in layer.handled_fs]
+                           for one in OPENING)
+                passing += of_opened(old, new, list(opening))
+            for chain in passing:
                 found[chain] = found.get(chain, frozenset()) | {abi}
     return found
 
@@ -94,6 +104,23 @@ def chains_of(right: str, old: Sequence[Granting], new: Sequence[Granting]) -> I
             beside = frozenset[str]().union(*(one.directories for one in wide)) - layer.directories
             found = (_by_directory(right, layer, wide, directory) for directory in sorted(beside - {ROOT}))
         yield from dict.fromkeys(chain for chain in found if chain is not None)
+
+
+def of_opened(old: Sequence[Granting], new: Sequence[Granting], opening: Sequence[Sequence[Granting]]) -> Iterator[Chain]:
+    """What passes of OF_OPENED wherever a device is, if the new policy lets some be opened that the old layer refuses.
+
+    `opening` are the layers of the new policy that handle each right to open.
+    """
+    if all(ROOT in one.directories for one in new):
+        refusing = (layer for layer in old if ROOT not in layer.directories)
+        yield from (Chain(OF_OPENED, layer.layer, ()) for layer in refusing
+                    if any(passes_beside(layers, layer) for layers in opening))
+
+
+def passes_beside(layers: Sequence[Granting], other: Granting) -> bool:
+    """Whether layers let a right pass on some object on which, and above which, another layer grants nothing."""
+    on_files = [one.files - other.files for one in layers if not one.directories - other.directories]
+    return not on_files or bool(frozenset.intersection(*on_files))
 
 
 def _by_file(right: str, layer: Granting, wide: Sequence[Granting], file: str) -> Chain | None:

@@ -154,7 +154,7 @@ def differences(program: Path, old: Policy, new: Policy, abis: range) -> Differe
 def _note_chains(differing: dict[Subject, Abis], chains: Mapping[Chain, Abis]) -> None:
     """Adds what passes once objects are moved or linked, unless it passes under one of their paths as they are."""
     for chain, abis in chains.items():
-        regions = [Region(path) for path in chain.directories]
+        regions = [Region(path) for path in chain.directories or ((ROOT,) if chain.file is None else ())]
         if chain.file is not None:
             regions.append(Region(chain.file, as_file=True))
         left = abis.difference(*(differing.get(About(chain.right, region), _NONE) for region in regions))

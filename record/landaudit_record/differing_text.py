@@ -96,6 +96,9 @@ def _chains(chains: list[Chain]) -> Iterator[str]:
         by_objects[replace(chain, right="")].append(chain.right)
     for chain, rights in by_objects.items():
         objects = [*chain.directories, *([] if chain.file is None else [f"{chain.file} as a file"])]
+        if not objects:
+            yield f"{', '.join(rights)} on what is opened after it was moved or linked (refused by layer {chain.layer})"
+            continue
         where = (f"rule on {objects[0]}, wherever that is moved or linked" if len(objects) == 1 else
                  f"rules on {', '.join(objects)}, if these are moved or linked into one another")
         yield f"{', '.join(rights)} by the {where} (refused by layer {chain.layer})"

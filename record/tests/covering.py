@@ -123,13 +123,15 @@ def _abis(text: str) -> frozenset[int]:
 #: Lines on what passes once objects are moved or linked, which are about no object at its own path.
 ANYWHERE = re.compile(r"(?P<rights>[a-z_, ]+) by the rules? on (?P<objects>/.*), (?:wherever that is moved or linked|"
                       r"if these are moved or linked into one another) \(refused by layer (?P<layer>[0-9]+)\)")
+#: The line on a right that passes on whatever can be opened.
+OPENED = re.compile(r"ioctl_dev on what is opened after it was moved or linked \(refused by layer [0-9]+\)")
 #: The ends of lines on scopes and on the number of layers, which are about no call that is tried.
 OF_LAYERS = re.compile(r".*( \(no scope; from ABI 6 on\)| layers are used, and not [0-9]+)")
 
 
 def _covers(text: str) -> Callable[[Need], bool]:
     """What a line covers, without its ABIs."""
-    if OF_LAYERS.fullmatch(text) or ANYWHERE.fullmatch(text):
+    if OF_LAYERS.fullmatch(text) or ANYWHERE.fullmatch(text) or OPENED.fullmatch(text):
         return lambda need: False
     if text == "mounts":
         return lambda need: isinstance(need, Mount)

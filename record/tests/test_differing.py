@@ -272,6 +272,23 @@ class Differing(unittest.TestCase):
         status, lines, _ = self.said(self.linked("x/"), self.linked("x"))
         self.assertEqual((status, lines[1]), (1, "  read_file on x as a file"))
 
+    def test_a_device_that_can_be_opened_only_where_it_is_moved(self) -> None:
+        """ioctl(2) needs an open file: where no path is opened as it is named, a device that is moved may be."""
+        layer = '[[layer]]\nhandled_access_fs = ["read_file", "write_file", {}]\n'
+        rule = '[[layer.path_beneath]]\nallowed_access = [{}]\nparent = "{}"\n'
+        handled = layer.format('"ioctl_dev"')
+        not_handled = layer.replace(", {}", "")
+        inside = rule.format('"ioctl_dev"', "/x")
+        reading = rule.format('"read_file"', "/x/d")
+        status, lines, _ = self.said(handled + inside + reading, not_handled + reading)
+        line = "  ioctl_dev on what is opened after it was moved or linked (refused by layer 1) (at ABI 5)"
+        self.assertEqual((status, lines[:2]), (1, ["new lets pass what old refuses:", line]))
+        # What is opened by the rule on /x alone has that object above it, on which the old policy grants the right.
+        reading = rule.format('"read_file"', "/x")
+        self.assertEqual(self.said(handled + inside + reading, not_handled + reading)[0], 0)
+        # Nothing is opened, wherever it is.
+        self.assertEqual(self.said(handled, not_handled)[0], 0)
+
     def test_scopes_are_sets_of_which_less_is_a_difference(self) -> None:
         scoped = '[[layer]]\nscoped = ["signal", "abstract_unix_socket"]\n'
         status, lines, errors = self.said(OLD + scoped, OLD + '[[layer]]\nscoped = ["signal"]\n')
