@@ -198,6 +198,17 @@ class OtherProcesses(WrittenLogs):
         )
         self.assertEqual(self.unsaid(), [])
 
+    def test_a_tracer_of_processes_that_strace_traces(self) -> None:
+        """A process has one tracer (ptrace(2)): the recorded program does not do what it does when nobody traces it."""
+        for call in (
+            f"11  ptrace(0 /* PTRACE_TRACEME */) = {EPERM}",
+            f"ptrace(0x10 /* PTRACE_ATTACH */, 11) = {EPERM}",
+            f"ptrace(0x4206 /* PTRACE_SEIZE */, 11, NULL, 0) = {EPERM}",
+        ):
+            with self.subTest(call):
+                self.convert("fork() = 11", call)
+                self.assertEqual(self.unsaid(), [(others.BY_STRACE, True)])
+
     def test_a_child_looks_into_its_parent(self) -> None:
         self.convert("fork() = 11", "11  process_vm_readv(10, [], 1, [], 1, 0) = 8")
         self.assertEqual(self.unsaid(), [(others.INTO_ANOTHER, True)])

@@ -21,8 +21,9 @@ from ..values import Descriptor
 from . import arguments, opening
 from .ways import WAYS, Way
 
-PTRACE_ATTACH, PTRACE_SEIZE = 0x10, 0x4206
+PTRACE_TRACEME, PTRACE_ATTACH, PTRACE_SEIZE = 0, 0x10, 0x4206
 INTO_ANOTHER = "a look into another process, which Landlock's rule on ptrace may refuse"
+BY_STRACE = "a program that traces others: it can't, since strace traces them"
 NOT_TRACED = "a process that looks at others in /proc: which links it reads there is not recorded (run --readlink)"
 
 #: The links of a process, which only those may follow who may trace it, as a path or a text in quotes has them; and
@@ -190,7 +191,13 @@ def _look(scene: Scene, thread: Thread, call: Call, pids: list[int]) -> None:
 
 
 def _ptrace(scene: Scene, thread: Thread, call: Call) -> None:
-    if arguments.number_at(call, 0) in (PTRACE_ATTACH, PTRACE_SEIZE):
+    """A process has one tracer: what a program does that can't trace a process of the recording is not what it does."""
+    request = arguments.number_at(call, 0)
+    attaches = request in (PTRACE_ATTACH, PTRACE_SEIZE)
+    is_traced = request == PTRACE_TRACEME or (attaches and values.pid(call.arguments[1]) in scene.threads)
+    if call.error == "EPERM" and is_traced:
+        scene.leave_out(thread, call, BY_STRACE, asks=True)
+    elif attaches:
         _by_pid(1)(scene, thread, call)
 
 
