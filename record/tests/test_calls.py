@@ -74,12 +74,27 @@ class Calls(StraceLines):
         self.assertEqual(self.convert('rename("f", "d/g") = -1 EXDEV (Invalid cross-device link)'), [])
         self.assertEqual(self.unsaid(), ["EXDEV before Landlock is asked"])
 
+    def test_a_path_that_ends_in_a_slash_and_leads_to_a_file(self) -> None:
+        """open(2), unlink(2) and truncate(2) fail before Landlock is asked; of rmdir(2), Landlock is asked first."""
+        error = "-1 ENOTDIR (Not a directory)"
+        calls = (f'openat({CWD}, "f/", 0 /* O_RDONLY */)', 'unlink("f/")', 'truncate("f/", 0)')
+        self.assertEqual(self.convert(*(f"{call} = {error}" for call in calls)), [])
+        self.assertEqual(self.unsaid(), ["ENOTDIR of a path that ends in a slash, before Landlock is asked"] * 3)
+        (removed,) = self.convert(f'rmdir("f/") = {error}')
+        self.assertEqual(removed["op"], "rmdir")
+
     def test_what_a_file_forbids_comes_before_landlock(self) -> None:
         for error in ("ETXTBSY (Text file busy)", "EPERM (Operation not permitted)", "EROFS (Read-only file system)"):
             with self.subTest(error):
                 calls = (f'openat({CWD}, "f", 0x1 /* O_WRONLY */) = -1 {error}', f'truncate("f", 0) = -1 {error}')
                 self.assertEqual(self.convert(*calls), [])
                 self.assertEqual(self.unsaid(), [f"{error.split()[0]} before Landlock is asked"] * 2)
+
+    def test_a_file_that_an_immutable_directory_does_not_get(self) -> None:
+        """chattr(1), +i: the kernel asks Landlock for make_reg before it finds that the directory can't be changed."""
+        call = f'openat({CWD}, "d/n", 0x41 /* O_WRONLY|O_CREAT */, 0600) = -1 EPERM (Operation not permitted)'
+        said = self.convert(call)[0]
+        self.assertEqual((said["op"], said["create"], said["shown"]), ("open", True, "/w/d/n"))
 
     def test_nothing_is_asked_where_nothing_can_be_written(self) -> None:
         error = "-1 EROFS (Read-only file system)"

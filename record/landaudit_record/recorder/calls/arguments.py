@@ -22,6 +22,9 @@ BEFORE_PATHS = frozenset({"EBADF", "EFAULT", "EINVAL", "EMFILE", "ENAMETOOLONG",
 #: The error of a call that would change a file system which is mounted read-only; the kernel finds it first.
 READ_ONLY = "EROFS"
 
+#: Calls by which the kernel asks Landlock for the removal of a directory before it sees that there is none.
+REMOVING = frozenset({"rmdir", "unlinkat"})
+
 #: Errors that may mean that a path led nowhere.
 NOT_REACHED = frozenset({"ENOENT", "ENOTDIR", "ELOOP", "ENXIO"})
 
@@ -44,7 +47,10 @@ def spot_at(scene: Scene, thread: Thread, call: Call, base: int | None, path: in
     """What a path argument names, from the directory that the argument `base` is a descriptor of."""
     if call.error in BEFORE_PATHS or call.error == READ_ONLY:
         raise NotAsked(f"{call.error} before Landlock is asked")
-    return scene.spot(thread, descriptor_at(call, base), path_at(call, path), follow)
+    named = path_at(call, path)
+    if call.error == "ENOTDIR" and named.endswith("/") and call.name not in REMOVING:
+        raise NotAsked("ENOTDIR of a path that ends in a slash, before Landlock is asked")
+    return scene.spot(thread, descriptor_at(call, base), named, follow)
 
 
 def name_at(scene: Scene, thread: Thread, call: Call, base: int | None, path: int) -> Spot:

@@ -254,10 +254,10 @@ def _failed(scene: Scene, thread: Thread, call: Call, base: int | None, path: in
 def _comes_before(call: Call, spot: Spot, flags: int) -> bool:
     """Whether an open failed before Landlock was asked: a program that runs, or an immutable file, can't be written.
 
-    A device says EPERM itself, after Landlock.
+    A device says EPERM itself, after Landlock. That no file can be made in an immutable directory comes after it too.
     """
     writes = bool(flags & (ACCESS_MODE | O_TRUNC)) or bool(flags & O_CREAT)
-    on_file = spot.node is None or spot.node.kind in ("reg", "dir")
+    on_file = spot.node is not None and spot.node.kind in ("reg", "dir")
     return writes and (call.error == "ETXTBSY" or (call.error == "EPERM" and on_file))
 
 
