@@ -174,6 +174,19 @@ class LiveRun(unittest.TestCase):
         self.assertEqual((run.returncode, output), (0, "removed\nended\n"), error)
         self.assertIn(f"strace waited for the file server of {mounted}", error)
 
+    def test_descriptors_are_inherited(self) -> None:
+        """As the shell gives them: a directory from which a path leads, and a file."""
+        (self.folder / "given").write_text("text\n")
+        program = "import os; print(os.read(os.open('given', os.O_RDONLY, dir_fd=7), 9), os.read(8, 9))"
+        recorded = f'exec "$0" "$1" run rec -- "$0" -c "{program}"'
+        words = ["sh", "-c", f"exec 7<. 8<given; {recorded}", sys.executable, str(RECORDER)]
+        run = subprocess.run(words, cwd=self.folder, capture_output=True, text=True, check=False)
+        self.assertEqual((run.returncode, run.stdout), (0, "b'text\\n' b'text\\n'\n"), run.stderr)
+        trace = [json.loads(line) for line in (self.folder / "rec" / "trace.jsonl").read_text().splitlines()]
+        adopted = {record["fd"]: record["kind"] for record in trace if record["op"] == "adopt"}
+        self.assertEqual((adopted[7], adopted[8]), ("other", "reg"))
+        self.assertIn(str(self.folder / "given"), [record["path"] for record in trace if record["op"] == "open"])
+
     def test_nothing_is_written_over_the_programs_terminal(self) -> None:
         script = "printf 'Password: '; sleep 1.5; printf 'thanks\\n'"
         words = [sys.executable, str(RECORDER), "run", str(self.out), "--", "sh", "-c", script]

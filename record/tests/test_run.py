@@ -4,6 +4,7 @@ from __future__ import annotations
 
 import os
 import signal
+import socket
 import tempfile
 import unittest
 from pathlib import Path
@@ -124,6 +125,27 @@ class Running(unittest.TestCase):
 
     def test_a_recording_of_before_is_taken_to_be_whole(self) -> None:
         self.assertTrue(recordings.read_about(LOGS / "forks").ended)
+
+
+class Given(unittest.TestCase):
+    def test_the_descriptors_that_a_command_inherits(self) -> None:
+        folder = Path(self.enterContext(tempfile.TemporaryDirectory())).resolve()
+        (folder / "f").touch()
+        kept, *given = os.pipe(), os.open(folder, os.O_PATH), os.open(folder / "f", os.O_RDWR)
+        one, other = socket.socketpair()
+        tcp = self.enterContext(socket.socket(socket.AF_INET6, socket.SOCK_STREAM))
+        for number in (*given, kept[1], other.fileno(), tcp.fileno()):
+            os.set_inheritable(number, True)
+        found = recordings.given_descriptors()
+        for number in (*kept, *given):
+            self.addCleanup(os.close, number)
+        self.addCleanup(one.close), self.addCleanup(other.close)
+        directory = {"kind": "other", "path": str(folder), "tcp": None}
+        file = {"kind": "reg", "path": f"{folder}/f", "tcp": None}
+        self.assertEqual([found[str(number)] for number in given], [directory, file])
+        self.assertEqual(found[str(kept[1])], {"kind": "other", "path": None, "tcp": None})
+        self.assertEqual([found[str(it.fileno())]["tcp"] for it in (other, tcp)], [None, socket.AF_INET6])
+        self.assertFalse({str(kept[0]), str(one.fileno())} & found.keys())
 
 
 class Signals(unittest.TestCase):

@@ -164,7 +164,7 @@ class Sockets(WrittenLogs):
                 kept = os.dup(0)
                 try:
                     os.dup2(one.fileno(), 0)
-                    found = recordings.standard_descriptors()["0"]
+                    found = recordings.given_descriptors()["0"]
                 finally:
                     os.dup2(kept, 0)
                     os.close(kept)

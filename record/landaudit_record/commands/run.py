@@ -183,7 +183,7 @@ def _about(command: list[str], seen: recordings.Watched, strace: str, *, readlin
         started=time.time(),
         admin=recordings.is_admin(),
         nnp=tracing.SETS_NO_NEW_PRIVS,
-        descriptors=recordings.standard_descriptors(),
+        descriptors=recordings.given_descriptors(),
         watched=seen.watched,
         unlisted=[*seen.unread, *seen.of_kernel],
         too_large=seen.too_large,

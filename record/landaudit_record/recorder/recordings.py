@@ -20,6 +20,8 @@ from ..finished import LOOKING, READING_LINKS, SIGNALS
 from ..problems import Problem
 
 ABOUT = "recording.json"
+#: A ruleset, as the target of its descriptor in /proc (proc(5)).
+RULESET = "anon_inode:[landlock-ruleset]"
 BEFORE = "before.jsonl"
 OBJECTS = "objects.jsonl"
 BESIDE = "beside.jsonl"
@@ -119,13 +121,13 @@ def policy_of(folder: Path) -> Path | None:
         raise Problem(f"cannot read {file}: {error.strerror}") from error
 
 
-def standard_descriptors() -> dict[str, dict[str, Any]]:
-    """The kinds and paths of standard input, output and error, and the families of TCP sockets among them.
+def given_descriptors() -> dict[str, dict[str, Any]]:
+    """The descriptors that a command inherits, each with its kind and path, and the family of a TCP socket.
 
-    Those that a command does not inherit are left out.
+    Of a ruleset nothing is known, so it has no family.
     """
     found: dict[str, dict[str, Any]] = {}
-    for number in range(3):
+    for number in sorted(map(int, os.listdir("/proc/self/fd"))):
         try:
             if not os.get_inheritable(number):
                 continue
@@ -135,8 +137,9 @@ def standard_descriptors() -> dict[str, dict[str, Any]]:
             continue
         kinds = {stat.S_IFREG: "reg", stat.S_IFCHR: "device", stat.S_IFBLK: "device"}
         kind = kinds.get(stat.S_IFMT(status.st_mode), "other")
+        given: dict[str, Any] = {"kind": kind, "path": path if path.startswith("/") else None}
         tcp = _tcp(number) if stat.S_ISSOCK(status.st_mode) else None
-        found[str(number)] = {"kind": kind, "path": path if path.startswith("/") else None, "tcp": tcp}
+        found[str(number)] = given if path == RULESET else {**given, "tcp": tcp}
     return found
 
 

@@ -16,6 +16,7 @@ from .looks import Near
 from .modes import NOBODY_KNOWN
 from .names import OWN_FILES, Found, Names, Node, join, split
 from .ports import Ports
+from .recordings import RULESET
 from .processes import Handle, Place, Process, Thread
 from .strace_log import Birth, Births, Call
 from .unsaid import CannotSay, NotAsked
@@ -31,8 +32,6 @@ CLONE_NEWUSER = 0x10000000
 MOST_ENDED = 1_024
 #: The directory of processes.
 PROC = "proc"
-#: A ruleset, as strace names the target of its descriptor.
-RULESET = "anon_inode:[landlock-ruleset]"
 NO_PATH = "a file without a path"
 BY_UNSEEN_LAYER = "a call that a layer of an unknown ruleset may have refused"
 ERRORS_OF_LAYERS = frozenset({"EACCES", "EPERM", "EXDEV"})

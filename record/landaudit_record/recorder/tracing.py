@@ -122,7 +122,8 @@ def run(log: Path, command: list[str], *, readlink: bool = False) -> Outcome:
     _adopt_orphans()
     passing = _Passing()
     with passing.installed():
-        tracer = subprocess.Popen(command_line(log, command, readlink=readlink))
+        # Files that Python opens itself are not inherited (PEP 446), so these are the descriptors that it was given.
+        tracer = subprocess.Popen(command_line(log, command, readlink=readlink), close_fds=False)
         passing.tracer = tracer.pid
         with Freeing(tracer.pid, lambda: _traced_by(tracer.pid)) as freeing:
             tracer.returncode = _wait(tracer.pid)
