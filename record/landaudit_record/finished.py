@@ -163,7 +163,7 @@ class Finished:
         told.extend(self._of_scopes())
         if self.unknown:
             parents = f"{counted(len(self.unknown), 'parent')} of the policy led on the machine that recorded"
-            told.append(f"it is not known where {parents}, so their rules are left out: {some_of(self.unknown)}")
+            told.append(f"it is not known where {parents}, so no rule is put there: {some_of(self.unknown)}")
         if not self.ended:
             told.append("the recording is cut: the log stops before the command's end, so record it again")
         return told
