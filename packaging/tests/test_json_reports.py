@@ -159,10 +159,10 @@ class Words(unittest.TestCase):
 
     def test_the_documents_have_each_condition_and_reason(self) -> None:
         formats = (TOP / "docs" / "FORMATS.md").read_text(encoding="utf-8")
-        section = formats.partition("## The report as JSON")[2].partition("\n## ")[0]
+        section = formats.partition("## Explanations")[2].partition("\n## ")[0]
         for word in ("condition", "reason"):
-            table = section.partition(f"| `{word}` | Others | In the text |\n|---|---|---|\n")[2].partition("\n\n")[0]
-            rows = {row.split("|")[1].strip(" `") for row in table.splitlines()}
+            table = section.partition(f"| In JSON, `{word}` |\n|---|---|---|\n")[2].partition("\n\n")[0]
+            rows = {row.split("|")[3].split("`")[1] for row in table.splitlines()}
             with self.subTest(word):
                 self.assertEqual(rows, {one["properties"][word]["const"] for one in SCHEMA["$defs"][word]["oneOf"]})
 

@@ -2,11 +2,14 @@
 
 from __future__ import annotations
 
+import json
 import re
 import shutil
 import subprocess
 import unittest
+from collections.abc import Iterator
 from pathlib import Path
+from typing import Any
 
 from landaudit_record import policies
 
@@ -22,6 +25,17 @@ def said(*words: str | Path) -> list[str]:
     """What a command prints to either output."""
     run = subprocess.run(words, stdout=subprocess.PIPE, stderr=subprocess.STDOUT, text=True, check=False)
     return run.stdout.splitlines()
+
+
+def _members(schema: Any) -> Iterator[str]:
+    """The names of members in a schema and in all that is in it."""
+    if isinstance(schema, dict):
+        yield from schema.get("properties", ())
+        for inside in schema.values():
+            yield from _members(inside)
+    elif isinstance(schema, list):
+        for inside in schema:
+            yield from _members(inside)
 
 
 def of_other_pages(line: str) -> bool:
@@ -44,17 +58,28 @@ class Form(unittest.TestCase):
 
 
 class Contents(unittest.TestCase):
-    def test_the_page_of_formats_is_made_from_the_document(self) -> None:
+    def test_the_page_of_formats_is_made_from_its_sources(self) -> None:
         date = formats_page.DATED.read_text(encoding="utf-8").partition("\n")[0]
-        made = formats_page.page(formats_page.DOCUMENT.read_text(encoding="utf-8"), date)
         self.assertEqual(
             (MAN / "landaudit.5").read_text(encoding="utf-8"),
-            made,
-            "docs/FORMATS.md was changed: run packaging/formats-page > man/landaudit.5",
+            formats_page.page(formats_page.source(), date),
+            "a document or a schema was changed: run packaging/formats-page > man/landaudit.5",
         )
 
+    def test_the_page_of_formats_has_each_document_and_each_member(self) -> None:
+        page = (MAN / "landaudit.5").read_text(encoding="utf-8")
+        for document in formats_page.DOCUMENTS[1:]:
+            title = (TOP / "docs" / document).read_text(encoding="utf-8").partition("\n")[0]
+            self.assertIn(f"\n.Sh {title.removeprefix('# ').upper()}\n", page)
+        for title, name in formats_page.SCHEMAS.items():
+            listed = page.partition(f"\n.Sh {title.upper()}\n")[2].partition("\n.Sh ")[0]
+            members = set(re.findall(r"^\.It Cm (\w+)$", listed, re.MULTILINE))
+            schema = json.loads((TOP / "docs" / name).read_text(encoding="utf-8"))
+            with self.subTest(title):
+                self.assertEqual(members, set(_members(schema)))
+
     def test_the_groups_of_rules_are_listed(self) -> None:
-        document = formats_page.DOCUMENT.read_text(encoding="utf-8")
+        document = formats_page.source()
         rows = document.partition("| Group | ")[2].partition("\n\n")[0].splitlines()[2:]
         named = [name for row in rows for name in re.findall(r"`(\w+)`", row.split("|")[1])]
         self.assertEqual(sorted(named), policies.group_names())
@@ -104,6 +129,12 @@ class Made(unittest.TestCase):
 
     def test_an_item_of_several_lines(self) -> None:
         self.assertEqual(self.made("- a\n  b\n- c"), [".Bl -bullet", ".It", "a b", ".It", "c", ".El"])
+
+    def test_links_to_what_the_page_has(self) -> None:
+        self.assertEqual(
+            formats_page._within('See [A.md](A.md) and ([FORMATS.md](FORMATS.md), "Lines").', {"A.md": "Of A"}),
+            'See "Of A" and ("Lines").',
+        )
 
     def test_tables(self) -> None:
         self.assertEqual(

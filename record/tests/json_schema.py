@@ -62,10 +62,6 @@ class Validator:
         self.faults(value)
         return list(self._unnamed(value, ""))
 
-    def members(self) -> set[str]:
-        """All names of members in the schema."""
-        return set(_members(self._root))
-
     def _unnamed(self, value: Any, at: str) -> Iterator[str]:
         if isinstance(value, dict):
             for name, inside in value.items():
@@ -171,14 +167,3 @@ _KEYWORDS = frozenset({
     "$ref", "type", "const", "enum", "properties", "additionalProperties", "required", "dependentRequired", "items",
     "minItems", "maxItems", "minimum", "maximum", "minLength", "pattern", "oneOf",
 })
-
-
-def _members(schema: Any) -> Iterator[str]:
-    """The names of members in a schema and in all that is in it."""
-    if isinstance(schema, dict):
-        yield from schema.get("properties", ())
-        for inside in schema.values():
-            yield from _members(inside)
-    elif isinstance(schema, list):
-        for inside in schema:
-            yield from _members(inside)

@@ -1,7 +1,6 @@
 """Random policies and trees, for tests that try many: a policy as its author writes it and as a trace has it.
 
-What a policy's records are is written down here once more, from docs/FORMATS.md ("The policy file of
-landaudit-record"), so that the tests ask landaudit about the policy and not about what the package makes of it.
+What a policy's records are is written down here once more, from docs/POLICIES.md, so that the tests ask landaudit about the policy and not about what the package makes of it.
 """
 
 from __future__ import annotations

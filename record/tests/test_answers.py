@@ -1,4 +1,4 @@
-"""What landaudit answers, as values: the tables of docs/FORMATS.md, "The report as JSON", and the examples."""
+"""What landaudit answers, as values: the tables of docs/FORMATS.md, "Explanations", and the examples."""
 
 from __future__ import annotations
 
@@ -18,7 +18,7 @@ from .recorded import MOUNTING, Object, closed_on, failed, gained, kept_on, miss
 
 TOP = Path(__file__).resolve().parents[2]
 EXAMPLES = TOP / "examples"
-FORMATS = (TOP / "docs" / "FORMATS.md").read_text(encoding="utf-8").partition("## The report as JSON")[2]
+FORMATS = (TOP / "docs" / "FORMATS.md").read_text(encoding="utf-8").partition("## Explanations")[2]
 SCHEMA = json.loads((TOP / "docs" / "report.schema.json").read_text(encoding="utf-8"))["$defs"]
 #: What stands in the tables for a member, and the member's value that is shown so.
 SHOWN = {"N": 7, "RIGHTS": ["RIGHTS"], "PATH": "PATH"}
@@ -45,10 +45,11 @@ def objections(*said: Object) -> tuple[Objection, ...]:
 
 def rows(word: str) -> Iterator[tuple[str, list[str], str]]:
     """The rows of the table of conditions or of reasons: the word, its members, and what is said of the text."""
-    table = FORMATS.partition(f"| `{word}` | Others | In the text |\n|---|---|---|\n")[2].partition("\n\n")[0]
+    table = FORMATS.partition(f"| In JSON, `{word}` |\n|---|---|---|\n")[2].partition("\n\n")[0]
     for row in table.splitlines():
-        name, others, text = (cell.strip() for cell in row.strip("|").split("|"))
-        yield name.strip("`"), re.findall("`([^`]+)`", others), text
+        text, _, said = (cell.strip() for cell in row.strip("|").split("|"))
+        name, *members = re.findall("`([^`]+)`", said)
+        yield name, members, text
 
 
 def about(members: list[str]) -> Object:
@@ -120,7 +121,7 @@ class Reasons(unittest.TestCase):
                     self.assertEqual(f"`{found}`".replace("7", "N"), text)
 
     def test_each_kind_has_its_words(self) -> None:
-        (words,) = (row for row in FORMATS_OF_TEXT.splitlines() if row.startswith("| `PATH is KIND` |"))
+        (words,) = (row for row in FORMATS.splitlines() if row.startswith("| `PATH is KIND` |"))
         kinds = SCHEMA["reason"]["oneOf"][3]["properties"]["kind"]["enum"]
         told = [answer(moot("of_kind", path="/a", kind=kind)).reason.why for kind in kinds]
         self.assertEqual(told, [f"is {name}" for name in re.findall("`(a [^`]+)`", words)])
@@ -177,9 +178,6 @@ class Faults(unittest.TestCase):
             answer({"answer": "moot"}).reason
         with self.assertRaises(Problem):
             answer({"answer": "refused", "error": "EBADF", "layers": []}).condition
-
-
-FORMATS_OF_TEXT = (TOP / "docs" / "FORMATS.md").read_text(encoding="utf-8").partition("## Explanations")[2]
 
 
 class WorkedExamples(unittest.TestCase):

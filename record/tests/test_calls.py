@@ -1,6 +1,6 @@
 """What single calls become: by lines of strace written here, over a small listed disk.
 
-The expected records follow from docs/FORMATS.md, "Writing a recorder", and from what a running kernel
+The expected records follow from docs/RECORDERS.md, "Writing a recorder", and from what a running kernel
 was seen to answer.
 """
 

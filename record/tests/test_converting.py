@@ -1,4 +1,4 @@
-"""What kept logs become. Every expected record follows from docs/FORMATS.md, "Writing a recorder"."""
+"""What kept logs become. Every expected record follows from docs/RECORDERS.md, "Writing a recorder"."""
 
 from __future__ import annotations
 

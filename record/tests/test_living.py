@@ -1,4 +1,4 @@
-"""What living processes are given once more: each record follows from docs/FORMATS.md, "Parts of a recording"."""
+"""What living processes are given once more: each record follows from docs/RECORDERS.md, "Parts of a recording"."""
 
 from __future__ import annotations
 

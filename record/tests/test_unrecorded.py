@@ -29,7 +29,7 @@ def node(path: str, inode: int, flags: str) -> list[Any]:
 
 
 def event(hook: str, path: str | None = None, *, inode: int = 7, **members: Any) -> Record:
-    """An event of process 10, by docs/FORMATS.md, "What landaudit-witness writes"."""
+    """An event of process 10, by docs/RECORDERS.md, "What landaudit-witness writes"."""
     base: Record = {"time": 1, "pid": 10, "tid": 10, "comm": "p", "hook": hook, "answer": 0, **members}
     if path is not None:
         base |= {"path": path, "chain": [node(path, inode, "o"), node("/", 2, "mr")]}
