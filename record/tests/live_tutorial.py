@@ -32,21 +32,41 @@ class Step:
     status: int | None = None
 
 
+#: The end of a paragraph that names a file of the folder, before the block with what is in it.
+OF_A_FILE = re.compile(r"`([\w.][\w./-]*)`:\Z")
+
+
 def steps(document: Path) -> list[Step]:
-    """The commands of a document that are behind `$` in indented blocks."""
+    """The commands of a document: those behind `$` in indented blocks, and one for each block that is a file."""
     found: list[Step] = []
-    block: Step | None = None
-    for line in document.read_text(encoding="utf-8").splitlines():
-        if line.startswith("    $ "):
-            block = Step(line[6:])
-            found.append(block)
-        elif line and not line.startswith("    "):
-            block = None
-        elif block is not None and line.startswith("    (status "):
-            block.status = int(line.strip("() ").split()[1])
-        elif block is not None and line:
-            block.shown.append(line.strip())
+    shows = False
+    before = ""
+    for block in document.read_text(encoding="utf-8").split("\n\n"):
+        file = OF_A_FILE.search(before)
+        lines = block.splitlines()
+        if file and lines[0].startswith("    ") and not lines[0].startswith("    $ "):
+            contents = "".join(f"{line[4:]}\n" for line in lines)
+            found.append(Step(f"cat > {file[1]} << 'END'\n{contents}END"))
+            shows = False
+        else:
+            shows = _read(lines, found, shows)
+        before = block
     return found
+
+
+def _read(lines: Sequence[str], found: list[Step], shows: bool) -> bool:
+    """Adds the commands of a block and what they show; whether a block after it may show more of the last one."""
+    for line in lines:
+        if line.startswith("    $ "):
+            found.append(Step(line[6:]))
+            shows = True
+        elif line and not line.startswith("    "):
+            shows = False
+        elif shows and line.startswith("    (status "):
+            found[-1].status = int(line.strip("() ").split()[1])
+        elif shows and line:
+            found[-1].shown.append(line.strip())
+    return shows
 
 
 def alike(text: str) -> str:
