@@ -134,7 +134,7 @@ class Tutorial(unittest.TestCase):
 
     def run_step(self, step: Step, folder: str, environment: dict[str, str]) -> None:
         run = subprocess.run(
-            ["sh", "-c", step.command],
+            ["sh", "-c", step.command.replace(WORKED_IN, folder)],
             cwd=folder,
             env=environment,
             stdout=subprocess.PIPE,
