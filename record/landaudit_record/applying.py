@@ -194,7 +194,7 @@ def _nowhere(trace: Path, program: str | None, programs: list[str]) -> str:
 
 
 def not_known(policy: Policy, tree: Tree) -> tuple[str, ...]:
-    """The parents of which is not known where they led when the run began, each once."""
+    """The parents for which it is not known where they led when the run began, each once."""
     return tuple(dict.fromkeys(it.written for it in resolving.parents(policy, tree) if it.led.unknown is not None))
 
 

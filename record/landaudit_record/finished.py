@@ -137,8 +137,8 @@ _RESTRICT = b'"restrict"'
 class Finished:
     """The folder of a recording with all its parts.
 
-    Of the policy that is tried on it, `scoped` has the scopes, and `unknown` the parents of which is not known where
-    they led on the machine that recorded.
+    Of the policy that is tried on it, `scoped` has the scopes, and `unknown` the parents for which it is not known
+    where they led on the machine that recorded.
     """
 
     folder: Path

@@ -106,7 +106,7 @@ def _other(trace: Path, report: Path) -> Problem:
 
 @dataclass(frozen=True, slots=True)
 class Told:
-    """A record that is not allowed at all ABIs, or that changes what is kept: its line, and its answers.
+    """A record that some ABI does not allow, or that changes what is kept: its line, and its answers.
 
     `answered` has the answers that are not `allowed`, each with the ABIs that give it; `program` is what the process
     runs, None before its first program; `asked` says whether it is a call on a path that Landlock was asked about;
@@ -172,7 +172,7 @@ class Walk:
             return shown(jsonl.read(self.files[0], line, trace.readline()), "path")
 
     def __iter__(self) -> Iterator[Told]:
-        """Each record that is not allowed at all ABIs, or that changes what is kept."""
+        """Each record that some ABI does not allow, or that changes what is kept."""
         for said in self._lines():
             _, _, to_do, _, differs = said
             if differs or to_do >= _RULE:

@@ -100,7 +100,7 @@ DISK = Disk()
 class Walked:
     """Where a path leads.
 
-    `unknown` is the first path on the way of which is not known what is there, `blocked` the first one that is no
+    `unknown` is the first path on the way where it is not known what is there, `blocked` the first one that is no
     directory although the path goes on from it: then the kernel opens nothing. `now` has the links on the way that were
     looked up on this disk. `only_directory` says that the path leads to nothing but a directory, as one that ends with
     a slash.

@@ -55,7 +55,7 @@ def opened(names: Sequence[str], policy: Policy | None = None, program: str | No
 
 
 def unknown(members: Sequence[Member]) -> frozenset[str]:
-    """The parents of the policy of which is not known where they led when one of the recordings was made."""
+    """The parents of the policy for which it is not known where they led when one of the recordings was made."""
     return frozenset(parent for member in members for parent in member.recording.unknown)
 
 

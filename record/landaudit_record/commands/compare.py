@@ -37,7 +37,7 @@ def add_arguments(parser: argparse.ArgumentParser) -> None:
 
 
 def run(arguments: argparse.Namespace) -> int:
-    """Prints what agrees and what differs; the status is 1 if a difference has no name."""
+    """Prints what agrees and what differs; the status is 1 if a difference is of no known class."""
     program = landaudit.find(arguments.landaudit)
     recording = finished.opened(arguments.recording)
     tally = Tally()

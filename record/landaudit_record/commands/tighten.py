@@ -72,7 +72,7 @@ def run(arguments: argparse.Namespace) -> int:
 
 
 def _with_unknown(tight: Policy, whole: Policy, unknown: frozenset[str]) -> Policy:
-    """A policy that was tightened, with the rules as they were of which is not known where their parents led.
+    """A tightened policy, with the rules as they were for whose parents it is not known where they led.
 
     Each rule is on one path.
     """
