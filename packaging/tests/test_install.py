@@ -63,6 +63,7 @@ class Install(unittest.TestCase):
                 "share/landaudit/landaudit-policy",
                 "share/landaudit/audit.schema.json",
                 "share/landaudit/check.schema.json",
+                "share/landaudit/recording.schema.json",
                 "share/man/man1/landaudit.1",
                 "share/man/man1/landaudit-record.1",
                 "share/man/man1/landaudit-policy.1",

@@ -72,8 +72,8 @@ class Contents(unittest.TestCase):
             title = (TOP / "docs" / document).read_text(encoding="utf-8").partition("\n")[0]
             self.assertIn(f"\n.Sh {title.removeprefix('# ').upper()}\n", page)
         for title, name in formats_page.SCHEMAS.items():
-            listed = page.partition(f"\n.Sh {title.upper()}\n")[2].partition("\n.Sh ")[0]
-            members = set(re.findall(r"^\.It Cm (\w+)$", listed, re.MULTILINE))
+            listed = re.split(rf"\n\.S[hs] {title}\n", page, maxsplit=1, flags=re.IGNORECASE)[1]
+            members = set(re.findall(r"^\.It Cm (\w+)$", listed.partition("\n.S")[0], re.MULTILINE))
             schema = json.loads((TOP / "docs" / name).read_text(encoding="utf-8"))
             with self.subTest(title):
                 self.assertEqual(members, set(_members(schema)))

@@ -9,11 +9,11 @@ import json
 import re
 import unittest
 from collections import Counter
-from collections.abc import Callable, Iterator, Sequence
+from collections.abc import Callable, Iterable, Iterator, Sequence
 from pathlib import Path
 from typing import Any
 
-from landaudit_record import by_abi, cli
+from landaudit_record import by_abi, cli, jsonl
 from landaudit_record.commands import audit
 from landaudit_record.answers import Closed, Gained, Kept, Missing, Mounting
 from landaudit_record.landaudit import BUILT
@@ -23,11 +23,17 @@ from landaudit_record.recorder.ports import Ports
 from landaudit_record.summary import Accepted, Refusal, RefusingLayer, Summary, as_data
 
 from .json_schema import DIALECT, DOCS, Schema, Unknown, Validator
-from .kept_logs import KeptLogs
+from .kept_logs import LOGS, KeptLogs
 from .stand_in import StandIn
 from .test_page import HOSTILE
 
 AUDIT, CHECK = (Validator.of(f"{name}.schema.json") for name in ("audit", "check"))
+#: What landaudit-witness wrote on kept runs.
+HEARD = Path(__file__).parent / "heard"
+#: The members of some operation, by the table of docs/FORMATS.md.
+OF_AN_OP = {"op", "pid"} | set(re.findall(r"`(\w+)`", "".join(
+    row.split("|")[2] for row in (DOCS / "FORMATS.md").read_text(encoding="utf-8").partition("| `op` | ")[2]
+    .partition("\n\n")[0].splitlines()[2:])))
 
 #: A schema, values that are as it says, and values that are not, by the documents Core and Validation of 2020-12.
 KEYWORDS: tuple[tuple[Schema, tuple[Any, ...], tuple[Any, ...]], ...] = (
@@ -146,7 +152,7 @@ class Schemas(unittest.TestCase):
     """The two schemas against documents that they must refuse, and against the document that describes members."""
 
     def test_each_member_is_described(self) -> None:
-        for name in ("audit", "check"):
+        for name in ("audit", "check", "recording"):
             schema = json.loads((DOCS / f"{name}.schema.json").read_text(encoding="utf-8"))
             self.assertEqual([member for member, one in members(schema) if not one.get("description")], [])
 
@@ -322,6 +328,53 @@ class Printed(StandIn):
         data = an_audit(HOSTILE)
         self.assertEqual((AUDIT.faults(data), AUDIT.undescribed(data)), ([], []))
         self.assertTrue(data["abis"][1]["breaks"] and data["abis"][1]["refused_no_more"])
+
+
+class Recordings(KeptLogs):
+    """The files of a recording, by docs/recording.schema.json."""
+
+    FILES = {"tree.jsonl": "tree", "trace.jsonl": "record", "unsaid.jsonl": "unsaid", "before.jsonl": "before",
+             "start.jsonl": "start", "objects.jsonl": "object", "beside.jsonl": "object"}
+
+    def is_described(self, file: Path, name: str, lines: Iterable[Any]) -> set[str]:
+        """The members that the lines of a file have, which are as a definition of the schema says."""
+        schema = json.loads((DOCS / "recording.schema.json").read_text(encoding="utf-8"))
+        validator = Validator({"$schema": DIALECT, "$ref": f"#/$defs/{name}", "$defs": schema["$defs"]})
+        members: set[str] = set()
+        for line in lines:
+            undescribed = [at for at in validator.undescribed(line) if name != "record" or at[1:] not in OF_AN_OP]
+            self.assertEqual((validator.faults(line), undescribed), ([], []), f"{file}: {line}")
+            members |= set(line)
+        return members
+
+    def test_of_kept_logs(self) -> None:
+        seen: dict[str, set[str]] = {}
+        for log in sorted(LOGS.glob("*/strace.txt")):
+            folder = self.folder(log.parent.name)
+            converting.convert(folder, Ports())
+            for file, name in self.FILES.items():
+                if (folder / file).exists():
+                    lines = [line for _, line in jsonl.numbered(folder / file)]
+                    seen.setdefault(name, set()).update(self.is_described(folder / file, name, lines))
+            whole = [json.loads((folder / "converted.json").read_text(encoding="utf-8"))]
+            self.is_described(folder / "converted.json", "converted", whole)
+        self.assertLessEqual({"call", "kernel", "shown", "shown_to", "role"}, seen["record"])
+        self.assertLessEqual({"made", "same", "shown", "target"}, seen["tree"])
+        self.assertEqual(seen["unsaid"], {"line", "pid", "class", "call", "asks"})
+
+    def test_of_what_a_witness_heard(self) -> None:
+        file = HEARD / "ordinary" / "witness.jsonl"
+        first, *events, last = (line for _, line in jsonl.numbered(file))
+        self.is_described(file, "heard_first", [first])
+        self.assertLessEqual({"path", "chain", "file", "flags"}, self.is_described(file, "event", events))
+        self.is_described(file, "heard_last", [last])
+
+    def test_what_is_no_line(self) -> None:
+        for name, line in (("tree", {"path": "a", "kind": "reg"}), ("tree", {"path": "/a", "kind": None}),
+                           ("record", {"op": "open", "pid": 1, "otherwise": False}), ("unsaid", {"line": 1, "pid": 1}),
+                           ("heard_last", {"end": True}), ("converted", {"format": 2})):
+            with self.subTest(name, line=line), self.assertRaises(AssertionError):
+                self.is_described(Path(name), name, [line])
 
 
 @unittest.skipUnless(BUILT.exists(), f"{BUILT} is not built")
