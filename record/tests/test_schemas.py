@@ -28,6 +28,7 @@ from .stand_in import StandIn
 from .test_page import HOSTILE
 
 AUDIT, CHECK = (Validator.of(f"{name}.schema.json") for name in ("audit", "check"))
+PACKAGE = Path(cli.__file__).parent
 #: What landaudit-witness wrote on kept runs.
 HEARD = Path(__file__).parent / "heard"
 #: The members of some operation, by the table of docs/FORMATS.md.
@@ -361,6 +362,21 @@ class Recordings(KeptLogs):
         self.assertLessEqual({"call", "kernel", "shown", "shown_to", "role"}, seen["record"])
         self.assertLessEqual({"made", "same", "shown", "target"}, seen["tree"])
         self.assertEqual(seen["unsaid"], {"line", "pid", "class", "call", "asks"})
+
+    def test_classes_with_asks(self) -> None:
+        classes = json.loads((DOCS / "recording.schema.json").read_text(encoding="utf-8"))["$defs"]["class_with_asks"]
+        validator = Validator({"$schema": DIALECT, **classes})
+        for log in sorted(LOGS.glob("*/strace.txt")):
+            folder = self.folder(log.parent.name)
+            converting.convert(folder, Ports())
+            for line in self.lines(folder, "unsaid.jsonl"):
+                self.assertEqual(not validator.faults(line["class"]), line.get("asks", False), line)
+        package = (file.read_text(encoding="utf-8") for file in sorted(PACKAGE.rglob("*.py")))
+        # A text that is broken in the source is one text.
+        source = re.sub(r'"\s*f?"', "", "".join(package))
+        for one in classes["oneOf"]:
+            for text in one.get("enum", [one.get("pattern", "").removeprefix("^")]):
+                self.assertTrue(text and text in source, text)
 
     def test_of_what_a_witness_heard(self) -> None:
         file = HEARD / "ordinary" / "witness.jsonl"
