@@ -3,10 +3,10 @@
 # The options of a subcommand, or what can come instead of one.
 _landaudit_policy_words() {
     case $1 in
-        confine) echo '-h --help --abi --' ;;
+        confine) echo '-h --help --abi --log --' ;;
         diff) echo '-h --help --abi --landaudit' ;;
         check) echo '-h --help --json --landaudit' ;;
-        export) echo '-h --help --c' ;;
+        export) echo '-h --help --c --log' ;;
         *) echo 'confine check diff export -h --help -V --version' ;;
     esac
 }

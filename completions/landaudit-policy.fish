@@ -30,4 +30,5 @@ complete -c landaudit-policy -n '__landaudit_policy_has diff check' -l landaudit
 complete -c landaudit-policy -n '__landaudit_policy_has diff' -l abi -x -a '1 2 3 4 5 1-2 1-3 1-4 1-5 2-3 2-4 2-5 3-4 3-5 4-5' -d 'Version of the interface of Landlock, or a range'
 complete -c landaudit-policy -n '__landaudit_policy_has check' -l json -d 'Print the result as JSON'
 complete -c landaudit-policy -n '__landaudit_policy_has export' -l c -d 'Print C99'
+complete -c landaudit-policy -n '__landaudit_policy_has confine export' -l log -d 'Have the kernel log what it refuses'
 complete -c landaudit-policy -n __landaudit_policy_runs -a '(__landaudit_policy_command)'

@@ -18,6 +18,7 @@ from typing import NoReturn
 from . import POLICIES, PROGRAMS, fitting
 from . import landlock_calls as landlock
 from .fitting import FittedLayer, FittedPathRule
+from .landlock_calls import ABI_OF_LOG
 from .policies import Policy
 from .problems import WANTING, Problem
 from .rights import FILE_RIGHTS, NET
@@ -43,11 +44,17 @@ def known_abi(asked: int) -> int:
         raise Problem(f"this kernel has no Landlock: {_MISSING.get(error.errno or 0, error.strerror)}", WANTING) from error
 
 
-def confine(policy: Policy, abi: int) -> list[str]:
-    """Restricts this process by each layer of a policy, the oldest first; returns notes on what is left out."""
+def confine(policy: Policy, abi: int, *, log: bool = False) -> list[str]:
+    """Restricts this process by each layer of a policy, the oldest first; returns notes on what is left out.
+
+    With `log`, the kernel logs what the layers refuse of the programs that this process executes, if it can.
+    """
     layers, notes = fitting.fit(policy, abi)
     fitted = {layer.number: layer for layer in layers}
-    scopes = landlock.kernel_abi() >= ABI_OF_SCOPES
+    known = landlock.kernel_abi()
+    scopes, logs = known >= ABI_OF_SCOPES, log and known >= ABI_OF_LOG
+    if log and not logs:
+        notes.append(f"the kernel logs no denials, which needs ABI {ABI_OF_LOG}: --log has no effect")
     landlock.set_no_new_privs()
     for layer in policy.layers:
         if layer.scoped and not scopes:
@@ -55,11 +62,11 @@ def confine(policy: Policy, abi: int) -> list[str]:
         scoped = layer.scoped if scopes else ()
         if layer.number in fitted or scoped:
             bare = FittedLayer(layer.number, [], [], (), ())
-            notes.extend(_restrict(policy, fitted.get(layer.number, bare), scoped, abi))
+            notes.extend(_restrict(policy, fitted.get(layer.number, bare), scoped, abi, logs=logs))
     return notes
 
 
-def _restrict(policy: Policy, layer: FittedLayer, scoped: Sequence[str], abi: int) -> Iterator[str]:
+def _restrict(policy: Policy, layer: FittedLayer, scoped: Sequence[str], abi: int, *, logs: bool) -> Iterator[str]:
     """One layer: a ruleset with its rules."""
     ruleset = landlock.create_ruleset(layer.handled_fs, layer.handled_net if NET.known(abi) else None, scoped)
     for rule in layer.path_rules:
@@ -69,7 +76,7 @@ def _restrict(policy: Policy, layer: FittedLayer, scoped: Sequence[str], abi: in
         for port in port_rule.ports:
             landlock.add_net_port(ruleset, port, port_rule.on_port)
     try:
-        landlock.restrict_self(ruleset)
+        landlock.restrict_self(ruleset, log_executed=logs)
     except OSError as error:
         at_most = "a process has at most sixteen layers, including those that it is under already"
         why = at_most if error.errno == errno.E2BIG else error.strerror

@@ -11,6 +11,7 @@ from collections.abc import Iterable, Iterator, Sequence
 
 from .comments import Comments
 from .confining import ABI_OF_SCOPES
+from .landlock_calls import ABI_OF_LOG, LOG_NEW_EXEC_ON
 from .policies import SCOPES, Layer, PathRule, Policy, PortRule
 from .rights import FILE_RIGHTS, FS, NET, NEWEST_ABI, Family, Rights
 
@@ -73,7 +74,10 @@ enum {
 	POLICY_RULE_NET_PORT = 2,
 	POLICY_NET_ABI = @NET_ABI@,
 	POLICY_SCOPE_ABI = @SCOPE_ABI@,
-	POLICY_NEWEST_ABI = @NEWEST_ABI@
+	POLICY_NEWEST_ABI = @NEWEST_ABI@,
+	POLICY_LOG_ABI = @LOG_ABI@,
+	/* LANDLOCK_RESTRICT_SELF_LOG_NEW_EXEC_ON, or nothing */
+	POLICY_LOG = @LOG@
 };
 
 #ifndef SYS_landlock_create_ruleset
@@ -140,7 +144,7 @@ static int policy_restrict(const struct policy_layer *layer, long abi)
 		error = policy_add_path(ruleset, &layer->paths[i], attr.handled_access_fs);
 	for (i = 0; !error && i < layer->port_count; i++)
 		error = policy_add_port(ruleset, &layer->ports[i], attr.handled_access_net);
-	if (!error && syscall(SYS_landlock_restrict_self, ruleset, 0))
+	if (!error && syscall(SYS_landlock_restrict_self, ruleset, abi < POLICY_LOG_ABI ? 0 : POLICY_LOG))
 		error = errno;
 	close(ruleset);
 	return error;
@@ -163,8 +167,8 @@ int confine_by_policy(void)
 """
 
 
-def c_code(policy: Policy, comments: Comments) -> Iterator[str]:
-    """The lines of the code."""
+def c_code(policy: Policy, comments: Comments, *, log: bool = False) -> Iterator[str]:
+    """The lines of the code; with `log`, the kernel logs what it refuses the programs that are executed afterwards."""
     yield from _comment([f"Made of {policy.path.name} by landaudit-policy export.", *comments.whole], "")
     yield from _HEAD.splitlines()
     yield ""
@@ -180,7 +184,8 @@ def c_code(policy: Policy, comments: Comments) -> Iterator[str]:
     yield from _known("net", NET)
     yield ""
     code = _CODE.replace("@NET_ABI@", str(min(NET.since.values()))).replace("@NEWEST_ABI@", str(NEWEST_ABI))
-    code = code.replace("@SCOPE_ABI@", str(ABI_OF_SCOPES))
+    code = code.replace("@SCOPE_ABI@", str(ABI_OF_SCOPES)).replace("@LOG_ABI@", str(ABI_OF_LOG))
+    code = code.replace("@LOG@", str(LOG_NEW_EXEC_ON if log else 0))
     yield from code.splitlines()
 
 

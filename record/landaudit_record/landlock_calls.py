@@ -16,6 +16,10 @@ from .rights import FS, NET, Family
 _CREATE_RULESET, _ADD_RULE, _RESTRICT_SELF = 444, 445, 446
 _CREATE_RULESET_VERSION = 1
 _RULE_PATH_BENEATH, _RULE_NET_PORT = 1, 2
+#: Asks the kernel to log what a layer refuses of the programs that are executed under it (landlock_restrict_self(2)).
+LOG_NEW_EXEC_ON = 2
+#: The first ABI whose kernels log what Landlock refuses, and know this flag.
+ABI_OF_LOG = 7
 _PR_SET_NO_NEW_PRIVS = 38
 
 _libc = ctypes.CDLL(None, use_errno=True)
@@ -51,9 +55,13 @@ def add_net_port(ruleset: int, port: int, allowed: Collection[str]) -> None:
     _call(_ADD_RULE, ctypes.c_int(ruleset), ctypes.c_int(_RULE_NET_PORT), rule, ctypes.c_uint32(0))
 
 
-def restrict_self(ruleset: int) -> None:
-    """Restricts this thread by a ruleset as it is now."""
-    _call(_RESTRICT_SELF, ctypes.c_int(ruleset), ctypes.c_uint32(0))
+def restrict_self(ruleset: int, *, log_executed: bool = False) -> None:
+    """Restricts this thread by a ruleset as it is now; the kernel may log the denials of the programs that it executes.
+
+    Without that, the kernel logs only those of the program that calls this.
+    """
+    flags = LOG_NEW_EXEC_ON if log_executed else 0
+    _call(_RESTRICT_SELF, ctypes.c_int(ruleset), ctypes.c_uint32(flags))
 
 
 def set_no_new_privs() -> None:

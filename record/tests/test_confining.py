@@ -58,8 +58,8 @@ class Kernel:
     def add_net_port(self, ruleset: int, port: int, allowed: Collection[str]) -> None:
         self.calls.append(("port", port, sorted(allowed)))
 
-    def restrict_self(self, ruleset: int) -> None:
-        self.calls.append(("restrict",))
+    def restrict_self(self, ruleset: int, *, log_executed: bool = False) -> None:
+        self.calls.append(("restrict", "log") if log_executed else ("restrict",))
         self._refuse("restrict")
 
     def _refuse(self, call: str) -> None:
@@ -77,11 +77,11 @@ class Confining(unittest.TestCase):
         file.write_text(text.replace("{folder}", str(self.folder)))
         return policies.read(file)
 
-    def confined(self, text: str, kernel: Kernel, abi: int) -> list[str]:
+    def confined(self, text: str, kernel: Kernel, abi: int, *, log: bool = False) -> list[str]:
         """The notes of a policy that is put in force."""
         policy = self.policy(text)
         with mock.patch.object(confining, "landlock", kernel):
-            return confining.confine(policy, abi)
+            return confining.confine(policy, abi, log=log)
 
     def fault(self, text: str, kernel: Kernel) -> Problem:
         with self.assertRaises(Problem) as caught:
@@ -138,6 +138,17 @@ class Confining(unittest.TestCase):
         self.assertEqual(kernel.calls, [("nnp",), ("create", [], None, "signal"), ("restrict",)])
         self.assertEqual(notes, ["layer 1, handled_access_fs: ABI 1 does not know refer: dropped",
                                  "layer 1 has only its scopes: ABI 1 knows nothing else that it handles"])
+
+    def test_each_layer_has_its_denials_logged_where_the_kernel_logs(self) -> None:
+        """LANDLOCK_RESTRICT_SELF_LOG_NEW_EXEC_ON is of ABI 7 (landlock_restrict_self(2)); older kernels give EINVAL."""
+        kernel = Kernel(7)
+        notes = self.confined(LAYERS, kernel, 5, log=True)
+        self.assertEqual([call for call in kernel.calls if call[0] == "restrict"], [("restrict", "log")] * 2)
+        self.assertFalse(any("--log" in note for note in notes))
+        kernel = Kernel(6)
+        notes = self.confined(LAYERS, kernel, 5, log=True)
+        self.assertEqual([call for call in kernel.calls if call[0] == "restrict"], [("restrict",)] * 2)
+        self.assertIn("the kernel logs no denials, which needs ABI 7: --log has no effect", notes)
 
     def test_descriptors_are_closed_again(self) -> None:
         before = len(os.listdir("/proc/self/fd"))

@@ -39,12 +39,12 @@ scoped = ["signal", "abstract_unix_socket"]
 """
 
 
-def exported(text: str) -> str:
+def exported(text: str, *options: str) -> str:
     """The code for a policy's text."""
     with tempfile.TemporaryDirectory() as folder, contextlib.redirect_stdout(io.StringIO()) as out:
         policy = Path(folder, "P.toml")
         policy.write_text(text, encoding="utf-8")
-        status = cli.main(["export", str(policy), "--c"], cli.POLICY)
+        status = cli.main(["export", str(policy), "--c", *options], cli.POLICY)
     assert status == 0
     return out.getvalue()
 
@@ -75,6 +75,13 @@ class Code(unittest.TestCase):
         texts = re.findall(r'^\t\{"(.*)",$', exported(COMMENTED), re.MULTILINE)
         plain = [re.sub(r"\\([0-7]{3})", lambda found: chr(int(found[1], 8)), text) for text in texts]
         self.assertEqual(plain, ["/usr", "/a#b", '/c#"d', '/"e??/\n\u00e9'.encode().decode("latin-1")])
+
+    def test_the_kernel_logs_denials_of_executed_programs_if_that_is_asked_for(self) -> None:
+        """The flag LANDLOCK_RESTRICT_SELF_LOG_NEW_EXEC_ON is 1 << 1 (linux/landlock.h of ABI 7)."""
+        for options, flag in ((), 0), (("--log",), 2):
+            code = exported(COMMENTED, *options)
+            self.assertIn(f"POLICY_LOG = {flag}\n", code)
+            self.assertIn("restrict_self, ruleset, abi < POLICY_LOG_ABI ? 0 : POLICY_LOG)", code)
 
     def test_what_the_kernel_refuses_is_not_hidden(self) -> None:
         """A group loses what a file can't have; a right that is named does not."""

@@ -6,6 +6,7 @@ import argparse
 import shutil
 
 from .. import POLICIES, confining, policies
+from ..landlock_calls import ABI_OF_LOG
 from ..options import add_abi, add_policy, note
 from ..problems import USAGE, WANTING, Problem
 
@@ -15,11 +16,18 @@ EXAMPLE = "landaudit-policy confine policy.toml -- sort /etc/passwd"
 BEHIND_DASHES = "give a command after '--', as in 'landaudit-policy confine policy.toml -- ls'"
 
 
+OF_LOG = (
+    f"have the kernel log what it refuses the command, from ABI {ABI_OF_LOG} on (Linux 6.15) and if its audit is "
+    "switched on: landaudit-record denials reads that log"
+)
+
+
 def add_arguments(parser: argparse.ArgumentParser) -> None:
     """Adds the arguments of the subcommand."""
-    parser.usage = "landaudit-policy confine [-h] POLICY.toml [--abi N] -- COMMAND.."
+    parser.usage = "landaudit-policy confine [-h] POLICY.toml [--abi N] [--log] -- COMMAND.."
     add_policy(parser)
     add_abi(parser, "rights that this ABI or the kernel does not have are dropped")
+    parser.add_argument("--log", action="store_true", help=OF_LOG)
 
 
 def run(arguments: argparse.Namespace) -> int:
@@ -32,5 +40,5 @@ def run(arguments: argparse.Namespace) -> int:
     if shutil.which(command[0]) is None:
         raise Problem(f"{command[0]} is not found, or is not a program", WANTING)
     environment = confining.given_environment()
-    note(confining.confine(policy, abi), POLICIES)
+    note(confining.confine(policy, abi, log=arguments.log), POLICIES)
     confining.become(command, environment)

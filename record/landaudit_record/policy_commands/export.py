@@ -5,6 +5,7 @@ from __future__ import annotations
 import argparse
 
 from .. import comments, documents, exporting, policies
+from ..landlock_calls import ABI_OF_LOG
 from ..options import add_policy
 
 NAME = "export"
@@ -21,12 +22,18 @@ def add_arguments(parser: argparse.ArgumentParser) -> None:
         required=True,
         help="print C99: int confine_by_policy(void), which returns 0 or an errno, and needs only the kernel's headers",
     )
+    parser.add_argument(
+        "--log",
+        action="store_true",
+        help="have the kernel log what it refuses the programs that are executed afterwards, from ABI "
+        f"{ABI_OF_LOG} on (Linux 6.15) and if its audit is switched on: landaudit-record denials reads that log",
+    )
 
 
 def run(arguments: argparse.Namespace) -> int:
     """Prints the code."""
     policy = policies.read(arguments.policy)
     written = comments.read(documents.text_of(arguments.policy))
-    for line in exporting.c_code(policy, written):
+    for line in exporting.c_code(policy, written, log=arguments.log):
         print(line)
     return 0
