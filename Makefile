@@ -32,7 +32,7 @@ ROOT := $(DESTDIR)$(PREFIX)
 SCRIPTS := landaudit-record landaudit-policy
 MODULES := -name '*.py' -o -name '*.toml' -o -name 'page.css' -o -name 'page.js'
 COMMANDS := landaudit $(SCRIPTS)
-SCHEMAS := audit.schema.json check.schema.json recording.schema.json
+SCHEMAS := audit.schema.json check.schema.json denials.schema.json recording.schema.json
 INSTALLED := share/man/man5/landaudit.5 $(foreach command,$(COMMANDS),bin/$(command) share/man/man1/$(command).1 \
 	share/bash-completion/completions/$(command) share/zsh/site-functions/_$(command) \
 	share/fish/vendor_completions.d/$(command).fish)

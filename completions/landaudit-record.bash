@@ -10,7 +10,8 @@ _landaudit_record_words() {
         compare) echo '-h --help --abi --json --differences --landaudit' ;;
         tighten) echo '-h --help --policy --list --program --abi --as-recorded --landaudit' ;;
         suggest) echo '-h --help --policy --rules --style --program --abi --as-recorded --landaudit' ;;
-        *) echo 'run convert apply audit compare suggest tighten -h --help -V --version' ;;
+        denials) echo '-h --help --policy --program --all --suggest --json --html' ;;
+        *) echo 'run convert apply audit compare suggest tighten denials -h --help -V --version' ;;
     esac
 }
 

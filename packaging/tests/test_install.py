@@ -62,6 +62,7 @@ class Install(unittest.TestCase):
                 "share/landaudit/landaudit-record",
                 "share/landaudit/landaudit-policy",
                 "share/landaudit/audit.schema.json",
+                "share/landaudit/denials.schema.json",
                 "share/landaudit/check.schema.json",
                 "share/landaudit/recording.schema.json",
                 "share/man/man1/landaudit.1",

@@ -78,7 +78,40 @@ class Kept:
         return f"{self.rights[0]} on {self.path}, opened at line {self.opened}"
 
 
-Objection = Missing | Closed | Gained | Mounting | Kept
+@dataclass(frozen=True)
+class Scoped:
+    """The layer has a scope, and a process or socket that a call is about is outside of it."""
+
+    scope: str
+    whom: str
+
+    def __str__(self) -> str:
+        return f"scope {self.scope}: {self.whom} is outside"
+
+
+@dataclass(frozen=True)
+class Tracing:
+    """A process is not under the layer, so that those that are may not trace it or look into it."""
+
+    whom: str
+
+    def __str__(self) -> str:
+        return f"ptrace: {self.whom} is not under the layer"
+
+
+@dataclass(frozen=True)
+class Unplaced:
+    """Rights on an object whose path is not known; `said` stands in its place."""
+
+    rights: tuple[str, ...]
+    said: str
+
+    def __str__(self) -> str:
+        return f"{', '.join(self.rights)} on {self.said}"
+
+
+#: The last three are only in a kernel's log.
+Objection = Missing | Closed | Gained | Mounting | Kept | Scoped | Tracing | Unplaced
 
 
 def as_data(objection: Objection) -> dict[str, Any]:

@@ -162,7 +162,7 @@ def lacks(texts: Sequence[Lack], between: str = "; ") -> Cell:
         least = LEAST_PATH if len(texts) == 1 else _LEAST_OF_SEVERAL
         room = width - sum(wide(text.said) for text in texts) - len(between) * (len(texts) - 1)
         rooms = shared(paths, room)
-        if all(given >= min(path, least) for path, given in zip(paths, rooms)):
+        if room >= 0 and all(given >= min(path, least) for path, given in zip(paths, rooms)):
             return between.join(text.said + _end_of(plain(text.path), given) for text, given in zip(texts, rooms))
         if wide(pathless) <= width:
             return pathless

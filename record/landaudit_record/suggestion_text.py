@@ -3,7 +3,7 @@
 from __future__ import annotations
 
 from collections import Counter
-from collections.abc import Iterator, Mapping
+from collections.abc import Iterable, Iterator, Mapping
 
 from .policies import Layer, Policy
 from .rights import FS, NET
@@ -17,11 +17,12 @@ def lines(suggestion: Suggestion, policy: Policy) -> Iterator[str]:
     for layer in policy.layers:
         rules, groups = suggestion.rules.get(layer.number, []), suggestion.groups.get(layer.number, {})
         if rules or groups:
-            yield from _of_layer(layer, rules, groups, policy)
+            yield from of_layer(layer, rules, groups, policy)
     yield from _ending(suggestion)
 
 
-def _of_layer(layer: Layer, rules: list[Rule], groups: Mapping[str, int], policy: Policy) -> Iterator[str]:
+def of_layer(layer: Layer, rules: list[Rule], groups: Mapping[str, int], policy: Policy) -> Iterator[str]:
+    """The rules of one layer, with what a person does with them."""
     where = f": paste them under the [[layer]] of that number in {plain(str(policy.path))}"
     only = "" if len(policy.layers) == 1 else where
     with_groups = f" and {counted(len(groups), 'group')}" if groups else ""
@@ -35,6 +36,11 @@ def _of_layer(layer: Layer, rules: list[Rule], groups: Mapping[str, int], policy
         yield from (f"# {name}: {counted(calls, 'call')}" for name, calls in groups.items())
         yield "[[layer.path_beneath]]"
         yield f"include = {_list(list(groups))}"
+    yield from written(rules)
+
+
+def written(rules: Iterable[Rule]) -> Iterator[str]:
+    """Rules as TOML, each behind an empty line and its comments; an empty line ends them."""
     for rule in rules:
         yield ""
         yield f"# {counted(rule.calls, 'call')}"
@@ -67,12 +73,13 @@ def _ending(suggestion: Suggestion) -> Iterator[str]:
         by_call = ", ".join(f"{name} {times}" for name, times in suggestion.unsure.most_common())
         calls = counted(suggestion.unsure.total(), "call")
         yield f"# granted in doubt, since what was there before is not known: {calls}: {by_call}"
-    yield from _staying(suggestion.unmended, "refused by layers of the policy whatever their rules are")
-    yield from _staying(suggestion.of_program, "refused by layers that the program makes itself")
-    yield from _staying(suggestion.failed, "refused that failed in the recording too, so no rule would help")
+    yield from staying(suggestion.unmended, "refused by layers of the policy whatever their rules are")
+    yield from staying(suggestion.of_program, "refused by layers that the program makes itself")
+    yield from staying(suggestion.failed, "refused that failed in the recording too, so no rule would help")
 
 
-def _staying(calls: Counter[str], why: str) -> Iterator[str]:
+def staying(calls: Counter[str], why: str) -> Iterator[str]:
+    """A comment on calls that stay refused, by call."""
     if calls:
         by_call = ", ".join(f"{name} {times}" for name, times in calls.most_common())
         yield f"# {counted(calls.total(), 'call')} {'is' if calls.total() == 1 else 'are'} {why}: {by_call}"

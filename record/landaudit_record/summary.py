@@ -23,9 +23,12 @@ NO_LAYER = ("no process confines itself, so nothing is refused: try a policy wit
 
 @dataclass(frozen=True)
 class RefusingLayer:
-    """A layer by its number in the domain, with its number in the tried policy if it belongs to it; its objections."""
+    """A layer by its number in the domain, with its number in the tried policy if it belongs to it; its objections.
 
-    number: int
+    The number in the domain is None where nothing tells it, as in a kernel's log.
+    """
+
+    number: int | None
     policy: int | None
     objections: tuple[Objection, ...]
 

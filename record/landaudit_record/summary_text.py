@@ -77,17 +77,17 @@ def lines(summary: Summary, title: str, style: Style, beside: Beside = Beside())
     """The lines of a summary, each without its line feed and at most as wide as the style says."""
     yield from map(style.bold, layout.folded(title, style.width))
     yield from _counts(summary, style)
-    yield from _warnings(summary, style, each=beside.each)
+    yield from warnings(summary, style, each=beside.each)
     for text in beside.notes:
         yield from layout.folded(f"note: {text}", style.width)
-    yield from _refusals(summary, style, each=beside.each)
+    yield from refusals(summary, style, each=beside.each)
     yield from _unsure(summary, style, each=beside.each)
     if beside.suggesting:
         yield from ("", "rules for these:", *layout.command(beside.suggesting, style.width))
     yield from _accepted(summary, style)
     yield from _moot(summary, style)
     if summary.unsaid:
-        yield from _heading(f"not recorded: {counted(summary.unsaid.total(), 'call')}", style)
+        yield from heading(f"not recorded: {counted(summary.unsaid.total(), 'call')}", style)
         rows = [(words(f"{times:,}"), words(name)) for name, times in summary.unsaid.most_common()]
         yield from table((_TIMES, Column("class", short=True)), rows, style.width)
 
@@ -95,12 +95,12 @@ def lines(summary: Summary, title: str, style: Style, beside: Beside = Beside())
 def ending(summary: Summary, style: Style) -> Iterator[str]:
     """The last lines: what could not be judged, so that an incomplete audit does not look complete."""
     for text in summary.missing:
-        yield from _marked("NOT ALL IS JUDGED:", text, style.red, style.width)
+        yield from marked("NOT ALL IS JUDGED:", text, style.red, style.width)
 
 
 def by_recording(each: Sequence[tuple[str, Summary]], style: Style) -> Iterator[str]:
     """The lines of the table by recording, which follows a summary of several."""
-    yield from _heading("by recording", style)
+    yield from heading("by recording", style)
     rows = []
     for name, summary in each:
         counts = (summary.records, *(summary.verdicts[verdict] for verdict in VERDICTS))
@@ -111,7 +111,7 @@ def by_recording(each: Sequence[tuple[str, Summary]], style: Style) -> Iterator[
 
 def by_abi(steps: Sequence[Step], style: Style) -> Iterator[str]:
     """The lines of the table by ABI, which follows a summary."""
-    yield from _heading("by ABI: what breaks there first, and what is refused no more", style)
+    yield from heading("by ABI: what breaks there first, and what is refused no more", style)
     verdicts = (*VERDICTS, UNSURE) if any(step.verdicts[UNSURE] for step in steps) else VERDICTS
     columns = [Column(head, number=True) for head in ("ABI", *verdicts)]
     rows = [row for step in steps for row in _step_rows(step, verdicts)]
@@ -140,15 +140,16 @@ def _kind(kind: Kind) -> str:
     return " ".join(word for word in (kind.call, _person(kind.place), kind.error) if word != "-")
 
 
-def _heading(text: str, style: Style) -> Iterator[str]:
+def heading(text: str, style: Style) -> Iterator[str]:
+    """The heading of a part, behind an empty line."""
     yield ""
     yield from map(style.bold, layout.folded(text, style.width))
 
 
-def _marked(mark: str, text: str, marked: Callable[[str], str], width: int) -> Iterator[str]:
+def marked(mark: str, text: str, coloured: Callable[[str], str], width: int) -> Iterator[str]:
     """A text on lines that fit, with the mark before it in a colour if the mark stays whole."""
     first, *others = layout.folded(f"{mark} {text}", width)
-    yield marked(mark) + first.removeprefix(mark) if first.startswith(mark) else first
+    yield coloured(mark) + first.removeprefix(mark) if first.startswith(mark) else first
     yield from others
 
 
@@ -164,7 +165,7 @@ def _counts(summary: Summary, style: Style) -> Iterator[str]:
         yield line.replace(refused, style.red(refused)) if summary.others_refused else line
 
 
-def _warnings(summary: Summary, style: Style, *, each: bool) -> Iterator[str]:
+def warnings(summary: Summary, style: Style, *, each: bool) -> Iterator[str]:
     """The warnings; those about rules that the run never used come last, and only some of them unless `each`."""
     used = [text for text in summary.warnings if text not in summary.untouched]
     unused = sorted((text for text in summary.warnings if text in summary.untouched),
@@ -174,7 +175,7 @@ def _warnings(summary: Summary, style: Style, *, each: bool) -> Iterator[str]:
         yield from _warning(summary.brief.get(text, Brief(text)), summary.warnings[text], style, with_rule=each)
     if len(unused) > len(shown):
         more = f"{counted(len(unused) - len(shown), 'more rule')} that this run never used: --all lists them"
-        yield from _marked("warning:", more, style.yellow, style.width)
+        yield from marked("warning:", more, style.yellow, style.width)
 
 
 def _is_here(brief: Brief | None) -> bool:
@@ -192,14 +193,15 @@ def _warning(brief: Brief, times: int, style: Style, *, with_rule: bool) -> Iter
     if brief.path and room >= layout.LEAST_COLUMN:
         yield f"{style.yellow('warning:')} {layout.shortened(plain(brief.path), room)}: {plain(said)}"
         return
-    yield from _marked("warning:", f"{brief.path}: {said}" if brief.path else said, style.yellow, style.width)
+    yield from marked("warning:", f"{brief.path}: {said}" if brief.path else said, style.yellow, style.width)
 
 
-def _refusals(summary: Summary, style: Style, *, each: bool) -> Iterator[str]:
+def refusals(summary: Summary, style: Style, *, each: bool, said: str = "refused") -> Iterator[str]:
+    """The refused calls: each kind or, if there are many and `each` is not asked for, groups of kinds."""
     if len(summary.refusals) > MOST_ROWS and not each:
-        yield from _groups(summary, style)
+        yield from _groups(summary, style, said)
     elif summary.refusals:
-        yield from _heading(f"refused, the most frequent first ({counted(len(summary.refusals), 'kind')})", style)
+        yield from heading(f"{said}, the most frequent first ({counted(len(summary.refusals), 'kind')})", style)
         rows = [_refusal_row(refusal, programs, summary) for refusal, programs in summary.by_frequency()]
         why = _why_column([_lacks(refusal) for refusal in summary.refusals])
         columns = (_TIMES, Column("call"), Column("place", short=True), *_behind(summary), why)
@@ -214,7 +216,7 @@ def _unsure(summary: Summary, style: Style, *, each: bool) -> Iterator[str]:
     for refusal in summary.unsure:
         alike.setdefault((refusal.call, refusal.place, refusal.unknown or "-"), []).append(refusal)
     shown = list(alike.values()) if each else list(alike.values())[:MOST_ROWS]
-    yield from _heading(f"may be refused: what was there before is not known ({counted(len(alike), 'kind')})", style)
+    yield from heading(f"may be refused: what was there before is not known ({counted(len(alike), 'kind')})", style)
     columns = (_TIMES, Column("call"), Column("place", short=True), Column("not known", short=True),
                Column("lacks in one case", short=True))
     yield from table(columns, [_unsure_row(some, summary) for some in shown], style.width)
@@ -239,12 +241,12 @@ def _behind(summary: Summary) -> tuple[Column, ...]:
     return Column("error", once=True), Column("layers", once=True), *where, program
 
 
-def _groups(summary: Summary, style: Style) -> Iterator[str]:
+def _groups(summary: Summary, style: Style, said: str) -> Iterator[str]:
     """Refused calls of many kinds in groups."""
     groups = grouping.grouped(summary.refusals.items())
     shown = groups[:MOST_ROWS]
-    title = f"refused: {len(summary.refusals):,} kinds in {counted(len(groups), 'group')}"
-    yield from _heading(f"{title}, the earliest first, then the most frequent", style)
+    title = f"{said}: {len(summary.refusals):,} kinds in {counted(len(groups), 'group')}"
+    yield from heading(f"{title}, the earliest first, then the most frequent", style)
     columns = (_TIMES, _why_column([_lacking(group.lacking) for group in shown]), Column("where", short=True),
                *_behind(summary))
     yield from table(columns, [_group_row(group, summary) for group in shown], style.width)
@@ -298,7 +300,7 @@ def _of_these(summary: Summary) -> str:
 
 def _accepted(summary: Summary, style: Style) -> Iterator[str]:
     if summary.accepted:
-        yield from _heading(f"refused and accepted ({counted(len(summary.accepted), 'kind')})", style)
+        yield from heading(f"refused and accepted ({counted(len(summary.accepted), 'kind')})", style)
         rows = [[words(cell) for cell in (f"{times:,}", one.call, one.place, one.reason)]
                 for one, times in summary.accepted.most_common()]
         columns = (_TIMES, Column("call"), Column("place", short=True), Column("reason", short=True))
@@ -361,7 +363,7 @@ def _objection(objection: Objection, place: str) -> str:
 def _moot(summary: Summary, style: Style) -> Iterator[str]:
     if not summary.moot:
         return
-    yield from _heading("not asked (moot), and why", style)
+    yield from heading("not asked (moot), and why", style)
     found = sorted(summary.moot.items(), key=lambda item: -item[1].total())
     rows = [[words(f"{at.total():,}"), words(_in_words(why)), layout.names(_known(at))] for why, at in found]
     yield from table((_TIMES, Column("why"), Column("at", short=True)), rows, style.width)

@@ -44,7 +44,7 @@ class About:
 def write(file: Path, about: About, summaries: Sequence[Summary], parts: Iterable[Part], tried: Tried | None) -> None:
     """Writes the page of an audit, either whole or not at all."""
     paths = Paths(asked(part.trace for part in parts), summaries)
-    _put(file, made(about, summaries, paths, tried).encode())
+    put(file, made(about, summaries, paths, tried).encode())
 
 
 def made(about: About, summaries: Sequence[Summary], found: Paths, tried: Tried | None = None) -> str:
@@ -52,11 +52,16 @@ def made(about: About, summaries: Sequence[Summary], found: Paths, tried: Tried 
     newest = summaries[-1]
     top = element("header", element("h1", about.title), element("p", _judged(about), kind="quiet"))
     parts = [part for part in _parts(summaries, found, tried) if part.inside]
-    bar = element("nav", sections.switch(summaries), element("ul", *map(_link, parts)))
+    bar = element("nav", sections.switch(summaries), links(parts))
     first = (sections.in_short(summaries), sections.not_judged(newest), sections.warnings(summaries))
     main = element("main", *first, *(part.markup() for part in parts))
+    return whole(about.title, together((top, bar, main)), by_version.rules(newest.abi))
+
+
+def whole(title: str, body: Markup, rules: Markup = Markup()) -> str:
+    """A page with its head and foot, and with rules of style besides those of all pages."""
     maker = element("footer", element("p", f"Made by {RECORDER} {VERSION}.", kind="quiet"))
-    page = element("html", _head(about, newest.abi), element("body", top, bar, main, maker), attributes={"lang": "en"})
+    page = element("html", _head(title, rules), element("body", body, maker), attributes={"lang": "en"})
     return f"<!DOCTYPE html>\n{page}\n"
 
 
@@ -73,13 +78,14 @@ def _parts(summaries: Sequence[Summary], found: Paths, tried: Tried | None) -> I
     yield Section("unsaid", "Not recorded", sections.unsaid(newest))
 
 
-def _link(part: Section) -> Markup:
-    return element("li", element("a", part.title, attributes={"href": f"#{part.name}"}))
+def links(parts: Iterable[Section]) -> Markup:
+    """The links to the parts of a page."""
+    return element("ul", *(element("li", element("a", it.title, attributes={"href": f"#{it.name}"})) for it in parts))
 
 
-def _head(about: About, newest: int) -> Markup:
+def _head(title: str, rules: Markup) -> Markup:
     """The invisible parts, among them the page's own policy, which allows only the page's own style and script."""
-    style = together((own("page.css"), by_version.rules(newest)))
+    style = together((own("page.css"), rules))
     script = own("page.js")
     own_alone = f"style-src {_hash(style)}; script-src {_hash(script)}"
     only = f"default-src 'none'; {own_alone}; base-uri 'none'; form-action 'none'"
@@ -89,7 +95,7 @@ def _head(about: About, newest: int) -> Markup:
         element("meta", attributes={"http-equiv": "Content-Security-Policy", "content": only}),
         element("meta", attributes={"name": "viewport", "content": "width=device-width, initial-scale=1"}),
         element("meta", attributes={"name": "color-scheme", "content": "light dark"}),
-        element("title", f"{about.title} - landaudit"),
+        element("title", f"{title} - landaudit"),
         element("style", style),
         element("script", script, attributes={"type": "module"}),
     )
@@ -113,7 +119,7 @@ def _judged(about: About) -> str:
     return f"{what}. Rulesets that the program makes itself are judged {how}."
 
 
-def _put(file: Path, text: bytes) -> None:
+def put(file: Path, text: bytes) -> None:
     """Writes a file so that no reader sees half of it; a link, or a file that is not regular, is written into."""
     in_place = file.is_symlink() or (file.exists() and not file.is_file())
     written = file if in_place else file.with_name(f".page-{os.getpid()}.new")

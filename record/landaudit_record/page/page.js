@@ -13,8 +13,9 @@ const inOrder = new Intl.Collator("en", { numeric: true });
 const texts = new Map();
 let sorted = "";
 
-const abi = () => buttons.find((button) => button.checked).value;
-const isOf = (row) => row.classList.contains(`a${abi()}`);
+// A page without ABIs has no buttons, and shows all rows.
+const abi = () => buttons.find((button) => button.checked)?.value;
+const isOf = (row) => !buttons.length || row.classList.contains(`a${abi()}`);
 
 /** What a cell says at the ABI that is chosen. */
 function said(cell) {
@@ -69,7 +70,7 @@ function sort(by) {
 /** Keeps in the address what is seen. */
 function keep() {
     const seen = new URLSearchParams();
-    if (!buttons.at(-1).checked) {
+    if (buttons.length && !buttons.at(-1).checked) {
         seen.set("abi", abi());
     }
     if (find?.value) {
@@ -87,7 +88,10 @@ function follow() {
         return;
     }
     const asked = new URLSearchParams(location.hash.slice(1));
-    (buttons.find((button) => button.value === asked.get("abi")) ?? buttons.at(-1)).checked = true;
+    const chosen = buttons.find((button) => button.value === asked.get("abi")) ?? buttons.at(-1);
+    if (chosen) {
+        chosen.checked = true;
+    }
     if (table) {
         find.value = asked.get("find") ?? "";
         sort(asked.get("sort") ?? "");

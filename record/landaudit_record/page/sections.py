@@ -100,9 +100,9 @@ def _figures(summary: Summary) -> Markup:
     return together((*told, bar(verdicts["allowed"], verdicts["refused"], verdicts["moot"])))
 
 
-def not_judged(summary: Summary) -> Markup:
+def not_judged(summary: Summary, said: str = "Not all is judged. ") -> Markup:
     """The calls that could not be judged, so that the page does not look complete if it is not."""
-    title = element("b", "Not all is judged. ")
+    title = element("b", said)
     return together(paragraph(title, named(told), kind="alarm") for told in summary.missing)
 
 
@@ -161,7 +161,7 @@ def refused(summaries: Sequence[Summary]) -> Markup:
     heads = ("times", "call", "place", "error", "why", "layers", "program")
     told = [paragraph(_how_many(summary), kind=kinds([summary.abi])) for summary in summaries]
     rows = (_refusal(refusal, by_abi) for refusal, by_abi in found)
-    return together((*told, *((_filter(), table("refusals", heads, rows)) if found else ())))
+    return together((*told, *((words_filter(), table("refusals", heads, rows)) if found else ())))
 
 
 def unsure(summaries: Sequence[Summary]) -> Markup:
@@ -202,7 +202,7 @@ def _how_many(summary: Summary) -> str:
     return f"{calls} at ABI {summary.abi}, in {counted(len(summary.refusals), 'kind')}."
 
 
-def _filter() -> Markup:
+def words_filter() -> Markup:
     """The field for words that a row must have; without a script it is hidden."""
     field = element("input", attributes={"type": "search", "id": "find", "autocomplete": "off", "spellcheck": "false"})
     label = element("label", "Show rows with ", field)

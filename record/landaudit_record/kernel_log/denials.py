@@ -1,0 +1,323 @@
+"""Denials: the calls that Landlock refused, each put together of the records that the kernel wrote of it.
+
+All records of a call have one serial number, whatever other records come between them. If the system has no records of
+calls (an audit rule such as `never,task`), each record of Landlock has a serial number of its own.
+"""
+
+from __future__ import annotations
+
+import errno
+import os
+from collections import Counter, OrderedDict
+from collections.abc import Iterable, Iterator, Mapping, Sequence
+from dataclasses import dataclass, field, replace
+
+from ..answers import Objection
+from ..wording import counted
+from . import calls
+from .objecting import objection, place_of
+from .records import OF_LANDLOCK, Cut, Kind, Line, Lost, Record, Stamp, Unread
+
+#: The records of other events that are kept, in case a record of Landlock comes behind that of its call.
+_MOST_WAITING = 10_000
+#: The length at which the kernel cuts a command line (MAX_PROCTITLE_AUDIT_LEN).
+LONGEST_COMMAND = 128
+_ALLOCATED, _DEALLOCATED = "allocated", "deallocated"
+
+
+@dataclass(frozen=True)
+class Access:
+    """One record of a denial: the domain, which is that of the youngest layer that refuses, its objection and where."""
+
+    domain: str
+    objection: Objection
+    place: str
+
+
+@dataclass(frozen=True)
+class Call:
+    """The call that was denied, by the kernel's record of it: its name, its program, and how it ended."""
+
+    name: str
+    program: str | None
+    comm: str | None
+    pid: int | None
+    error: str | None
+    succeeded: bool
+
+
+@dataclass(frozen=True)
+class Denial:
+    """What Landlock denied a call, by one record or several. Without a record of the call, that is not known.
+
+    `command` are the words of the program's command line, the last of which may be cut.
+    """
+
+    stamp: Stamp
+    accesses: tuple[Access, ...]
+    call: Call | None = None
+    command: tuple[str, ...] = ()
+
+    @property
+    def succeeded(self) -> bool:
+        """Whether the call is known to have succeeded all the same."""
+        return self.call is not None and self.call.succeeded
+
+
+@dataclass(frozen=True)
+class Maker:
+    """The process that restricted itself by a layer, as it was then."""
+
+    pid: int
+    uid: int
+    program: str
+    comm: str
+
+
+@dataclass(frozen=True)
+class Domain:
+    """A layer of running processes, by the number that the kernel gives it, and who made it, if the log says so.
+
+    `logged` is how many denials of it the log has. When the last of its processes has ended, the kernel logs how many
+    there were, `counted`.
+    """
+
+    number: str
+    maker: Maker | None = None
+    logged: int = 0
+    counted: int | None = None
+
+    @property
+    def not_logged(self) -> int:
+        """How many denials the kernel counted that the log does not have."""
+        return 0 if self.counted is None else max(0, self.counted - self.logged)
+
+
+@dataclass(frozen=True)
+class Log:
+    """All that logs say of Landlock: denials in the order of time, domains by number, and what is not known.
+
+    `records` counts the records of the kernel's audit of any kind; `first` and `last` are the times of these, in
+    milliseconds since 1970.
+    """
+
+    denials: tuple[Denial, ...] = ()
+    domains: Mapping[str, Domain] = field(default_factory=dict)
+    unread: tuple[Unread, ...] = ()
+    lost: tuple[Lost, ...] = ()
+    records: int = 0
+    first: int | None = None
+    last: int | None = None
+
+    def not_known(self) -> Iterator[str]:
+        """What the log shows to be missing from it, each in a sentence; nothing if it may be complete."""
+        if not self.records:
+            yield ("the log has no record of the kernel's audit: is it switched on (auditctl -e 1, or audit=1 at "
+                   "boot), and is this its log?")
+        yield from (f"{one}: records were lost" for one in self.lost)
+        yield from (f"{one.place}: a record of Landlock {one.why}" for one in self.unread)
+        for domain in self.domains.values():
+            if domain.not_logged:
+                yield (f"domain {domain.number}: the log has {domain.logged:,} of the "
+                       f"{counted(domain.counted or 0, 'denial')} that the kernel counted")
+            elif domain.maker is None:
+                yield f"domain {domain.number}: the log does not have its first denial"
+
+
+@dataclass
+class _Event:
+    """The records of one serial number so far."""
+
+    accesses: list[Access] = field(default_factory=list)
+    domains: list[Record] = field(default_factory=list)
+    others: dict[Kind, Record] = field(default_factory=dict)
+
+    def __len__(self) -> int:
+        return len(self.accesses) + len(self.domains) + len(self.others)
+
+
+class _Reader:
+    """Puts the records of one log together."""
+
+    def __init__(self) -> None:
+        self.events: dict[Stamp, _Event] = {}
+        self.unread: list[Unread] = []
+        self.lost: list[Lost] = []
+        self.records = 0
+        self.times: list[int] = []
+        self._waiting: OrderedDict[Stamp, _Event] = OrderedDict()
+
+    def take(self, line: Line, place: str) -> None:
+        """Takes what one line says."""
+        match line:
+            case Unread():
+                self.unread.append(line)
+            case Lost():
+                self.lost.append(line)
+            case Record():
+                self._count(line.stamp.milliseconds)
+                if line.kind in OF_LANDLOCK:
+                    self._of_landlock(line, place)
+                elif line.kind is not Kind.OTHER:
+                    self._other(line)
+
+    def _count(self, time: int) -> None:
+        self.records += 1
+        self.times = [min(time, *self.times), max(time, *self.times)] if self.times else [time, time]
+
+    def _of_landlock(self, record: Record, place: str) -> None:
+        """Takes a record of Landlock, with those of its event that came before."""
+        event = self.events.get(record.stamp)
+        if event is None:
+            self.events[record.stamp] = event = self._waiting.pop(record.stamp, _Event())
+        try:
+            if record.kind is Kind.ACCESS:
+                domain, found = _needed(record, "domain"), objection(record.fields)
+                event.accesses.append(Access(domain, found, place_of(found, record.fields)))
+            else:
+                _check_domain(record)
+                event.domains.append(record)
+        except (Cut, ValueError) as fault:
+            self.unread.append(Unread(place, str(fault)))
+
+    def _other(self, record: Record) -> None:
+        """Takes a record that belongs to an event, perhaps to one of Landlock."""
+        event = self.events.get(record.stamp)
+        if event is None:
+            event = self._waiting.setdefault(record.stamp, _Event())
+            if len(self._waiting) > _MOST_WAITING:
+                self._waiting.popitem(last=False)
+        event.others[record.kind] = record
+
+
+def _needed(record: Record, name: str) -> str:
+    """A field that each record of a kind has."""
+    if not record.fields.get(name):
+        raise Cut(f"has no {name}: is it cut?")
+    return record.fields[name]
+
+
+def _check_domain(record: Record) -> None:
+    """Raises Cut if a record of a domain has not what is read of it."""
+    status = _needed(record, "status")
+    names = {_ALLOCATED: ("pid", "uid", "exe", "comm"), _DEALLOCATED: ("denials",)}.get(status)
+    if names is None:
+        raise Cut(f"has the unknown status {status!r}")
+    for name in ("domain", *names):
+        _needed(record, name)
+    for name in {"pid", "uid", "denials"} & set(names):
+        int(record.fields[name])
+
+
+def read(logs: Iterable[Iterable[tuple[str, Line]]]) -> Log:
+    """All that some logs say, each line with its place. An event that several logs have is taken from the fullest."""
+    events: dict[Stamp, _Event] = {}
+    readers = []
+    for log in logs:
+        reader = _Reader()
+        for place, line in log:
+            reader.take(line, place)
+        for stamp, event in reader.events.items():
+            if len(event) > len(events.get(stamp, _Event())):
+                events[stamp] = event
+        readers.append(reader)
+    times = [time for reader in readers for time in reader.times]
+    ordered = sorted(events.items())
+    return Log(
+        tuple(_denial(stamp, event) for stamp, event in ordered if event.accesses),
+        _domains([event for _, event in ordered]),
+        tuple(one for reader in readers for one in reader.unread),
+        tuple(one for reader in readers for one in reader.lost),
+        sum(reader.records for reader in readers),
+        min(times, default=None),
+        max(times, default=None),
+    )
+
+
+def _denial(stamp: Stamp, event: _Event) -> Denial:
+    """A denial of an event's records."""
+    record = event.others.get(Kind.SYSCALL) or event.others.get(Kind.URINGOP)
+    title = event.others.get(Kind.PROCTITLE)
+    said = "" if title is None else title.fields.get("proctitle", "")
+    command = tuple(said.rstrip("\0").split("\0")) if said else ()
+    return Denial(stamp, tuple(event.accesses), None if record is None else _call(record), command)
+
+
+def _call(record: Record) -> Call:
+    """The call of its record."""
+    fields = record.fields
+    exit_code = _number(fields.get("exit"))
+    error = None if exit_code is None or exit_code >= 0 else errno.errorcode.get(-exit_code)
+    return Call(
+        _name_of_call(record),
+        fields.get("exe"),
+        fields.get("comm"),
+        _number(fields.get("pid")),
+        error,
+        fields.get("success") == "yes",
+    )
+
+
+def _name_of_call(record: Record) -> str:
+    """The name of a call: as auditd names it, else by its number."""
+    if record.kind is Kind.URINGOP:
+        return f"io_uring {record.fields.get('uring_op', '-')}"
+    number = _number(record.fields.get("syscall"))
+    added = record.added.get("SYSCALL", "")
+    if added and not added.startswith("unknown"):
+        return added
+    try:
+        architecture = int(record.fields.get("arch", ""), 16)
+    except ValueError:
+        architecture = 0
+    return "-" if number is None else calls.name(architecture, number)
+
+
+def _number(text: str | None) -> int | None:
+    """A decimal number, None if it is none."""
+    try:
+        return None if text is None else int(text)
+    except ValueError:
+        return None
+
+
+def _domains(events: Sequence[_Event]) -> dict[str, Domain]:
+    """The domains of some events."""
+    logged = Counter(access.domain for event in events for access in event.accesses)
+    found = {number: Domain(number, logged=times) for number, times in logged.items()}
+    for record in (record for event in events for record in event.domains):
+        fields = record.fields
+        domain = found.setdefault(fields["domain"], Domain(fields["domain"]))
+        if fields["status"] == _DEALLOCATED:
+            domain = replace(domain, counted=int(fields["denials"]))
+        else:
+            maker = Maker(int(fields["pid"]), int(fields["uid"]), fields["exe"], fields["comm"])
+            domain = replace(domain, maker=maker)
+        found[domain.number] = domain
+    return found
+
+
+def of_program(log: Log, name: str) -> Log:
+    """What a log says of one program, given by its name or whole path: of its denials, and of the layers it made."""
+    kept = tuple(one for one in log.denials if _is_of(name, log, one))
+    numbers = {access.domain for one in kept for access in one.accesses}
+    numbers |= {it.number for it in log.domains.values() if it.maker is not None and _is_maker(name, it.maker)}
+    domains = {number: domain for number, domain in log.domains.items() if number in numbers}
+    return replace(log, denials=kept, domains=domains)
+
+
+def _is_of(name: str, log: Log, denial: Denial) -> bool:
+    """Whether a denial is of a program, or of a layer that the program made."""
+    if denial.call is not None and _is_named(name, denial.call.program, denial.call.comm):
+        return True
+    makers = (log.domains[access.domain].maker for access in denial.accesses)
+    return any(maker is not None and _is_maker(name, maker) for maker in makers)
+
+
+def _is_maker(name: str, maker: Maker) -> bool:
+    return _is_named(name, maker.program, maker.comm)
+
+
+def _is_named(name: str, program: str | None, comm: str | None) -> bool:
+    """Whether a program has a name: its whole path, the last name of that, or the name that the kernel keeps of it."""
+    return name in (program, comm, os.path.basename(program or ""))

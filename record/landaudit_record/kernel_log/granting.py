@@ -1,0 +1,175 @@
+"""The rules that grant what a log says was refused, as far as a rule can and the log says enough.
+
+Nothing is granted for a call that succeeded all the same. What no rule grants (scopes, ptrace, mounts, rights of a
+newer ABI) is counted. Of a move or a link between directories, the record lists each right that the layer does not
+grant on the directory if the object would gain one of them; then what the call needs is not in the log, and there is no
+rule for it.
+"""
+
+from __future__ import annotations
+
+import os
+import shlex
+from collections import Counter, defaultdict
+from collections.abc import Iterable, Iterator, Mapping
+from dataclasses import dataclass, field, replace
+
+from .. import varying, wants
+from ..answers import Closed, Missing, Objection
+from ..placing import Cause, Spot
+from ..rights import FS, NET
+from ..trees import directory_of
+from ..wants import Lacking, OnPaths, Rule, Wanted
+from ..wording import some_of
+from .counting import maker_of
+from .denials import LONGEST_COMMAND, Access, Denial, Log
+from .matching import Matched
+
+#: What d_path() adds to the path of an object that was removed.
+_REMOVED = " (deleted)"
+_MAKING = frozenset(right for right in FS.since if right.startswith("make_"))
+_REMOVING = frozenset({"remove_dir", "remove_file"})
+#: The rights that a call asks on a directory for a name in it, which the log does not have.
+_ON_NAMES = _MAKING | _REMOVING | {"refer"}
+NO_NAME = "(the log has the directory and not the name in it: this grants it for all names there"
+
+
+@dataclass(frozen=True)
+class Target:
+    """What rules are for: a layer of the policy by its number or, without a policy, the layers that a program made."""
+
+    layer: int | None
+    maker: str
+
+
+@dataclass
+class Granted:
+    """The rules for each target, and the calls that they leave refused: those that no rule can fix, those that an
+    object would gain rights by, and those of layers that are not of the policy; with what was granted since.
+    """
+
+    rules: dict[Target, list[Rule]] = field(default_factory=dict)
+    unmended: Counter[str] = field(default_factory=Counter)
+    gaining: Counter[str] = field(default_factory=Counter)
+    of_others: Counter[str] = field(default_factory=Counter)
+    succeeded: Counter[str] = field(default_factory=Counter)
+    since: Counter[str] = field(default_factory=Counter)
+
+    @property
+    def stay_refused(self) -> bool:
+        """Whether the rules leave a call refused."""
+        return bool(self.unmended or self.gaining or self.of_others)
+
+
+@dataclass
+class _Wanted:
+    """What the layers of a target lack."""
+
+    paths: OnPaths = field(default_factory=dict)
+    ports: dict[int, Lacking] = field(default_factory=dict)
+    spots: list[Spot] = field(default_factory=list)
+    asked_by: defaultdict[str, set[str]] = field(default_factory=lambda: defaultdict(set))
+
+
+def grant(log: Log, matched: Matched | None = None) -> Granted:
+    """The rules for what a log says was refused; with a policy, only for its layers."""
+    found = Granted()
+    wanted: dict[Target, _Wanted] = {}
+    for number, denial in enumerate(log.denials):
+        name = _name(denial)
+        if denial.succeeded:
+            found.succeeded[name] += 1
+        elif not all(_is_grantable(access.objection) for access in denial.accesses):
+            found.unmended[name] += 1
+        elif matched is not None and not all(access.domain in matched.layers for access in denial.accesses):
+            found.of_others[name] += 1
+        elif matched is not None and all(matched.is_granted_now(access) for access in denial.accesses):
+            found.since[name] += 1
+        elif _would_gain(denial):
+            found.gaining[name] += 1
+        else:
+            for access in denial.accesses:
+                target = _target(access, log, matched)
+                _want(wanted.setdefault(target, _Wanted()), access.objection, (0, number), _command(denial))
+    found.rules = {target: list(_rules(wanted[target])) for target in sorted(wanted, key=lambda it: it.layer or 0)}
+    return found
+
+
+def _name(denial: Denial) -> str:
+    return "-" if denial.call is None else denial.call.name
+
+
+def _is_grantable(objection: Objection) -> bool:
+    """Whether a rule can fix an objection; no policy can name a path that is not UTF-8."""
+    match objection:
+        case Missing(rights=rights, path=path):
+            return set(rights) <= FS.since.keys() and not any(map(_is_no_text, path))
+        case Closed(rights=rights):
+            return set(rights) <= NET.since.keys()
+    return False
+
+
+def _is_no_text(character: str) -> bool:
+    """Whether a character stands for a byte that is not UTF-8 (PEP 383)."""
+    return "\ud800" <= character <= "\udfff"
+
+
+def _would_gain(denial: Denial) -> bool:
+    """Whether the rights of a move or a link are not those that it asks for.
+
+    By itself, a call asks `refer` on both directories, and the right to make or to remove one object on each. It lists
+    all that a directory lacks if the object would gain a right by the move.
+    """
+    asked = [set(access.objection.rights) for access in denial.accesses if isinstance(access.objection, Missing)]
+    if not any("refer" in rights for rights in asked):
+        return False
+    return any(rights - _ON_NAMES or len(rights & _MAKING) > 1 or len(rights & _REMOVING) > 1 for rights in asked)
+
+
+def _target(access: Access, log: Log, matched: Matched | None) -> Target:
+    if matched is not None:
+        return Target(matched.layers[access.domain], "")
+    return Target(None, maker_of(log.domains[access.domain]))
+
+
+def _command(denial: Denial) -> str:
+    """The command line of the program, with dots where the kernel cut it."""
+    words, length = shlex.join(denial.command), len(os.fsencode("\0".join(denial.command)))
+    return words if length < LONGEST_COMMAND - 1 else f"{words}.."
+
+
+def _want(wanted: _Wanted, objection: Objection, call: wants.Call, command: str) -> None:
+    """Adds what one objection lacks."""
+    match objection:
+        case Missing(rights=rights, path=path):
+            spot = _spot(path)
+            wanted.spots.append(spot)
+            wants.unite(wanted.paths, {spot.place: {right: {call} for right in rights}})
+            if command:
+                wanted.asked_by[spot.place].add(command)
+        case Closed(rights=rights, port=port):
+            wants.unite(wanted.ports, {port: {right: {call} for right in rights}})
+
+
+def _spot(path: str) -> Spot:
+    """Where the rule for a path is: above the files of a process, and above a file that was removed."""
+    process = varying.of_process(path)
+    if process is not None:
+        return Spot(directory_of(process), path, Cause.OF_PROCESS)
+    if path.endswith(_REMOVED):
+        return Spot(directory_of(path), path.removesuffix(_REMOVED), Cause.MADE)
+    return Spot(path, path)
+
+
+def _rules(wanted: _Wanted) -> Iterator[Rule]:
+    """The rules for what is lacking; those on directories say which commands asked for a name there."""
+    for rule in wants.rules(Wanted(wanted.paths, wanted.spots, wanted.ports)):
+        yield replace(rule, remarks=(*_on_names(rule, wanted.asked_by), *rule.remarks))
+
+
+def _on_names(rule: Rule, asked_by: Mapping[str, Iterable[str]]) -> Iterator[str]:
+    """A remark on a rule that is on a directory because of a name in it."""
+    if isinstance(rule.place, str) and rule.rights & _ON_NAMES:
+        commands = sorted(asked_by.get(rule.place, ()))
+        yield f"{NO_NAME}{f'; asked by: {some_of(commands)}' if commands else ''})"
+

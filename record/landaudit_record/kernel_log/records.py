@@ -1,0 +1,170 @@
+"""Records of the kernel's audit, one a line, as auditd, journalctl and dmesg write them.
+
+    type=UNKNOWN[1423] msg=audit(1795939711.837:268): domain=12b597e21 blockers=fs.make_dir path="/a" dev="vda" ino=1
+    [ 2055.030941] audit: type=1423 audit(1795939649.573:260): domain=12b597d8e blockers=fs.make_dir ..
+
+auditd may write a host before a record and, after a separator, names for the numbers in it. The kernel writes a text in
+quotes, or in hexadecimal digits if it has a blank, a quote, or a byte that is not a plain character.
+"""
+
+from __future__ import annotations
+
+import os
+import re
+from collections.abc import Iterable, Iterator, Mapping
+from dataclasses import dataclass, field
+from enum import IntEnum
+
+
+class Kind(IntEnum):
+    """The types of records that tell of a denial (linux/audit.h); another type is OTHER."""
+
+    OTHER = 0
+    SYSCALL = 1300
+    PROCTITLE = 1327
+    URINGOP = 1336
+    ACCESS = 1423
+    DOMAIN = 1424
+
+
+#: The types that only Landlock has.
+OF_LANDLOCK = frozenset({Kind.ACCESS, Kind.DOMAIN})
+_BY_NAME = {
+    "SYSCALL": Kind.SYSCALL,
+    "PROCTITLE": Kind.PROCTITLE,
+    "URINGOP": Kind.URINGOP,
+    "LANDLOCK_ACCESS": Kind.ACCESS,
+    "LANDLOCK_DOMAIN": Kind.DOMAIN,
+    **{f"{form}{kind.value}{end}": kind for kind in Kind for form, end in (("", ""), ("UNKNOWN[", "]"))},
+}
+_STAMP = rb"audit\(([0-9]+)\.([0-9]{3}):([0-9]+)\) ?: ?(.*)"
+#: A record as auditd writes it, and as the kernel prints it.
+_BY_AUDITD = re.compile(rb"(?:node=\S+ )?type=(\S+) msg=" + _STAMP, re.DOTALL)
+_PRINTED = re.compile(rb"(?:^|.*?\s)audit: type=([0-9]+) " + _STAMP, re.DOTALL)
+#: A line of a record of Landlock, in whatever form.
+_ABOUT_LANDLOCK = re.compile(
+    rb"""[^"]*?(?:^|\s)(?:type=)?(?:LANDLOCK_(?:ACCESS|DOMAIN)|UNKNOWN\[142[34]\]|(?<=type=)142[34])(?:\s|$)"""
+)
+#: Before the names that auditd adds.
+_SEPARATOR = b"\x1d"
+_FIELD = re.compile(rb'([A-Za-z0-9_-]+)=(?:"([^"]*)"|([^\s"]*))(?:\s+|$)')
+_HEXADECIMAL = re.compile(rb"(?:[0-9A-F]{2})+")
+#: The fields that have texts: what a record writes without quotes is in hexadecimal digits.
+_TEXTS = frozenset({b"path", b"name", b"exe", b"comm", b"ocomm", b"proctitle", b"dev"})
+#: How many characters are shown of what can't be read.
+_SHOWN = 40
+
+
+@dataclass(frozen=True, order=True)
+class Stamp:
+    """When an event was, in milliseconds since 1970, and its serial number: all records of one event have the same."""
+
+    milliseconds: int
+    serial: int
+
+
+@dataclass(frozen=True)
+class Record:
+    """A record: what it is of, its fields, and the names that auditd added."""
+
+    kind: Kind
+    stamp: Stamp
+    fields: Mapping[str, str] = field(default_factory=dict)
+    added: Mapping[str, str] = field(default_factory=dict)
+
+
+@dataclass(frozen=True)
+class Unread:
+    """A line that is a record of Landlock and can't be read, with its place and the reason."""
+
+    place: str
+    why: str
+
+    def __str__(self) -> str:
+        return f"{self.place}: {self.why}"
+
+
+@dataclass(frozen=True)
+class Lost:
+    """A line by which records were lost: its place, and what it says."""
+
+    place: str
+    said: str
+
+    def __str__(self) -> str:
+        return f"{self.place}: {self.said}"
+
+
+#: How the kernel and journald say that records were lost (kernel/audit.c, lib/ratelimit.c, journald-kmsg.c).
+_LOSSES = re.compile(
+    rb"audit_lost=[1-9][0-9]*|audit: (?:rate limit|backlog limit) exceeded|audit: audit_backlog=[0-9]+ > "
+    rb"audit_backlog_limit=[0-9]+|audit: kauditd \w+ queue overflow|audit: out of memory in audit_log_start|"
+    rb"kauditd_printk_skb: [0-9]+ callbacks suppressed|Missed [0-9]+ kernel messages"
+)
+
+Line = Record | Unread | Lost
+
+
+class Cut(Exception):
+    """A record that does not end as it should, or that misses what it should have."""
+
+
+def read(name: str, lines: Iterable[bytes]) -> Iterator[tuple[str, Line]]:
+    """The records of a log, what can't be read of those of Landlock, and what says that some were lost; with places."""
+    for number, line in enumerate(lines, start=1):
+        place = f"{name}:{number}"
+        found = _record(line.rstrip(b"\r\n\0"), place)
+        if found is not None:
+            yield place, found
+
+
+def _record(line: bytes, place: str) -> Line | None:
+    """What a line says; None if it is no record of the kernel's audit."""
+    match = _BY_AUDITD.match(line) or _PRINTED.match(line)
+    if match is None:
+        loss = _LOSSES.search(line)
+        if loss is not None:
+            return Lost(place, os.fsdecode(loss[0]))
+        if _ABOUT_LANDLOCK.match(line):
+            return Unread(place, "has no audit(TIME:SERIAL) as the kernel writes it: give the log as auditd or "
+                                 "journalctl -k writes it")
+        return None
+    kind = _BY_NAME.get(os.fsdecode(match[1]), Kind.OTHER)
+    stamp = Stamp(int(match[2]) * 1000 + int(match[3]), int(match[4]))
+    if kind is Kind.OTHER:
+        return Record(kind, stamp)
+    own, _, added = match[5].partition(_SEPARATOR)
+    if kind not in OF_LANDLOCK:
+        return Record(kind, stamp, _some_fields(own), _some_fields(added))
+    try:
+        return Record(kind, stamp, _fields(own), _some_fields(added))
+    except Cut as fault:
+        return Unread(place, str(fault))
+
+
+def _fields(text: bytes) -> dict[str, str]:
+    """All fields of a record, each with its text decoded."""
+    found: dict[str, str] = {}
+    text, at = text.strip(), 0
+    while at < len(text):
+        match = _FIELD.match(text, at)
+        value = None if match is None else _value(match)
+        if match is None or value is None:
+            raise Cut(f"can't be read from {os.fsdecode(text[at:at + _SHOWN])!r} on: is it cut?")
+        found[match[1].decode("ascii")] = os.fsdecode(value)
+        at = match.end()
+    return found
+
+
+def _some_fields(text: bytes) -> dict[str, str]:
+    """Those fields of a record that can be read: security modules add labels of any form to some records."""
+    values = ((match[1].decode("ascii"), _value(match)) for match in _FIELD.finditer(text))
+    return {name: os.fsdecode(value) for name, value in values if value is not None}
+
+
+def _value(match: re.Match[bytes]) -> bytes | None:
+    """The value of a field; None if it stands for nothing, or has half a byte."""
+    name, quoted, bare = match.groups()
+    if quoted is not None or name not in _TEXTS:
+        return bare if quoted is None else quoted
+    return bytes.fromhex(bare.decode("ascii")) if _HEXADECIMAL.fullmatch(bare) else None

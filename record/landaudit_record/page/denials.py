@@ -1,0 +1,100 @@
+"""What the kernel's log says of denials as a page, in the form of an audit's page and with its style and script."""
+
+from __future__ import annotations
+
+from collections import Counter
+from collections.abc import Iterable, Iterator, Mapping
+from pathlib import Path
+
+from ..kernel_log import text
+from ..kernel_log.counting import Counted
+from ..summary import Refusal
+from ..summary_text import names, why
+from ..wording import counted
+from . import links, put, sections, whole
+from .markup import Markup, element, together
+from .sections import Section, named, paragraph, row, table, words_filter
+
+_HEADS = ("times", "call", "place", "error", "why", "layers", "program")
+
+
+def write(file: Path, title: str, found: Counted, rules: Iterable[str]) -> None:
+    """Writes the page of a log, either whole or not at all."""
+    put(file, made(title, found, rules).encode())
+
+
+def made(title: str, found: Counted, rules: Iterable[str]) -> str:
+    """The page of a log, with the rules as TOML."""
+    parts = [part for part in _parts(found, rules) if part.inside]
+    top = element("header", element("h1", title), element("p", f"{text.in_short(found)}.", kind="quiet"))
+    first = (_figures(found), sections.not_judged(found.summary, "Not all is logged. "), _warnings(found))
+    main = element("main", *first, *(part.markup() for part in parts))
+    return whole(title, together((top, element("nav", links(parts)), main)))
+
+
+def _parts(found: Counted, rules: Iterable[str]) -> Iterator[Section]:
+    """All parts that the page may have, in their order."""
+    refused = dict(found.summary.by_frequency())
+    yield Section("refused", "Refused", _refused(refused))
+    yield Section("same", "Logged, and succeeded all the same", _table("moot", found.succeeded))
+    yield Section("above", "Rules of the policy", _above(found))
+    yield Section("rules", "Rules for these", element("pre", "\n".join(rules), kind="path"))
+    yield Section("domains", "Domains", _domains(found))
+
+
+def _figures(found: Counted) -> Markup:
+    """The counts in one line."""
+    succeeded = sum(programs.total() for programs in found.succeeded.values())
+    figures = (
+        (found.log.records, "records of the kernel's audit", ""),
+        (found.summary.verdicts["refused"], "calls refused", "refused" if found.summary.refusals else "none"),
+        (succeeded, "succeeded all the same", "moot"),
+        (len(found.log.domains), "domains", ""),
+    )
+    told = (element("div", element("b", f"{number:,}"), " ", element("span", what), kind=kind)
+            for number, what, kind in figures)
+    return element("div", *told, kind="figures")
+
+
+def _warnings(found: Counted) -> Markup:
+    warnings = [*found.summary.warnings, *([] if found.log.denials else [text.ONLY_ASKED])]
+    return element("ul", *(element("li", named(told)) for told in warnings), kind="warnings") if warnings else Markup()
+
+
+def _refused(refusals: Mapping[Refusal, Counter[str]]) -> Markup:
+    """The table of refusals, with the field for words that a row must have."""
+    if not refusals:
+        return paragraph("The log has no call that Landlock refused.")
+    calls = sum(programs.total() for programs in refusals.values())
+    told = paragraph(f"{counted(calls, 'call')}, in {counted(len(refusals), 'kind')}.")
+    return together((told, words_filter(), _table("refusals", refusals)))
+
+
+def _table(kind: str, refusals: Mapping[Refusal, Counter[str]]) -> Markup:
+    return table(kind, _HEADS, map(_row, refusals.items())) if refusals else Markup()
+
+
+def _row(item: tuple[Refusal, Counter[str]]) -> Markup:
+    """A kind of denied calls."""
+    refusal, programs = item
+    layers = ", ".join(layer.name for layer in refusal.layers)
+    return row(f"{programs.total():,}", refusal.call, named(refusal.place), refusal.error, named(why(refusal)),
+               named(layers), named(names(programs)))
+
+
+def _above(found: Counted) -> Markup:
+    """The rules of the policy on what was refused, or above it."""
+    rows = (row(str(rule.layer), rule.rule, named(rule.place), ", ".join(rule.rights), text.lacking(some))
+            for rule, some in text.by_weight(found.above))
+    told = paragraph("Rules on what was refused or above it, the rights that each grants, and those that were lacking.")
+    heads = ("layer", "rule", "place", "rights", "lacking")
+    return together((told, table("rules", heads, rows))) if found.above else Markup()
+
+
+def _domains(found: Counted) -> Markup:
+    """The layers that refused something, by their numbers in the kernel."""
+    rows = (row(*map(named, text.domain_row(domain, found.matched))) for domain in found.log.domains.values())
+    heads = ("domain", "made by", "process", "logged", "counted", "layer")
+    told = paragraph("A domain is a layer of running processes. When the last of them ends, the kernel logs how many "
+                     "denials there were.")
+    return together((told, table("domains", heads, rows))) if found.log.domains else Markup()
