@@ -18,7 +18,6 @@ from typing import Any
 from unittest import mock
 
 from landaudit_record import cli, policies
-from landaudit_record.answers import Missing
 from landaudit_record.commands import denials as command
 from landaudit_record.kernel_log import counting, data, granting, matching, text
 from landaudit_record.page import denials as page
@@ -305,6 +304,17 @@ class Rules(unittest.TestCase):
             self.assertEqual(found, [])
             self.assertIn("# 1 call is refused whatever the rules are: mkdir 1", said)
 
+    def test_a_file_that_the_call_makes(self) -> None:
+        """The kernel makes a file before it refuses to open it: no rule can be on it before the run."""
+        text_of = line(ACCESS).replace('"/a"', '"/tmp/new"').replace("make_dir", "write_file")
+        flags = {"c1": "/tmp", "41": "/tmp/new", "1": "/tmp/new"}
+        for number, flag in ((2, "a1"), (257, "a2")):
+            for value, parent in flags.items():
+                call = line(CALL).replace("syscall=83", f"syscall={number} {flag}={value}")
+                (rule,), said = self.rules("\n".join([text_of, line(DOMAIN), call]))
+                self.assertEqual(rule["parent"], parent)
+                self.assertEqual("(for what the run makes there: new)" in said, parent == "/tmp")
+
     def test_files_of_a_process_and_removed_files(self) -> None:
         for path, parent in (("/proc/123/maps", "/proc"), ("/tmp/gone (deleted)", "/tmp")):
             one = line(ACCESS).replace('"/a"', path.encode().hex().upper()).replace("make_dir", "read_file")
@@ -325,25 +335,34 @@ class Rules(unittest.TestCase):
 class Gains(unittest.TestCase):
     """Moves and links: what is in the record is granted only if it is what the call asked."""
 
-    def gains(self, *rights: str) -> bool:
-        parts = [f"{line(ACCESS).partition('fs.')[0]}{','.join(f'fs.{right}' for right in rights)} path=\"/a\" ino=1"]
-        (denial,) = read("\n".join(parts)).denials
-        assert isinstance(denial.accesses[0].objection, Missing)
-        found = granting.grant(read("\n".join(parts)))
+    def gains(self, call: str, *rights: str, path: str = "/a") -> bool:
+        """Whether a call that lacks these rights on a directory is taken to be one by which an object would gain."""
+        blockers = ",".join(f"fs.{right}" for right in rights)
+        log = [f'{line(ACCESS).partition("fs.")[0]}{blockers} path="{path}" ino=1', line(DOMAIN), call]
+        found = granting.grant(read("\n".join(log)))
         return bool(found.gaining)
 
     def test_what_a_call_asks_by_itself(self) -> None:
-        for rights in (("refer",), ("refer", "make_reg"), ("remove_file", "refer"),
-                       ("remove_dir", "make_dir", "refer")):
-            self.assertFalse(self.gains(*rights), rights)
+        for rights in (("refer",), ("refer", "make_reg"), ("remove_file", "refer"), ("remove_dir", "make_dir", "refer"),
+                       ("remove_file", "make_reg"), ("remove_file", "remove_dir", "make_reg", "make_dir")):
+            self.assertFalse(self.gains(line(CALL).replace("=83 ", "=82 "), *rights), rights)
 
     def test_what_lists_all_that_is_lacking(self) -> None:
+        """Linux 6.18 lists all that the layer handles and does not grant: write_file alone, if it grants the rest."""
         for rights in (("refer", "execute"), ("refer", "make_reg", "make_dir"), ("write_file", "refer", "truncate"),
-                       ("remove_file", "remove_dir", "refer")):
-            self.assertTrue(self.gains(*rights), rights)
+                       ("remove_file", "remove_dir", "refer"), ("write_file",)):
+            for number in (82, 86, 264, 265, 316):
+                self.assertTrue(self.gains(line(CALL).replace("=83 ", f"={number} "), *rights), rights)
 
     def test_other_calls(self) -> None:
-        self.assertFalse(self.gains("write_file", "read_file"))
+        for rights in (("write_file", "read_file"), ("write_file",), ("make_dir",)):
+            self.assertFalse(self.gains(line(CALL), *rights))
+
+    def test_without_a_record_of_the_call_a_right_of_files_on_a_directory_is_one_of_a_move(self) -> None:
+        self.assertTrue(self.gains("", "write_file", path="/usr"))
+        for rights in (("read_dir",), ("make_reg",), ("refer",)):
+            self.assertFalse(self.gains("", *rights, path="/usr"))
+        self.assertFalse(self.gains("", "write_file", path="/etc/passwd"))
 
 
 class Page(unittest.TestCase):

@@ -7,6 +7,7 @@ and how the kernel answered them; what the fields mean is in the kernel's Docume
 
 from __future__ import annotations
 
+import json
 import random
 import re
 import unittest
@@ -14,7 +15,7 @@ from collections.abc import Iterable
 from pathlib import Path
 
 from landaudit_record.answers import Closed, Missing, Mounting, Objection, Scoped, Tracing
-from landaudit_record.kernel_log import calls, denials, records
+from landaudit_record.kernel_log import calls, counting, data, denials, granting, records
 from landaudit_record.kernel_log.denials import Denial, Log
 from landaudit_record.kernel_log.records import Unread
 
@@ -152,7 +153,8 @@ class Real(unittest.TestCase):
                 self.assertEqual(len(said), len(lacking))
                 for word, text in zip(lacking, said):
                     self.assertIn(word, text)
-                self.assertEqual([*log.not_known()], [])
+                printed = name == "dmesg.log"
+                self.assertEqual(["at most ten records" in one for one in log.not_known()], [True] * printed)
                 for denial in log.denials:
                     assert denial.call is not None
                     self.assertIn(denial.call.name, ("mkdir", "openat", "connect", "kill"))
@@ -222,6 +224,19 @@ class Missed(unittest.TestCase):
                 self.assertTrue(said.startswith("log1:1: "), said)
                 self.assertTrue(said.endswith(": records were lost"), said)
 
+    def test_as_many_records_as_the_kernel_prints(self) -> None:
+        """It prints ten in five seconds by default (Documentation/admin-guide/sysctl/kernel.rst, printk_ratelimit)."""
+        def printed(number: int, seconds: int) -> str:
+            return "\n".join(f"audit: type=1327 audit({1000 + index * seconds}.000:{index}): proctitle=61"
+                             for index in range(number))
+
+        self.assertEqual(self.said(printed(9, 0)), [])
+        self.assertEqual(self.said(printed(30, 1)), [])
+        (said,) = self.said(printed(10, 0))
+        self.assertTrue(said.startswith("log1:10: the kernel prints at most ten records in five seconds"))
+        by_auditd = printed(30, 0).replace("audit: type=1327 ", "type=PROCTITLE msg=")
+        self.assertEqual(self.said(by_auditd), [])
+
     def test_a_record_that_is_cut(self) -> None:
         """The kernel prints at most a thousand bytes of a record: what is read of those must be whole."""
         for form in (ACCESS, DOMAIN, ENDED):
@@ -253,6 +268,20 @@ class Missed(unittest.TestCase):
                      line(DOMAIN).replace("allocated", "born"), line(ENDED).replace("denials=1", "denials=x")):
             with self.subTest(text):
                 self.assertEqual(len(read(text).unread), 1)
+
+    def test_no_log_is_too_odd_to_be_read(self) -> None:
+        """Logs with some bytes changed, removed and doubled: all that is read of them can be counted and written."""
+        chance = random.Random(3)
+        text = kept("netlink.log")[:20_000] + kept("dmesg.log") + kept("auditd-4.0.2.log")
+        for _ in range(60):
+            odd = bytearray(text)
+            for _ in range(200):
+                at = chance.randrange(len(odd))
+                odd[at:at + chance.randrange(3)] = chance.choice((b"", b"0", b"\xff", b'"', b" ", b"=", b"-", b"F" * 9))
+            log = read(bytes(odd))
+            found = counting.count(log)
+            written = json.dumps(data.as_data(found, granting.grant(log)))
+            self.assertEqual(json.loads(written)["denied"], len(log.denials))
 
     def test_other_lines_are_passed_over(self) -> None:
         """Also one of a command whose words look like a record."""

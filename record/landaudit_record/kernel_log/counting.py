@@ -14,6 +14,8 @@ from .matching import Matched, RuleAbove
 
 NO_CALLS = ("have no record of their call, so its program, its name and how it ended are not known: an audit rule such "
             "as '-a never,task' switches these records off")
+NO_END = ("did not end in the log, so it is not known how many denials there were: processes ran on, or records were "
+          "lost")
 #: The word for what a log does not have.
 NOT_SAID = "-"
 
@@ -127,6 +129,9 @@ def _warnings(found: Counted) -> Iterator[str]:
     without = sum(1 for denial in found.log.denials if denial.call is None)
     if without:
         yield f"{counted(without, 'denial')} {NO_CALLS}"
+    alive = sum(1 for domain in found.log.domains.values() if domain.counted is None)
+    if alive:
+        yield f"{counted(alive, 'domain')} {NO_END}"
     if found.matched is None:
         return
     name = found.matched.policy.path

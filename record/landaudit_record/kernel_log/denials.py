@@ -8,9 +8,10 @@ from __future__ import annotations
 
 import errno
 import os
-from collections import Counter, OrderedDict
+from collections import Counter, OrderedDict, deque
 from collections.abc import Iterable, Iterator, Mapping, Sequence
 from dataclasses import dataclass, field, replace
+from enum import Enum
 
 from ..answers import Objection
 from ..wording import counted
@@ -20,18 +21,36 @@ from .records import OF_LANDLOCK, Cut, Kind, Line, Lost, Record, Stamp, Unread
 
 #: The records of other events that are kept, in case a record of Landlock comes behind that of its call.
 _MOST_WAITING = 10_000
+#: The kernel prints so many records in so many milliseconds at most (printk_ratelimit, by default), and may say that it
+#: left out others only when it prints the next one.
+_MOST_PRINTED, _PRINTED_WITHIN = 10, 5_000
+LIMITED = ("the kernel prints at most ten records in five seconds (kernel.printk_ratelimit), and here are ten: others "
+           "may be missing, which the log of auditd would have")
 #: The length at which the kernel cuts a command line (MAX_PROCTITLE_AUDIT_LEN).
 LONGEST_COMMAND = 128
+#: The fields of a domain's records that are numbers.
+_NUMBERS = frozenset({"pid", "uid", "denials"})
+#: The argument with the flags of a call, and the flags by which it makes a file (asm-generic/fcntl.h).
+_FLAGS = {"open": "a1", "openat": "a2"}
+_O_CREAT, _O_EXCL = 0o100, 0o200
 _ALLOCATED, _DEALLOCATED = "allocated", "deallocated"
 
 
 @dataclass(frozen=True)
 class Access:
-    """One record of a denial: the domain, which is that of the youngest layer that refuses, its objection and where."""
+    """One record of a denial: the domain whose youngest layer refuses, what that objects to, and where."""
 
     domain: str
     objection: Objection
     place: str
+
+
+class Making(Enum):
+    """Whether a call that opens a file makes it: it does, it does if the file is not there, or it does not."""
+
+    NEW = "new"
+    IF_NEEDED = "if needed"
+    NO = "no"
 
 
 @dataclass(frozen=True)
@@ -44,6 +63,7 @@ class Call:
     pid: int | None
     error: str | None
     succeeded: bool
+    making: Making = Making.NO
 
 
 @dataclass(frozen=True)
@@ -76,7 +96,8 @@ class Maker:
 
 @dataclass(frozen=True)
 class Domain:
-    """A layer of running processes, by the number that the kernel gives it, and who made it, if the log says so.
+    """A domain by the number that the kernel gives it; the layer that refuses is its youngest one. `maker` is the
+    process that made that layer, if the log says so.
 
     `logged` is how many denials of it the log has. When the last of its processes has ended, the kernel logs how many
     there were, `counted`.
@@ -97,14 +118,16 @@ class Domain:
 class Log:
     """All that logs say of Landlock: denials in the order of time, domains by number, and what is not known.
 
-    `records` counts the records of the kernel's audit of any kind; `first` and `last` are the times of these, in
-    milliseconds since 1970.
+    `limited` has the places from which on the kernel may have printed no more records for some seconds. `records`
+    counts the records of the kernel's audit of any kind; `first` and `last` are the times of these, in milliseconds
+    since 1970.
     """
 
     denials: tuple[Denial, ...] = ()
     domains: Mapping[str, Domain] = field(default_factory=dict)
     unread: tuple[Unread, ...] = ()
     lost: tuple[Lost, ...] = ()
+    limited: tuple[str, ...] = ()
     records: int = 0
     first: int | None = None
     last: int | None = None
@@ -115,6 +138,7 @@ class Log:
             yield ("the log has no record of the kernel's audit: is it switched on (auditctl -e 1, or audit=1 at "
                    "boot), and is this its log?")
         yield from (f"{one}: records were lost" for one in self.lost)
+        yield from (f"{place}: {LIMITED}" for place in self.limited)
         yield from (f"{one.place}: a record of Landlock {one.why}" for one in self.unread)
         for domain in self.domains.values():
             if domain.not_logged:
@@ -143,8 +167,10 @@ class _Reader:
         self.events: dict[Stamp, _Event] = {}
         self.unread: list[Unread] = []
         self.lost: list[Lost] = []
+        self.limited: list[str] = []
         self.records = 0
         self.times: list[int] = []
+        self._printed: deque[int] = deque(maxlen=_MOST_PRINTED)
         self._waiting: OrderedDict[Stamp, _Event] = OrderedDict()
 
     def take(self, line: Line, place: str) -> None:
@@ -156,6 +182,8 @@ class _Reader:
                 self.lost.append(line)
             case Record():
                 self._count(line.stamp.milliseconds)
+                if line.printed:
+                    self._watch_limit(line.stamp.milliseconds, place)
                 if line.kind in OF_LANDLOCK:
                     self._of_landlock(line, place)
                 elif line.kind is not Kind.OTHER:
@@ -165,6 +193,13 @@ class _Reader:
         self.records += 1
         self.times = [min(time, *self.times), max(time, *self.times)] if self.times else [time, time]
 
+    def _watch_limit(self, time: int, place: str) -> None:
+        """Notes where so many records were printed in so short a time that the kernel may have left out others."""
+        self._printed.append(time)
+        if len(self._printed) == _MOST_PRINTED and time - self._printed[0] <= _PRINTED_WITHIN:
+            self.limited.append(place)
+            self._printed.clear()
+
     def _of_landlock(self, record: Record, place: str) -> None:
         """Takes a record of Landlock, with those of its event that came before."""
         event = self.events.get(record.stamp)
@@ -172,12 +207,12 @@ class _Reader:
             self.events[record.stamp] = event = self._waiting.pop(record.stamp, _Event())
         try:
             if record.kind is Kind.ACCESS:
-                domain, found = _needed(record, "domain"), objection(record.fields)
-                event.accesses.append(Access(domain, found, place_of(found, record.fields)))
+                found = objection(record.fields)
+                event.accesses.append(Access(_domain(record), found, place_of(found, record.fields)))
             else:
                 _check_domain(record)
                 event.domains.append(record)
-        except (Cut, ValueError) as fault:
+        except Cut as fault:
             self.unread.append(Unread(place, str(fault)))
 
     def _other(self, record: Record) -> None:
@@ -197,16 +232,25 @@ def _needed(record: Record, name: str) -> str:
     return record.fields[name]
 
 
+def _domain(record: Record) -> str:
+    """The number of a domain, in hexadecimal digits."""
+    number = _needed(record, "domain")
+    if _number(number, 16) is None:
+        raise Cut(f"has the domain {number!r}")
+    return number
+
+
 def _check_domain(record: Record) -> None:
     """Raises Cut if a record of a domain has not what is read of it."""
+    _domain(record)
     status = _needed(record, "status")
     names = {_ALLOCATED: ("pid", "uid", "exe", "comm"), _DEALLOCATED: ("denials",)}.get(status)
     if names is None:
         raise Cut(f"has the unknown status {status!r}")
-    for name in ("domain", *names):
+    for name in names:
+        if name in _NUMBERS and _number(_needed(record, name)) is None:
+            raise Cut(f"has no number as {name}")
         _needed(record, name)
-    for name in {"pid", "uid", "denials"} & set(names):
-        int(record.fields[name])
 
 
 def read(logs: Iterable[Iterable[tuple[str, Line]]]) -> Log:
@@ -228,6 +272,7 @@ def read(logs: Iterable[Iterable[tuple[str, Line]]]) -> Log:
         _domains([event for _, event in ordered]),
         tuple(one for reader in readers for one in reader.unread),
         tuple(one for reader in readers for one in reader.lost),
+        tuple(place for reader in readers for place in reader.limited[:1]),
         sum(reader.records for reader in readers),
         min(times, default=None),
         max(times, default=None),
@@ -248,14 +293,26 @@ def _call(record: Record) -> Call:
     fields = record.fields
     exit_code = _number(fields.get("exit"))
     error = None if exit_code is None or exit_code >= 0 else errno.errorcode.get(-exit_code)
+    name = _name_of_call(record)
     return Call(
-        _name_of_call(record),
+        name,
         fields.get("exe"),
         fields.get("comm"),
         _number(fields.get("pid")),
         error,
         fields.get("success") == "yes",
+        _making(name, fields),
     )
+
+
+def _making(name: str, fields: Mapping[str, str]) -> Making:
+    """Whether a call makes the file that it opens, by its flags (open(2)); those of openat2 are not in the record."""
+    if name == "creat":
+        return Making.IF_NEEDED
+    flags = _number(fields.get(_FLAGS.get(name, "")), 16) or 0
+    if not flags & _O_CREAT:
+        return Making.NO
+    return Making.NEW if flags & _O_EXCL else Making.IF_NEEDED
 
 
 def _name_of_call(record: Record) -> str:
@@ -266,17 +323,13 @@ def _name_of_call(record: Record) -> str:
     added = record.added.get("SYSCALL", "")
     if added and not added.startswith("unknown"):
         return added
-    try:
-        architecture = int(record.fields.get("arch", ""), 16)
-    except ValueError:
-        architecture = 0
-    return "-" if number is None else calls.name(architecture, number)
+    return "-" if number is None else calls.name(_number(record.fields.get("arch"), 16) or 0, number)
 
 
-def _number(text: str | None) -> int | None:
-    """A decimal number, None if it is none."""
+def _number(text: str | None, base: int = 10) -> int | None:
+    """A number, None if the text is none."""
     try:
-        return None if text is None else int(text)
+        return None if text is None else int(text, base)
     except ValueError:
         return None
 

@@ -17,12 +17,12 @@ from dataclasses import dataclass, field, replace
 from .. import varying, wants
 from ..answers import Closed, Missing, Objection
 from ..placing import Cause, Spot
-from ..rights import FS, NET
+from ..rights import FILE_RIGHTS, FS, NET
 from ..trees import directory_of
 from ..wants import Lacking, OnPaths, Rule, Wanted
 from ..wording import some_of
 from .counting import maker_of
-from .denials import LONGEST_COMMAND, Access, Denial, Log
+from .denials import LONGEST_COMMAND, Access, Denial, Log, Making
 from .matching import Matched
 
 #: What d_path() adds to the path of an object that was removed.
@@ -31,6 +31,9 @@ _MAKING = frozenset(right for right in FS.since if right.startswith("make_"))
 _REMOVING = frozenset({"remove_dir", "remove_file"})
 #: The rights that a call asks on a directory for a name in it, which the log does not have.
 _ON_NAMES = _MAKING | _REMOVING | {"refer"}
+_OF_LISTS = frozenset({"read_dir"})
+#: The calls that move or link, and the operations of io_uring that do (io_uring.h).
+_MOVES = frozenset({"rename", "renameat", "renameat2", "link", "linkat", "io_uring 35", "io_uring 39"})
 NO_NAME = "(the log has the directory and not the name in it: this grants it for all names there"
 
 
@@ -83,14 +86,15 @@ def grant(log: Log, matched: Matched | None = None) -> Granted:
             found.unmended[name] += 1
         elif matched is not None and not all(access.domain in matched.layers for access in denial.accesses):
             found.of_others[name] += 1
-        elif matched is not None and all(matched.is_granted_now(access) for access in denial.accesses):
+        elif matched is not None and _is_granted_since(denial, matched):
             found.since[name] += 1
         elif _would_gain(denial):
             found.gaining[name] += 1
         else:
             for access in denial.accesses:
                 target = _target(access, log, matched)
-                _want(wanted.setdefault(target, _Wanted()), access.objection, (0, number), _command(denial))
+                place = _place(access, denial, matched)
+                _want(wanted.setdefault(target, _Wanted()), access.objection, place, (0, number), _command(denial))
     found.rules = {target: list(_rules(wanted[target])) for target in sorted(wanted, key=lambda it: it.layer or 0)}
     return found
 
@@ -114,16 +118,28 @@ def _is_no_text(character: str) -> bool:
     return "\ud800" <= character <= "\udfff"
 
 
+def _is_granted_since(denial: Denial, matched: Matched) -> bool:
+    """Whether the policy, as it is now, grants all that was denied; what came to the path of a rule is not granted."""
+    time = denial.stamp.milliseconds
+    return all(matched.is_granted_now(it) and not matched.is_made(it, time) for it in denial.accesses)
+
+
 def _would_gain(denial: Denial) -> bool:
     """Whether the rights of a move or a link are not those that it asks for.
 
     By itself, a call asks `refer` on both directories, and the right to make or to remove one object on each. It lists
-    all that a directory lacks if the object would gain a right by the move.
+    all that a directory lacks if the object would gain a right by the move. Without a record of the call, it is one if
+    a directory lacks a right that calls ask on files.
     """
-    asked = [set(access.objection.rights) for access in denial.accesses if isinstance(access.objection, Missing)]
-    if not any("refer" in rights for rights in asked):
+    objections = [access.objection for access in denial.accesses if isinstance(access.objection, Missing)]
+    asked = [set(objection.rights) for objection in objections]
+    if denial.call is None:
+        return any(set(it.rights) - _ON_NAMES - _OF_LISTS and os.path.isdir(it.path) for it in objections)
+    if denial.call.name not in _MOVES:
         return False
-    return any(rights - _ON_NAMES or len(rights & _MAKING) > 1 or len(rights & _REMOVING) > 1 for rights in asked)
+    between = len(asked) > 1 or any("refer" in rights for rights in asked)
+    several = any(len(rights & _MAKING) > 1 or len(rights & _REMOVING) > 1 for rights in asked)
+    return any(rights - _ON_NAMES for rights in asked) or between and several
 
 
 def _target(access: Access, log: Log, matched: Matched | None) -> Target:
@@ -138,27 +154,35 @@ def _command(denial: Denial) -> str:
     return words if length < LONGEST_COMMAND - 1 else f"{words}.."
 
 
-def _want(wanted: _Wanted, objection: Objection, call: wants.Call, command: str) -> None:
-    """Adds what one objection lacks."""
+def _place(access: Access, denial: Denial, matched: Matched | None) -> Spot | None:
+    """Where the rule for what is lacking on a path can be."""
+    objection = access.objection
+    if not isinstance(objection, Missing):
+        return None
+    path, made = objection.path, denial.call is not None and denial.call.making is Making.NEW
+    process = varying.of_process(path)
+    if process is not None:
+        return Spot(directory_of(process), path, Cause.OF_PROCESS)
+    if path.endswith(_REMOVED):
+        return Spot(directory_of(path), path.removesuffix(_REMOVED), Cause.MADE)
+    if matched is not None and matched.is_made(access, denial.stamp.milliseconds):
+        making = denial.call is not None and denial.call.making is not Making.NO
+        return Spot(directory_of(path), path, Cause.MADE if making else Cause.REPLACED)
+    if made and set(objection.rights) <= FILE_RIGHTS:
+        return Spot(directory_of(path), path, Cause.MADE)
+    return Spot(path, path)
+
+
+def _want(wanted: _Wanted, objection: Objection, spot: Spot | None, call: wants.Call, command: str) -> None:
+    """Adds what one objection lacks, at the place of its rule."""
     match objection:
-        case Missing(rights=rights, path=path):
-            spot = _spot(path)
+        case Missing(rights=rights) if spot is not None:
             wanted.spots.append(spot)
             wants.unite(wanted.paths, {spot.place: {right: {call} for right in rights}})
             if command:
                 wanted.asked_by[spot.place].add(command)
         case Closed(rights=rights, port=port):
             wants.unite(wanted.ports, {port: {right: {call} for right in rights}})
-
-
-def _spot(path: str) -> Spot:
-    """Where the rule for a path is: above the files of a process, and above a file that was removed."""
-    process = varying.of_process(path)
-    if process is not None:
-        return Spot(directory_of(process), path, Cause.OF_PROCESS)
-    if path.endswith(_REMOVED):
-        return Spot(directory_of(path), path.removesuffix(_REMOVED), Cause.MADE)
-    return Spot(path, path)
 
 
 def _rules(wanted: _Wanted) -> Iterator[Rule]:

@@ -1,23 +1,23 @@
 """The layers and rules of a policy that denials are about.
 
 The kernel names the youngest layer that refuses a call, by a number that only this run has, and lists the rights that
-this layer lacks. So the denial is of the youngest layer of the policy that lacks all of them. The parents of the policy
-lead where they lead on this machine, and the paths of a log are real ones.
+this layer lacks. The parents of the policy lead where they lead on this machine, and the paths of a log are real ones.
 """
 
 from __future__ import annotations
 
 import os
 from collections import Counter
-from collections.abc import Iterable, Iterator, Mapping
-from dataclasses import dataclass, field
+from collections.abc import Iterable, Iterator, Mapping, Sequence
+from dataclasses import dataclass, field, replace
 from functools import cache
+from itertools import combinations
 
 from ..answers import Closed, Missing, Mounting, Objection, Scoped, Tracing
 from ..policies import Layer, PathRule, Policy, PortRule
 from ..rights import FS, NET
 from ..trees import upwards
-from .denials import Access, Log
+from .denials import Access, Log, Maker
 
 
 @dataclass(frozen=True)
@@ -34,12 +34,14 @@ class RuleAbove:
 class Matched:
     """What is known of a policy's part in a log: the layer of each domain.
 
-    A domain whose denials the policy does not explain has none, and those that would be of several layers are `unlike`.
+    A domain that is none of the policy's layers has none, and those of which some denials speak for one layer and some
+    for another are `unlike`. The policy's file was `changed` last at that time, in seconds since 1970.
     """
 
     policy: Policy
     layers: Mapping[str, int] = field(default_factory=dict)
     unlike: tuple[str, ...] = ()
+    changed: float = 0.0
 
     def layer_of(self, domain: str) -> Layer | None:
         """The layer of the policy that a domain is."""
@@ -51,6 +53,13 @@ class Matched:
         layer = self.layer_of(access.domain)
         return layer is not None and not refuses(layer, access.objection)
 
+    def is_made(self, access: Access, milliseconds: int) -> bool:
+        """Whether the layer has a rule on the very path of a later denial: then another object came there."""
+        layer, objection = self.layer_of(access.domain), access.objection
+        if layer is None or not isinstance(objection, Missing) or milliseconds < 1000 * self.changed:
+            return False
+        return not refuses(layer, objection) and refuses(_without_rules_on(layer, objection.path), objection)
+
     def rules_above(self, access: Access) -> Iterator[RuleAbove]:
         """The rules of the layer of a denial that are on its object or port, or above it."""
         layer = self.layer_of(access.domain)
@@ -59,16 +68,69 @@ class Matched:
 
 
 def match(log: Log, policy: Policy) -> Matched:
-    """Finds the layer of each domain: that of all of its denials that the policy, as it is now, refuses."""
-    votes: dict[str, Counter[int]] = {}
+    """Finds the layer of each domain.
+
+    A process gets its layers in their order, and their domains have ascending numbers. Of all ways to give its domains
+    ascending layers that handle what the domains refused, the one counts by which most denials are those of the
+    youngest layer that refuses them. Rules are compared by path, so that by itself a denial may seem to be of another
+    layer: an object that the program made, or put there, has not the rule that is on its path.
+    """
+    objections: dict[str, list[Objection]] = {}
     for denial in log.denials:
         for access in denial.accesses:
-            found = youngest(policy, access.objection)
-            if found is not None and not isinstance(access.objection, Tracing):
-                votes.setdefault(access.domain, Counter())[found] += 1
-    layers = {domain: next(iter(some)) for domain, some in votes.items() if len(some) == 1}
-    unlike = tuple(domain for domain, some in votes.items() if len(some) > 1)
-    return Matched(policy, layers, unlike)
+            objections.setdefault(access.domain, []).append(access.objection)
+    votes = {domain: Counter(_votes(policy, some)) for domain, some in objections.items()}
+    layers: dict[str, int] = {}
+    unlike: list[str] = []
+    for domains in _by_process(log, objections):
+        found = _best(policy, domains, objections, votes)
+        layers.update(found)
+        unlike += [domain for domain in domains if domain not in found and votes[domain]]
+    return Matched(policy, layers, tuple(unlike), policy.path.stat().st_mtime)
+
+
+def _votes(policy: Policy, objections: Iterable[Objection]) -> Iterator[int]:
+    """The youngest layer that refuses, of each denial by which the layers differ: all lack what ptrace asks for."""
+    for objection in objections:
+        found = None if isinstance(objection, Tracing) else youngest(policy, objection)
+        if found is not None:
+            yield found
+
+
+def _by_process(log: Log, refused: Iterable[str]) -> Iterator[list[str]]:
+    """The domains that each process made, the oldest first; a domain of which that is not known is alone."""
+    found: dict[Maker | str, list[str]] = {}
+    for domain in refused:
+        found.setdefault(log.domains[domain].maker or domain, []).append(domain)
+    yield from (sorted(domains, key=lambda it: int(it, 16)) for domains in found.values())
+
+
+def _best(
+    policy: Policy,
+    domains: Sequence[str],
+    objections: Mapping[str, Sequence[Objection]],
+    votes: Mapping[str, Counter[int]],
+) -> dict[str, int]:
+    """The layers of the domains of a process; without one if nothing speaks for it, or as much for another."""
+    best: list[tuple[int, ...]] = []
+    most = 1
+    for numbers in combinations(range(1, len(policy.layers) + 1), len(domains)):
+        ways = list(zip(domains, numbers))
+        if not all(_handles_all(policy.layers[number - 1], objections[domain]) for domain, number in ways):
+            continue
+        score = sum(votes[domain][number] for domain, number in ways)
+        if score > most:
+            best, most = [], score
+        if score == most:
+            best.append(numbers)
+    alike = (index for index in range(len(domains)) if len({numbers[index] for numbers in best}) == 1)
+    return {domains[index]: best[0][index] for index in alike}
+
+
+def _handles_all(layer: Layer, objections: Iterable[Objection]) -> bool:
+    """Whether a layer restricts all that some objections are about, whatever its rules are."""
+    bare = replace(layer, path_beneath=(), net_port=())
+    return all(refuses(bare, objection) for objection in objections)
 
 
 def youngest(policy: Policy, objection: Objection) -> int | None:
@@ -100,6 +162,11 @@ def _lacks(layer: Layer, path: str, right: str) -> bool:
         return right == "refer" and bool(handled)
     over = set(upwards(path))
     return not any(right in rule.allowed_access.rights and over & _real(rule) for rule in layer.path_beneath)
+
+
+def _without_rules_on(layer: Layer, path: str) -> Layer:
+    """A layer without its rules on one path."""
+    return replace(layer, path_beneath=tuple(rule for rule in layer.path_beneath if path not in _real(rule)))
 
 
 @cache

@@ -9,6 +9,7 @@ from __future__ import annotations
 from collections.abc import Mapping
 
 from ..answers import Closed, Missing, Mounting, Objection, Scoped, Tracing, Unplaced
+from ..policies import HIGHEST_PORT
 from .records import Cut
 
 _OF_FILES, _OF_NETWORK, _OF_SCOPE = "fs.", "net.", "scope."
@@ -16,7 +17,6 @@ _MOUNTS, _PTRACE = "fs.change_topology", "ptrace"
 _SOCKETS = "abstract_unix_socket"
 #: The fields with a port: of an address that a socket gets, and of one that it connects to.
 _PORTS = ("dest", "src")
-HIGHEST_PORT = 65535
 
 
 def objection(fields: Mapping[str, str]) -> Objection:
@@ -67,10 +67,10 @@ def _on_path(rights: tuple[str, ...], fields: Mapping[str, str]) -> Objection:
 
 def _port(fields: Mapping[str, str]) -> int:
     """The port of an address; the kernel leaves out the port 0."""
-    port = int(next((fields[name] for name in _PORTS if name in fields), "0"))
-    if not 0 <= port <= HIGHEST_PORT:
-        raise Cut(f"has the port {port}")
-    return port
+    port = next((fields[name] for name in _PORTS if name in fields), "0")
+    if not port.isdecimal() or not port.isascii() or int(port) > HIGHEST_PORT:
+        raise Cut(f"has the port {port!r}")
+    return int(port)
 
 
 def _process(fields: Mapping[str, str]) -> str:

@@ -37,7 +37,7 @@ _BY_NAME = {
     "LANDLOCK_DOMAIN": Kind.DOMAIN,
     **{f"{form}{kind.value}{end}": kind for kind in Kind for form, end in (("", ""), ("UNKNOWN[", "]"))},
 }
-_STAMP = rb"audit\(([0-9]+)\.([0-9]{3}):([0-9]+)\) ?: ?(.*)"
+_STAMP = rb"audit\(([0-9]{1,11})\.([0-9]{3}):([0-9]{1,20})\) ?: ?(.*)"
 #: A record as auditd writes it, and as the kernel prints it.
 _BY_AUDITD = re.compile(rb"(?:node=\S+ )?type=(\S+) msg=" + _STAMP, re.DOTALL)
 _PRINTED = re.compile(rb"(?:^|.*?\s)audit: type=([0-9]+) " + _STAMP, re.DOTALL)
@@ -65,12 +65,13 @@ class Stamp:
 
 @dataclass(frozen=True)
 class Record:
-    """A record: what it is of, its fields, and the names that auditd added."""
+    """A record: what it is of, its fields, and the names that auditd added; whether the kernel printed it itself."""
 
     kind: Kind
     stamp: Stamp
     fields: Mapping[str, str] = field(default_factory=dict)
     added: Mapping[str, str] = field(default_factory=dict)
+    printed: bool = False
 
 
 @dataclass(frozen=True)
@@ -120,7 +121,8 @@ def read(name: str, lines: Iterable[bytes]) -> Iterator[tuple[str, Line]]:
 
 def _record(line: bytes, place: str) -> Line | None:
     """What a line says; None if it is no record of the kernel's audit."""
-    match = _BY_AUDITD.match(line) or _PRINTED.match(line)
+    by_auditd = _BY_AUDITD.match(line)
+    match = by_auditd or _PRINTED.match(line)
     if match is None:
         loss = _LOSSES.search(line)
         if loss is not None:
@@ -132,12 +134,12 @@ def _record(line: bytes, place: str) -> Line | None:
     kind = _BY_NAME.get(os.fsdecode(match[1]), Kind.OTHER)
     stamp = Stamp(int(match[2]) * 1000 + int(match[3]), int(match[4]))
     if kind is Kind.OTHER:
-        return Record(kind, stamp)
+        return Record(kind, stamp, printed=by_auditd is None)
     own, _, added = match[5].partition(_SEPARATOR)
     if kind not in OF_LANDLOCK:
-        return Record(kind, stamp, _some_fields(own), _some_fields(added))
+        return Record(kind, stamp, _some_fields(own), _some_fields(added), by_auditd is None)
     try:
-        return Record(kind, stamp, _fields(own), _some_fields(added))
+        return Record(kind, stamp, _fields(own), _some_fields(added), by_auditd is None)
     except Cut as fault:
         return Unread(place, str(fault))
 

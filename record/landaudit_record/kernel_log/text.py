@@ -110,7 +110,7 @@ def _above(found: Counted, style: Style) -> Iterator[str]:
 
 
 def _domains(found: Counted, style: Style, *, each: bool) -> Iterator[str]:
-    """The layers that refused something, by their numbers in the kernel."""
+    """The domains whose youngest layers refused something."""
     domains = list(found.log.domains.values())
     if not domains:
         return

@@ -92,9 +92,9 @@ def _above(found: Counted) -> Markup:
 
 
 def _domains(found: Counted) -> Markup:
-    """The layers that refused something, by their numbers in the kernel."""
+    """The domains whose youngest layers refused something."""
     rows = (row(*map(named, text.domain_row(domain, found.matched))) for domain in found.log.domains.values())
     heads = ("domain", "made by", "process", "logged", "counted", "layer")
-    told = paragraph("A domain is a layer of running processes. When the last of them ends, the kernel logs how many "
-                     "denials there were.")
+    told = paragraph("The layer that refuses is the youngest one of its domain. When the last process of a domain "
+                     "ends, the kernel logs how many denials there were.")
     return together((told, table("domains", heads, rows))) if found.log.domains else Markup()
