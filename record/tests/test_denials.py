@@ -9,10 +9,12 @@ from __future__ import annotations
 import contextlib
 import io
 import json
+import re
 import sys
 import tempfile
 import tomllib
 import unittest
+from collections.abc import Iterator
 from pathlib import Path
 from typing import Any
 from unittest import mock
@@ -23,13 +25,13 @@ from landaudit_record.kernel_log import counting, data, granting, matching, text
 from landaudit_record.page import denials as page
 from landaudit_record.policies import Policy
 
-from .json_schema import DOCS, Validator
+from .json_schema import DOCS, Schema, Validator
 from .pages import Element, read as read_page
 from .test_kernel_log import ACCESS, BOX, CALL, DENIED, DOMAIN, ENDED, IN, OUT, kept, line, read
 from .test_page import HOSTILE
+from .test_schemas import less
 
 SCHEMA = Validator.of("denials.schema.json")
-FORMATS = (DOCS / "FORMATS.md").read_text(encoding="utf-8")
 #: Two layers that refuse what those of the kept log refuse: both refuse to make a file in `in`.
 TWO = f"""[[layer]]
 handled_access_fs = ["make_reg", "make_dir", "remove_file", "read_file"]
@@ -61,6 +63,15 @@ def under_two() -> bytes:
     numbers = {*UNDER_TWO, 244, 246, 253, 254}
     return b"".join(text for text in kept("netlink.log").splitlines(keepends=True)
                     if any(f":{number}):".encode() in text for number in numbers))
+
+
+def members(schema: Any) -> Iterator[tuple[str, Schema]]:
+    """The members that a schema names, each with its own schema."""
+    inside = schema.values() if isinstance(schema, dict) else schema if isinstance(schema, list) else ()
+    if isinstance(schema, dict):
+        yield from schema.get("properties", {}).items()
+    for one in inside:
+        yield from members(one)
 
 
 class Command(unittest.TestCase):
@@ -165,11 +176,19 @@ class Command(unittest.TestCase):
 
     def test_the_format(self) -> None:
         schema = json.loads((DOCS / "denials.schema.json").read_text())
-        self.assertEqual(schema["properties"]["format"], {"const": data.FORMAT})
-        document = json.loads(self.run_on("--json")[1])
-        for name in document:
-            with self.subTest(name):
-                self.assertNotEqual(SCHEMA.faults({key: value for key, value in document.items() if key != name}), [])
+        self.assertEqual(schema["properties"]["format"]["const"], data.FORMAT)
+        self.assertEqual([name for name, one in members(schema) if not one.get("description")], [])
+
+    def test_a_member_that_is_gone(self) -> None:
+        """Each member of each object is needed, but for those that only some objections and rules have."""
+        self.policy(TWO)
+        _, said = self.run_on("--json", "--policy", str(self.folder / "P.toml"), log=under_two())
+        optional = {"rights", "path", "port", "scope", "said", "parent"}
+        counted = r"/(programs|lacking)/|^refusals/\d+/domains/|^without_rule/\w+/"
+        for at, without in less(json.loads(said)):
+            if at.rpartition("/")[2] not in optional and not re.search(counted, at):
+                with self.subTest(at):
+                    self.assertNotEqual(SCHEMA.faults(without), [])
 
     def test_rules_and_data_are_not_asked_for_at_once(self) -> None:
         with contextlib.redirect_stderr(io.StringIO()), self.assertRaises(SystemExit) as end:
