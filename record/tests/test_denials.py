@@ -146,9 +146,10 @@ class Command(unittest.TestCase):
 
     def test_a_log_that_is_not_there_or_named_twice(self) -> None:
         with contextlib.redirect_stderr(io.StringIO()) as error:
-            self.assertEqual(cli.main(["denials", str(self.folder / "none")]), 4)
+            self.assertEqual(cli.main(["denials", str(self.folder / "none")]), 3)
+            self.assertEqual(cli.main(["denials", str(self.folder)]), 3)
             self.assertEqual(cli.main(["denials", "a", "a"]), 2)
-        self.assertIn("No such file", error.getvalue())
+        self.assertIn("none can't be read: No such file", error.getvalue())
         self.assertIn("a log is named twice", error.getvalue())
 
     def test_one_program(self) -> None:
@@ -309,6 +310,12 @@ class Rules(unittest.TestCase):
         self.assertIn('["remove_file", "make_dir"]\nparent = "/work/box/in"', said[first:second])
         self.assertIn('["write_file"]\nparent = "/work/box/out/file"', said[second:])
 
+    def test_a_program_that_the_log_does_not_name(self) -> None:
+        _, said = self.rules(line(ACCESS))
+        self.assertEqual(said.splitlines()[0], "# 1 rule")
+        found = counting.count(read(line(ACCESS)))
+        self.assertEqual([layer.name for refusal in found.summary.refusals for layer in refusal.layers], ["-"])
+
     def test_a_layer_that_does_not_handle_refer_must_handle_it(self) -> None:
         lines = kept("netlink.log").splitlines(keepends=True)
         moved = b"".join(one for one in lines if b":241):" in one or b":242):" in one)
@@ -398,7 +405,7 @@ class Page(unittest.TestCase):
         rows = found.rows("refusals", 0)
         self.assertIn(["1", "mkdir", IN, "EACCES", "make_dir", "python3's", "/usr/bin/mkdir"], rows)
         self.assertEqual(sum(int(row[0]) for row in rows), 41)
-        self.assertEqual([row[1] for row in found.rows("moot", 0)], ["openat"])
+        self.assertEqual([row[1] for row in found.rows("same", 0)], ["openat"])
         self.assertIn(["12b597920", "/usr/bin/python3.11 (python3)", "26899", "1", "1", "python3's"],
                       found.rows("domains", 0))
         (rules,) = found.all("pre")

@@ -207,12 +207,12 @@ class Missed(unittest.TestCase):
 
     def test_denials_that_the_kernel_counted(self) -> None:
         (said,) = self.said(line(ACCESS), line(DOMAIN), line(ENDED, 2, denials=3))
-        self.assertEqual(said, "domain a1: the log has 1 of the 3 denials that the kernel counted")
+        self.assertTrue(said.startswith("domain a1: the log has 1 of the 3 denials that the kernel counted: "), said)
 
     def test_a_log_that_begins_later(self) -> None:
         self.assertEqual(self.said(line(ACCESS)), ["domain a1: the log does not have its first denial"])
-        self.assertEqual(self.said(line(ENDED, denials=1)),
-                         ["domain a1: the log has 0 of the 1 denial that the kernel counted"])
+        (said,) = self.said(line(ENDED, denials=1))
+        self.assertTrue(said.startswith("domain a1: the log has 0 of the 1 denial that the kernel counted: "), said)
 
     def test_records_that_the_kernel_lost(self) -> None:
         for lost in ("audit: audit_lost=3 audit_rate_limit=0 audit_backlog_limit=64", "audit: rate limit exceeded",

@@ -3,7 +3,6 @@
 from __future__ import annotations
 
 import argparse
-import contextlib
 import json
 import sys
 from collections.abc import Iterator, Sequence
@@ -93,7 +92,11 @@ def _opened(names: Sequence[str]) -> Iterator[Iterator[tuple[str, Line]]]:
         if name == STANDARD_INPUT:
             yield records.read("standard input", sys.stdin.buffer)
             continue
-        with contextlib.closing(open(name, "rb")) as file:
+        try:
+            file = open(name, "rb")
+        except OSError as error:
+            raise Problem(f"{name} can't be read: {error.strerror}") from error
+        with file:
             yield records.read(name, file)
 
 

@@ -28,7 +28,7 @@ class LoggedLayer(RefusingLayer):
 
     @property
     def name(self) -> str:
-        return f"{self.maker}'s" if self.policy is None else super().name
+        return super().name if self.policy is not None else of_maker(self.maker)
 
 
 @dataclass
@@ -106,6 +106,11 @@ def _layer(found: Counted, domain: str, objections: list[Objection]) -> LoggedLa
     layer = None if found.matched is None else found.matched.layer_of(domain)
     policy = None if layer is None else layer.number
     return LoggedLayer(None, policy, tuple(objections), maker_of(found.log.domains[domain]))
+
+
+def of_maker(maker: str) -> str:
+    """A layer in words, by the program that made it."""
+    return maker if maker == NOT_SAID else f"{maker}'s"
 
 
 def maker_of(domain: Domain) -> str:

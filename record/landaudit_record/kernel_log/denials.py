@@ -24,6 +24,8 @@ _MOST_WAITING = 10_000
 #: The kernel prints so many records in so many milliseconds at most (printk_ratelimit, by default), and may say that it
 #: left out others only when it prints the next one.
 _MOST_PRINTED, _PRINTED_WITHIN = 10, 5_000
+OTHERS = ("others were lost, or are of an executed program, which the kernel logs only if the sandboxer asks for that "
+          "(landaudit-policy confine --log)")
 LIMITED = ("the kernel prints at most ten records in five seconds (kernel.printk_ratelimit), and here are ten: others "
            "may be missing, which the log of auditd would have")
 #: The length at which the kernel cuts a command line (MAX_PROCTITLE_AUDIT_LEN).
@@ -143,7 +145,7 @@ class Log:
         for domain in self.domains.values():
             if domain.not_logged:
                 yield (f"domain {domain.number}: the log has {domain.logged:,} of the "
-                       f"{counted(domain.counted or 0, 'denial')} that the kernel counted")
+                       f"{counted(domain.counted or 0, 'denial')} that the kernel counted: {OTHERS}")
             elif domain.maker is None:
                 yield f"domain {domain.number}: the log does not have its first denial"
 
@@ -280,9 +282,10 @@ def read(logs: Iterable[Iterable[tuple[str, Line]]]) -> Log:
 
 
 def _denial(stamp: Stamp, event: _Event) -> Denial:
-    """A denial of an event's records."""
-    record = event.others.get(Kind.SYSCALL) or event.others.get(Kind.URINGOP)
-    title = event.others.get(Kind.PROCTITLE)
+    """A denial of an event's records; those of its call are let go, since a log may have very many."""
+    others, event.others = event.others, {}
+    record = others.get(Kind.SYSCALL) or others.get(Kind.URINGOP)
+    title = others.get(Kind.PROCTITLE)
     said = "" if title is None else title.fields.get("proctitle", "")
     command = tuple(said.rstrip("\0").split("\0")) if said else ()
     return Denial(stamp, tuple(event.accesses), None if record is None else _call(record), command)

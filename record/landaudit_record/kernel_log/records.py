@@ -12,8 +12,9 @@ from __future__ import annotations
 import os
 import re
 from collections.abc import Iterable, Iterator, Mapping
-from dataclasses import dataclass, field
+from dataclasses import dataclass
 from enum import IntEnum
+from functools import cached_property
 
 
 class Kind(IntEnum):
@@ -45,6 +46,8 @@ _PRINTED = re.compile(rb"(?:^|.*?\s)audit: type=([0-9]+) " + _STAMP, re.DOTALL)
 _ABOUT_LANDLOCK = re.compile(
     rb"""[^"]*?(?:^|\s)(?:type=)?(?:LANDLOCK_(?:ACCESS|DOMAIN)|UNKNOWN\[142[34]\]|(?<=type=)142[34])(?:\s|$)"""
 )
+#: Every line that is read has one of these.
+_WORDS = (b"audit", b"LANDLOCK_", b"UNKNOWN[142", b"type=142", b" kernel messages")
 #: Before the names that auditd adds.
 _SEPARATOR = b"\x1d"
 _FIELD = re.compile(rb'([A-Za-z0-9_-]+)=(?:"([^"]*)"|([^\s"]*))(?:\s+|$)')
@@ -65,13 +68,23 @@ class Stamp:
 
 @dataclass(frozen=True)
 class Record:
-    """A record: what it is of, its fields, and the names that auditd added; whether the kernel printed it itself."""
+    """A record: what it is of, its text, and whether the kernel printed it itself."""
 
     kind: Kind
     stamp: Stamp
-    fields: Mapping[str, str] = field(default_factory=dict)
-    added: Mapping[str, str] = field(default_factory=dict)
+    text: bytes = b""
     printed: bool = False
+
+    @cached_property
+    def fields(self) -> Mapping[str, str]:
+        """The fields that the kernel wrote, all of those of Landlock's own records, or else Cut."""
+        own = self.text.partition(_SEPARATOR)[0]
+        return _fields(own) if self.kind in OF_LANDLOCK else _some_fields(own)
+
+    @cached_property
+    def added(self) -> Mapping[str, str]:
+        """The names that auditd added."""
+        return _some_fields(self.text.partition(_SEPARATOR)[2])
 
 
 @dataclass(frozen=True)
@@ -121,6 +134,8 @@ def read(name: str, lines: Iterable[bytes]) -> Iterator[tuple[str, Line]]:
 
 def _record(line: bytes, place: str) -> Line | None:
     """What a line says; None if it is no record of the kernel's audit."""
+    if not any(word in line for word in _WORDS):
+        return None
     by_auditd = _BY_AUDITD.match(line)
     match = by_auditd or _PRINTED.match(line)
     if match is None:
@@ -135,11 +150,11 @@ def _record(line: bytes, place: str) -> Line | None:
     stamp = Stamp(int(match[2]) * 1000 + int(match[3]), int(match[4]))
     if kind is Kind.OTHER:
         return Record(kind, stamp, printed=by_auditd is None)
-    own, _, added = match[5].partition(_SEPARATOR)
-    if kind not in OF_LANDLOCK:
-        return Record(kind, stamp, _some_fields(own), _some_fields(added), by_auditd is None)
+    record = Record(kind, stamp, match[5], by_auditd is None)
     try:
-        return Record(kind, stamp, _fields(own), _some_fields(added), by_auditd is None)
+        if kind in OF_LANDLOCK and not record.fields:
+            raise Cut("has no fields: is it cut?")
+        return record
     except Cut as fault:
         return Unread(place, str(fault))
 

@@ -13,7 +13,7 @@ from ..policies import Policy
 from ..summary import Summary
 from ..summary_text import Style
 from ..wording import counted, plain
-from .counting import Counted, maker_of
+from .counting import NOT_SAID, Counted, maker_of, of_maker
 from .denials import Domain, Log
 from .granting import Granted
 from .matching import Matched, RuleAbove
@@ -130,7 +130,7 @@ def domain_row(domain: Domain, matched: Matched | None) -> tuple[str, ...]:
     program = "-" if maker is None else f"{maker.program} ({maker.comm})"
     numbers = ("-" if maker is None else str(maker.pid), f"{domain.logged:,}",
                "-" if domain.counted is None else f"{domain.counted:,}")
-    return (domain.number, program, *numbers, f"{maker_of(domain)}'s" if layer is None else f"policy's {layer}")
+    return (domain.number, program, *numbers, of_maker(maker_of(domain)) if layer is None else f"policy's {layer}")
 
 
 def rules(granted: Granted, found: Counted, policy: Policy | None) -> Iterator[str]:
@@ -140,7 +140,8 @@ def rules(granted: Granted, found: Counted, policy: Policy | None) -> Iterator[s
         if policy is not None and target.layer is not None:
             yield from suggestion_text.of_layer(layers[target.layer], some, {}, policy)
         else:
-            yield f"# {counted(len(some), 'rule')} for the layers that {plain(target.maker)} made"
+            made = "" if target.maker == NOT_SAID else f" for the layers that {plain(target.maker)} made"
+            yield f"# {counted(len(some), 'rule')}{made}"
             if any("refer" in rule.rights for rule in some):
                 yield "# rules may grant refer only where the layer handles it"
             yield from suggestion_text.written(some)

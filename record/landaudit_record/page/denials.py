@@ -36,7 +36,7 @@ def _parts(found: Counted, rules: Iterable[str]) -> Iterator[Section]:
     """All parts that the page may have, in their order."""
     refused = dict(found.summary.by_frequency())
     yield Section("refused", "Refused", _refused(refused))
-    yield Section("same", "Logged, and succeeded all the same", _table("moot", found.succeeded))
+    yield Section("same", "Logged, and succeeded all the same", _table("same", found.succeeded))
     yield Section("above", "Rules of the policy", _above(found))
     yield Section("rules", "Rules for these", element("pre", "\n".join(rules), kind="path"))
     yield Section("domains", "Domains", _domains(found))
