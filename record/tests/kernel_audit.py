@@ -17,13 +17,17 @@ from dataclasses import dataclass
 from pathlib import Path
 
 _NETLINK_AUDIT = 9
-_GET, _SET = 1000, 1001
+_GET, _SET, _ADD_RULE, _REMOVE_RULE = 1000, 1001, 1011, 1012
 _REQUEST, _ACKNOWLEDGE = 1, 4
 _ERROR = 2
 _HEADER = struct.Struct("=IHHII")
 #: The members of struct audit_status, which begins with mask, enabled, failure, pid, rate_limit and backlog_limit.
 _STATUS = struct.Struct("=11I")
 _ENABLED, _PID, _BACKLOG_LIMIT = 1, 4, 16
+#: The members of struct audit_rule_data: flags (of the list `task`), action (`never`), and how many fields there are;
+#: then a mask of calls, fields, values, and the flags of fields, 64 each, and the length of texts.
+_TASK, _NEVER = 1, 0
+_RULE = struct.Struct("=3I64I192II")
 #: The records that may wait for the one who takes them: by default 64, of which a program's denials take more.
 BACKLOG = 8192
 _FIRST_RECORD = 1100
@@ -86,6 +90,10 @@ class Audit:
         _, enabled, _, daemon, _, backlog = struct.unpack_from("=6I", found)
         return Status(bool(enabled), daemon, backlog)
 
+    def rule(self, kind: int) -> None:
+        """Adds or removes the rule `never,task`: processes that start then have no records of their calls."""
+        self._asked(kind, _RULE.pack(_TASK, _NEVER, 0, *[0xFFFFFFFF] * 64, *[0] * 193))
+
     def switch(self, status: Status) -> None:
         """Switches audit on or off; the daemon 0 stands for the kernel, which prints the records."""
         mask = _ENABLED | _PID | _BACKLOG_LIMIT
@@ -120,6 +128,17 @@ def _on(audit: Audit, daemon: int) -> Iterator[None]:
         off = Audit()
         off.switch(before)
         off.close()
+
+
+@contextlib.contextmanager
+def without_calls() -> Iterator[None]:
+    """The rule `never,task`, as some systems have it."""
+    with contextlib.closing(Audit()) as audit:
+        audit.rule(_ADD_RULE)
+        try:
+            yield
+        finally:
+            audit.rule(_REMOVE_RULE)
 
 
 @contextlib.contextmanager

@@ -16,6 +16,7 @@ from landaudit_record import landlock_calls
 
 from . import kernel_audit
 from .live_actor import CONFINER, PYTHON, RECORDER
+from .live_exporting import MAIN
 
 #: The name that the kernel keeps of the program: the records of other programs are left out by it.
 NAME = "landaudit-15"
@@ -216,6 +217,36 @@ class LiveDenials(unittest.TestCase):
             self.confined()
         run = self.denials("--json")
         self.assertEqual((run.returncode, json.loads(run.stdout)["denied"]), (0, 0))
+
+    def test_without_records_of_calls_nothing_is_said_of_programs(self) -> None:
+        with kernel_audit.without_calls(), kernel_audit.written(self.log):
+            self.confined("--log")
+        run = self.denials("--json")
+        said = json.loads(run.stdout)
+        self.assertEqual((run.returncode, said["denied"]), (5, 0))
+        self.assertIn("without a record of the call", said["not_logged"][0])
+        words = (PYTHON, RECORDER, "denials", self.log, "--policy", self.policy, "--json")
+        said = json.loads(subprocess.run(words, capture_output=True, check=False).stdout)
+        self.assertGreater(said["denied"], 20)
+        self.assertEqual({kind["call"] for kind in said["refusals"]}, {"-"})
+        # Each of the two directories of the link has a record of its own, as has each of the move.
+        self.assertEqual(said["without_rule"]["would_gain"], {"-": 2})
+
+    @unittest.skipUnless(shutil.which("cc"), "no C compiler is installed")
+    def test_a_policy_as_c_has_its_denials_logged(self) -> None:
+        (self.folder / "main.c").write_text(MAIN)
+        code = subprocess.run([PYTHON, CONFINER, "export", self.policy, "--c", "--log"], capture_output=True, check=True)
+        (self.folder / "policy.c").write_bytes(code.stdout)
+        confined = self.folder / "confined"
+        subprocess.run(["cc", "-std=c99", "policy.c", "main.c", "-o", confined], cwd=self.folder, check=True)
+        self.fill()
+        with kernel_audit.written(self.log):
+            subprocess.run([confined, "cat", self.top / "kept" / "read"], capture_output=True, check=False)
+        words = (PYTHON, RECORDER, "denials", self.log, "--program", "confined", "--json")
+        said = json.loads(subprocess.run(words, capture_output=True, check=False).stdout)
+        self.assertIn(("openat", str(self.top / "kept" / "read"), [os.path.realpath("/bin/cat")]),
+                      [(kind["call"], kind["place"], list(kind["programs"])) for kind in said["refusals"]])
+        self.assertEqual([domain["comm"] for domain in said["domains"]], ["confined"])
 
     def test_a_kernel_that_prints_its_records_loses_some_and_that_is_told(self) -> None:
         """It prints ten records in five seconds (printk_ratelimit), and a denial has three."""

@@ -184,8 +184,17 @@ class Real(unittest.TestCase):
             some = denials.of_program(self.log, name)
             self.assertEqual([denial.stamp.serial for denial in some.denials], [250])
             self.assertEqual(list(some.domains), [some.denials[0].accesses[0].domain])
-        self.assertEqual(denials.of_program(self.log, "python3"), self.log)
-        self.assertEqual(denials.of_program(self.log, "nosuch").denials, ())
+        for name, wanted in (("python3", self.log.denials), ("nosuch", ())):
+            some = denials.of_program(self.log, name)
+            self.assertEqual((some.denials, some.nameless, [*some.not_known()]), (wanted, 0, []))
+
+    def test_a_denial_without_a_program_may_be_of_any(self) -> None:
+        log = read("\n".join([line(ACCESS), line(DOMAIN, 2), line(ENDED, 3)]))
+        self.assertEqual(len(denials.of_program(log, "x").denials), 1)
+        some = denials.of_program(log, "other")
+        self.assertEqual((some.denials, some.nameless), ((), 1))
+        (said,) = some.not_known()
+        self.assertEqual(said, "1 denial without a record of the call: it is not known whether other made it")
 
 
 class Missed(unittest.TestCase):

@@ -122,7 +122,7 @@ class Log:
 
     `limited` has the places from which on the kernel may have printed no more records for some seconds. `records`
     counts the records of the kernel's audit of any kind; `first` and `last` are the times of these, in milliseconds
-    since 1970.
+    since 1970. If only the denials of one `program` are here, `nameless` are those that may be of it or not.
     """
 
     denials: tuple[Denial, ...] = ()
@@ -133,6 +133,8 @@ class Log:
     records: int = 0
     first: int | None = None
     last: int | None = None
+    program: str | None = None
+    nameless: int = 0
 
     def not_known(self) -> Iterator[str]:
         """What the log shows to be missing from it, each in a sentence; nothing if it may be complete."""
@@ -142,6 +144,9 @@ class Log:
         yield from (f"{one}: records were lost" for one in self.lost)
         yield from (f"{place}: {LIMITED}" for place in self.limited)
         yield from (f"{one.place}: a record of Landlock {one.why}" for one in self.unread)
+        if self.nameless:
+            yield (f"{counted(self.nameless, 'denial')} without a record of the call: it is not known whether "
+                   f"{self.program} made it")
         for domain in self.domains.values():
             if domain.not_logged:
                 yield (f"domain {domain.number}: the log has {domain.logged:,} of the "
@@ -359,7 +364,8 @@ def of_program(log: Log, name: str) -> Log:
     numbers = {access.domain for one in kept for access in one.accesses}
     numbers |= {it.number for it in log.domains.values() if it.maker is not None and _is_maker(name, it.maker)}
     domains = {number: domain for number, domain in log.domains.items() if number in numbers}
-    return replace(log, denials=kept, domains=domains)
+    nameless = sum(denial.call is None for denial in log.denials) - sum(denial.call is None for denial in kept)
+    return replace(log, denials=kept, domains=domains, program=name, nameless=nameless)
 
 
 def _is_of(name: str, log: Log, denial: Denial) -> bool:

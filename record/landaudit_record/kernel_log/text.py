@@ -63,7 +63,8 @@ def in_short(found: Counted) -> str:
     log, not_all = found.log, ", and NOT ALL IS LOGGED (see the end)" if found.summary.missing else ""
     period = f"{counted(log.records, 'record')} of the kernel's audit{_period(log)}"
     if not log.denials:
-        return f"{period}: none is a denial of Landlock{not_all}"
+        of_program = f" to {log.program}" if log.program else ""
+        return f"{period}: none is a denial of Landlock{of_program}{not_all}"
     refused, succeeded = found.summary.verdicts["refused"], sum(some.total() for some in found.succeeded.values())
     same = f", {succeeded:,} succeeded all the same" if succeeded else ""
     return (f"{period}: {counted(len(log.denials), 'call')} denied: {refused:,} {SAID}{same}, in "
