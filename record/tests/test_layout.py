@@ -101,6 +101,13 @@ class Cells(unittest.TestCase):
         self.assertEqual(cell(30), "refer on …data; refer on …iles")
         self.assertEqual((cell(29), cell(5)), ("refer", "refer"))
 
+    def test_rights_without_a_path(self) -> None:
+        one, two = Lack(("write_file", "read_file", "make_reg")), Lack(("truncate",))
+        self.assertEqual(layout.lacks([one])(24), "write_file, read_file +1")
+        cell = layout.lacks([one, two])
+        self.assertEqual(cell(41), "write_file, read_file, make_reg; truncate")
+        self.assertEqual(cell(40), "write_file, read_file, make…eg; truncate")
+
     def test_names_that_are_alike_by_a_shorter_form_are_told_once(self) -> None:
         cell = layout.names(["/usr/bin/git", "/usr/lib/git-core/git"], brief=os.path.basename)
         self.assertEqual((cell(35), cell(10)), ("/usr/bin/git, /usr/lib/git-core/git", "git"))
