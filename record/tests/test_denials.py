@@ -238,6 +238,15 @@ class UnderPolicy(unittest.TestCase):
         found = counting.count(self.log, matched)
         self.assertTrue(any("of no layer of" in warning for warning in found.summary.warnings))
 
+    def test_layers_of_several_programs(self) -> None:
+        other = [line(ACCESS).replace('"/a"', f'"{IN}"'), line(DOMAIN), line(CALL)]
+        self.log = read(under_two() + "\n".join(other).encode())
+        matched = self.matched(TWO)
+        self.assertEqual(matched.layers["a1"], 1)
+        warnings = list(counting.count(self.log, matched).summary.warnings)
+        self.assertIn(f"layers of 2 programs would be those of {self.folder}/P.toml: python3, x: --program chooses the "
+                      "right one", warnings)
+
     def test_denials_of_one_domain_that_would_be_of_two_layers(self) -> None:
         layers = (f'[[layer]]\nhandled_access_fs = ["{right}"]\n' for right in ("make_dir", "remove_file"))
         matched = self.matched("".join(layers))

@@ -8,7 +8,7 @@ from dataclasses import dataclass, field
 
 from ..answers import Closed, Missing, Objection
 from ..summary import Brief, Refusal, RefusingLayer, Summary
-from ..wording import counted
+from ..wording import counted, some_of
 from .denials import Access, Denial, Domain, Log, Maker
 from .matching import Matched, RuleAbove
 
@@ -140,6 +140,10 @@ def _warnings(found: Counted) -> Iterator[str]:
     if found.matched is None:
         return
     name = found.matched.policy.path
+    makers = sorted({maker_of(found.log.domains[domain]) for domain in found.matched.layers} - {NOT_SAID})
+    if len(makers) > 1:
+        yield (f"layers of {len(makers)} programs would be those of {name}: {some_of(makers)}: --program chooses the "
+               "right one")
     for domain in found.matched.unlike:
         yield (f"the denials of domain {domain} would be of several layers of {name}: is that the policy that was in "
                "force, or was it changed?")

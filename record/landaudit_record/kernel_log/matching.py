@@ -75,11 +75,11 @@ def match(log: Log, policy: Policy) -> Matched:
     youngest layer that refuses them. Rules are compared by path, so that by itself a denial may seem to be of another
     layer: an object that the program made, or put there, has not the rule that is on its path.
     """
-    objections: dict[str, list[Objection]] = {}
+    objections: dict[str, Counter[Objection]] = {}
     for denial in log.denials:
         for access in denial.accesses:
-            objections.setdefault(access.domain, []).append(access.objection)
-    votes = {domain: Counter(_votes(policy, some)) for domain, some in objections.items()}
+            objections.setdefault(access.domain, Counter())[access.objection] += 1
+    votes = {domain: _votes(policy, some) for domain, some in objections.items()}
     layers: dict[str, int] = {}
     unlike: list[str] = []
     for domains in _by_process(log, objections):
@@ -89,12 +89,14 @@ def match(log: Log, policy: Policy) -> Matched:
     return Matched(policy, layers, tuple(unlike), policy.path.stat().st_mtime)
 
 
-def _votes(policy: Policy, objections: Iterable[Objection]) -> Iterator[int]:
-    """The youngest layer that refuses, of each denial by which the layers differ: all lack what ptrace asks for."""
-    for objection in objections:
-        found = None if isinstance(objection, Tracing) else youngest(policy, objection)
-        if found is not None:
-            yield found
+def _votes(policy: Policy, objections: Counter[Objection]) -> Counter[int]:
+    """For how many denials each layer is the youngest that refuses; of ptrace(2), all layers refuse the same."""
+    found: Counter[int] = Counter()
+    for objection, times in objections.items():
+        layer = None if isinstance(objection, Tracing) else youngest(policy, objection)
+        if layer is not None:
+            found[layer] += times
+    return found
 
 
 def _by_process(log: Log, refused: Iterable[str]) -> Iterator[list[str]]:
@@ -108,7 +110,7 @@ def _by_process(log: Log, refused: Iterable[str]) -> Iterator[list[str]]:
 def _best(
     policy: Policy,
     domains: Sequence[str],
-    objections: Mapping[str, Sequence[Objection]],
+    objections: Mapping[str, Iterable[Objection]],
     votes: Mapping[str, Counter[int]],
 ) -> dict[str, int]:
     """The layers of the domains of a process; without one if nothing speaks for it, or as much for another."""

@@ -151,6 +151,7 @@ def rules(granted: Granted, found: Counted, policy: Policy | None) -> Iterator[s
     else:
         yield f"# {ONE_STEP}"
     yield from _staying(granted, policy)
+    yield from (f"# warning: {plain(text)}" for text in found.summary.warnings)
     yield from (f"# {NOT_ALL} {plain(text)}" for text in found.summary.missing)
 
 
