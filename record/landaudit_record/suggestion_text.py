@@ -73,16 +73,19 @@ def _ending(suggestion: Suggestion) -> Iterator[str]:
         by_call = ", ".join(f"{name} {times}" for name, times in suggestion.unsure.most_common())
         calls = counted(suggestion.unsure.total(), "call")
         yield f"# granted in doubt, since what was there before is not known: {calls}: {by_call}"
-    yield from staying(suggestion.unmended, "refused by layers of the policy whatever their rules are")
-    yield from staying(suggestion.of_program, "refused by layers that the program makes itself")
-    yield from staying(suggestion.failed, "refused that failed in the recording too, so no rule would help")
+    for left, why in (
+        (suggestion.unmended, "refused by layers of the policy whatever their rules are"),
+        (suggestion.of_program, "refused by layers that the program makes itself"),
+        (suggestion.failed, "refused that failed in the recording too, so no rule would help"),
+    ):
+        yield from (f"# {text}" for text in staying(left, why))
 
 
 def staying(calls: Counter[str], why: str) -> Iterator[str]:
-    """A comment on calls that stay refused, by call."""
+    """What is to say of calls that stay refused, if there are any: how many of each name, and why."""
     if calls:
         by_call = ", ".join(f"{name} {times}" for name, times in calls.most_common())
-        yield f"# {counted(calls.total(), 'call')} {'is' if calls.total() == 1 else 'are'} {why}: {by_call}"
+        yield f"{counted(calls.total(), 'call')} {'is' if calls.total() == 1 else 'are'} {why}: {by_call}"
 
 
 def _list(words: list[str]) -> str:

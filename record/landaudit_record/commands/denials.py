@@ -113,7 +113,8 @@ def _lines(found: Counted, granted: Granted, policy: Policy | None, arguments: a
         yield from text.rules(granted, found, policy)
         return
     suggesting = _suggesting(arguments) if granted.rules else []
-    yield from text.lines(found, _title(arguments), Style.of(sys.stdout), Shown(arguments.all, suggesting))
+    shown = Shown(arguments.all, suggesting, list(text.staying(granted, policy)))
+    yield from text.lines(found, _title(arguments), Style.of(sys.stdout), shown)
 
 
 def _suggesting(arguments: argparse.Namespace) -> list[str]:

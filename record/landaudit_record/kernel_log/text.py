@@ -10,6 +10,7 @@ from datetime import UTC, datetime
 from .. import layout, suggestion_text, summary_text
 from ..layout import Column, table, words
 from ..policies import Policy
+from ..rights import NEWEST_ABI, OLDEST_ABI
 from ..summary import Summary
 from ..summary_text import Style
 from ..wording import counted, plain
@@ -26,6 +27,7 @@ ONLY_ASKED = ("of a program that the sandboxer executes, the kernel logs only if
               "confine --log, or LANDLOCK_RESTRICT_SELF_LOG_NEW_EXEC_ON")
 ONE_STEP = ("the log has one step of a call at a time, such as make_reg, and write_file only once that is granted: put "
             "the rules in force, run the program again, and read the log again")
+NO_RULE = f"refused, and no rule of ABI {OLDEST_ABI} to {NEWEST_ABI} lets such calls pass"
 GAINING = ("refused since a move or link would give an object rights that it does not have where it is, and the log "
            "does not say which: audit a recording")
 NOT_ALL = "NOT ALL IS LOGGED:"
@@ -33,10 +35,13 @@ NOT_ALL = "NOT ALL IS LOGGED:"
 
 @dataclass(frozen=True)
 class Shown:
-    """What is shown of a log: `each` kind and domain by itself, and the command that prints rules."""
+    """What is shown of a log: `each` kind and domain by itself, the command that prints rules, and why other calls have
+    none.
+    """
 
     each: bool = False
     suggesting: Sequence[str] = ()
+    staying: Sequence[str] = ()
 
 
 def lines(found: Counted, title: str, style: Style, shown: Shown = Shown()) -> Iterator[str]:
@@ -54,6 +59,9 @@ def lines(found: Counted, title: str, style: Style, shown: Shown = Shown()) -> I
     yield from _domains(found, style, each=shown.each)
     if shown.suggesting:
         yield from ("", "rules for these:", *layout.command(shown.suggesting, style.width))
+    if shown.staying:
+        yield from summary_text.heading("without a rule", style)
+        yield from (f"  {line}" for text in shown.staying for line in layout.folded(text, style.width - 2))
     for text in found.summary.missing:
         yield from summary_text.marked(NOT_ALL, text, style.red, style.width)
 
@@ -150,17 +158,19 @@ def rules(granted: Granted, found: Counted, policy: Policy | None) -> Iterator[s
         yield "# the log has no refused call that a rule can fix"
     else:
         yield f"# {ONE_STEP}"
-    yield from _staying(granted, policy)
+    yield from (f"# {text}" for text in staying(granted, policy))
     yield from (f"# warning: {plain(text)}" for text in found.summary.warnings)
     yield from (f"# {NOT_ALL} {plain(text)}" for text in found.summary.missing)
 
 
-def _staying(granted: Granted, policy: Policy | None) -> Iterator[str]:
-    """Comments on the calls for which there is no rule."""
-    staying = suggestion_text.staying
-    yield from staying(granted.unmended, "refused whatever the rules are")
-    yield from staying(granted.gaining, GAINING)
+def staying(granted: Granted, policy: Policy | None) -> Iterator[str]:
+    """The calls for which there is no rule, and why."""
     name = "" if policy is None else plain(str(policy.path))
-    yield from staying(granted.of_others, f"refused by layers that are not of {name}")
-    yield from staying(granted.since, f"refused in the log, but granted by {name} as it is now")
-    yield from staying(granted.succeeded, "logged and succeeded all the same, so no rule is made")
+    for calls, why in (
+        (granted.unmended, NO_RULE),
+        (granted.gaining, GAINING),
+        (granted.of_others, f"refused by layers that are not of {name}"),
+        (granted.since, f"refused in the log, but granted by {name} as it is now"),
+        (granted.succeeded, "logged and succeeded all the same"),
+    ):
+        yield from suggestion_text.staying(calls, why)
