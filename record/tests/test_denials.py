@@ -55,8 +55,8 @@ allowed_access = ["connect_tcp"]
 port = [80, 443]
 """
 #: What is said of the calls of the kept log that no rule lets pass.
-NO_RULE = ("7 calls are refused, and no rule of ABI 1 to 5 lets such calls pass: mount 1, umount2 1, kill 1, connect 1, "
-           "sendto 1, ptrace 1, readlink 1")
+NO_RULE = ("7 calls are refused, and no rule of ABI 1 to 5 lets such calls pass: mount 1, umount2 1, kill 1, "
+           "connect 1, sendto 1, ptrace 1, readlink 1")
 #: The denials under two layers, by serial, with the layer that the kernel named.
 UNDER_TWO = {243: 2, 245: 2, 249: 2, 250: 1, 251: 2, 252: 1}
 

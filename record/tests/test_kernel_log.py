@@ -264,10 +264,13 @@ class Missed(unittest.TestCase):
             self.assertEqual(unread.place, "log1:1")
 
     def test_a_record_in_another_form(self) -> None:
-        """As ausearch -i and journald's own records of audit write it."""
+        """As ausearch -i, journald's own socket of audit, and journalctl -o json write it, and one that is cut."""
         for text in ("type=LANDLOCK_ACCESS msg=audit(11/29/2026 08:08:31.837:268) : domain=a1 blockers=fs.make_dir",
                      "Nov 29 08:08:31 host audit[11632]: UNKNOWN[1423] domain=a1 blockers=fs.make_dir path=\"/a\"",
-                     "Nov 29 08:08:31 host audit[11632]: LANDLOCK_DOMAIN domain=a1 status=allocated"):
+                     "Nov 29 08:08:31 host audit[11632]: LANDLOCK_DOMAIN domain=a1 status=allocated",
+                     "Nov 29 08:08:31 host audit[11632]: AUDIT1423 domain=a1 blockers=fs.make_dir",
+                     '{"MESSAGE":"audit: type=1423 audit(1795939649.573:260): domain=a1 blockers=fs.make_dir"}',
+                     "[ 2055.030941] audit: type=1423 audit(17959"):
             with self.subTest(text):
                 (unread,) = read(text).unread
                 self.assertIn("no audit(TIME:SERIAL)", str(unread))

@@ -42,9 +42,10 @@ _STAMP = rb"audit\(([0-9]{1,11})\.([0-9]{3}):([0-9]{1,20})\) ?: ?(.*)"
 #: A record as auditd writes it, and as the kernel prints it.
 _BY_AUDITD = re.compile(rb"(?:node=\S+ )?type=(\S+) msg=" + _STAMP, re.DOTALL)
 _PRINTED = re.compile(rb"(?:^|.*?\s)audit: type=([0-9]+) " + _STAMP, re.DOTALL)
-#: A line of a record of Landlock, in whatever form.
+#: A record of Landlock in another form: of ausearch, of journald's own socket, or in JSON.
 _ABOUT_LANDLOCK = re.compile(
-    rb"""[^"]*?(?:^|\s)(?:type=)?(?:LANDLOCK_(?:ACCESS|DOMAIN)|UNKNOWN\[142[34]\]|(?<=type=)142[34])(?:\s|$)"""
+    rb"(?:type=(?:142[34]|UNKNOWN\[142[34]\]|LANDLOCK_(?:ACCESS|DOMAIN))|"
+    rb"audit(?:\[[0-9]+\])?: (?:AUDIT142[34]|UNKNOWN\[142[34]\]|LANDLOCK_(?:ACCESS|DOMAIN)))(?![0-9A-Za-z_])"
 )
 #: Every line that is read has one of these.
 _WORDS = (b"audit", b"LANDLOCK_", b"UNKNOWN[142", b"type=142", b" kernel messages")
@@ -142,7 +143,7 @@ def _record(line: bytes, place: str) -> Line | None:
         loss = _LOSSES.search(line)
         if loss is not None:
             return Lost(place, os.fsdecode(loss[0]))
-        if _ABOUT_LANDLOCK.match(line):
+        if _ABOUT_LANDLOCK.search(line):
             return Unread(place, "has no audit(TIME:SERIAL) as the kernel writes it: give the log as auditd or "
                                  "journalctl -k writes it")
         return None
