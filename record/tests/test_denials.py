@@ -242,6 +242,21 @@ class UnderPolicy(unittest.TestCase):
         found = counting.count(self.log, matched)
         self.assertTrue(any("of no layer of" in warning for warning in found.summary.warnings))
 
+    def test_a_pid_that_is_used_again(self) -> None:
+        """The domains of a process that has ended are those of another process, which has the same layers."""
+        first = [line(ACCESS, 1, "a1"), line(DOMAIN, 1, "a1"), line(ENDED, 2, "a1").replace("719.000", "711.900")]
+        again = [one.replace("711.", "721.") for one in (line(ACCESS, 3, "a9"), line(DOMAIN, 3, "a9"))]
+        for records, layers in ((first + again, {"a1": 1, "a9": 1}), (first[:2] + again, {})):
+            self.log = read("\n".join(records))
+            self.assertEqual(self.matched('[[layer]]\nhandled_access_fs = ["make_dir"]\n').layers, layers)
+
+    def test_a_right_that_no_policy_can_name(self) -> None:
+        newer = [line(ACCESS, 1), line(DOMAIN, 1), line(ACCESS, 2).replace("fs.make_dir", "fs.resolve_unix"),
+                 line(ACCESS, 3).replace('"/a"', '"<too_long>"')]
+        self.log = read("\n".join(newer))
+        self.assertEqual(self.matched('[[layer]]\nhandled_access_fs = ["make_dir"]\n').layers, {"a1": 1})
+        self.assertEqual(self.matched('[[layer]]\nhandled_access_net = ["bind_tcp"]\n').layers, {})
+
     def test_layers_of_several_programs(self) -> None:
         other = [line(ACCESS).replace('"/a"', f'"{IN}"'), line(DOMAIN), line(CALL)]
         self.log = read(under_two() + "\n".join(other).encode())
@@ -256,7 +271,7 @@ class UnderPolicy(unittest.TestCase):
         matched = self.matched("".join(layers))
         self.assertEqual(len(matched.unlike), 1)
         found = counting.count(self.log, matched)
-        self.assertTrue(any("would be of several layers" in warning for warning in found.summary.warnings))
+        self.assertTrue(any("fits all denials of domain" in warning for warning in found.summary.warnings))
 
     def test_what_else_a_layer_refuses(self) -> None:
         """Ports, mounts, scopes and `refer`, which each layer for files restricts."""

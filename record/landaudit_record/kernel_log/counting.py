@@ -74,7 +74,7 @@ def _take(found: Counted, denial: Denial) -> None:
     found.times[refusal] = min(first, time), max(last, time)
     if found.matched is None:
         return
-    if all(found.matched.is_granted_now(access) for access in denial.accesses):
+    if found.matched.is_granted_since(denial):
         found.granted.add(refusal)
     elif not denial.succeeded:
         _count_above(found, found.matched, denial)
@@ -145,12 +145,13 @@ def _warnings(found: Counted) -> Iterator[str]:
         yield (f"layers of {len(makers)} programs would be those of {name}: {some_of(makers)}: --program chooses the "
                "right one")
     for domain in found.matched.unlike:
-        yield (f"the denials of domain {domain} would be of several layers of {name}: is that the policy that was in "
-               "force, or was it changed?")
+        yield (f"no layer of {name} fits all denials of domain {domain}: is that the policy that was in force, or was "
+               "it changed?")
     refused = (denial for denial in found.log.denials if not denial.succeeded)
     granted = sum(1 for denial in refused if _refusal(found, denial) in found.granted)
     if granted:
-        yield f"{name}, as it is now, does not refuse {counted(granted, 'call')} of these: it was changed after that"
+        yield (f"{name}, as it is now, grants what {counted(granted, 'call')} lacked: was it changed since, or was "
+               "another one in force?")
     others = {access.domain for denial in found.log.denials for access in denial.accesses}
     others -= found.matched.layers.keys() | set(found.matched.unlike)
     if others:

@@ -8,8 +8,8 @@ from __future__ import annotations
 
 import errno
 import os
-from collections import Counter, OrderedDict, deque
-from collections.abc import Iterable, Iterator, Mapping, Sequence
+from collections import OrderedDict, deque
+from collections.abc import Iterable, Iterator, Mapping
 from dataclasses import dataclass, field, replace
 from enum import Enum
 
@@ -101,14 +101,16 @@ class Domain:
     """A domain by the number that the kernel gives it; the layer that refuses is its youngest one. `maker` is the
     process that made that layer, if the log says so.
 
-    `logged` is how many denials of it the log has. When the last of its processes has ended, the kernel logs how many
-    there were, `counted`.
+    `logged` is how many denials of it the log has, and `first` the time of its first record, in milliseconds. When the
+    last of its processes has `ended`, the kernel logs how many denials there were, `counted`.
     """
 
     number: str
+    first: int
     maker: Maker | None = None
     logged: int = 0
     counted: int | None = None
+    ended: int | None = None
 
     @property
     def not_logged(self) -> int:
@@ -276,7 +278,7 @@ def read(logs: Iterable[Iterable[tuple[str, Line]]]) -> Log:
     ordered = sorted(events.items())
     return Log(
         tuple(_denial(stamp, event) for stamp, event in ordered if event.accesses),
-        _domains([event for _, event in ordered]),
+        _domains(ordered),
         tuple(one for reader in readers for one in reader.unread),
         tuple(one for reader in readers for one in reader.lost),
         tuple(place for reader in readers for place in reader.limited[:1]),
@@ -342,20 +344,25 @@ def _number(text: str | None, base: int = 10) -> int | None:
         return None
 
 
-def _domains(events: Sequence[_Event]) -> dict[str, Domain]:
-    """The domains of some events."""
-    logged = Counter(access.domain for event in events for access in event.accesses)
-    found = {number: Domain(number, logged=times) for number, times in logged.items()}
-    for record in (record for event in events for record in event.domains):
-        fields = record.fields
-        domain = found.setdefault(fields["domain"], Domain(fields["domain"]))
-        if fields["status"] == _DEALLOCATED:
-            domain = replace(domain, counted=int(fields["denials"]))
-        else:
-            maker = Maker(int(fields["pid"]), int(fields["uid"]), fields["exe"], fields["comm"])
-            domain = replace(domain, maker=maker)
-        found[domain.number] = domain
+def _domains(events: Iterable[tuple[Stamp, _Event]]) -> dict[str, Domain]:
+    """The domains of events that are in the order of time."""
+    found: dict[str, Domain] = {}
+    for stamp, event in events:
+        time = stamp.milliseconds
+        for access in event.accesses:
+            domain = found.setdefault(access.domain, Domain(access.domain, time))
+            found[domain.number] = replace(domain, logged=domain.logged + 1)
+        for record in event.domains:
+            domain = found.setdefault(record.fields["domain"], Domain(record.fields["domain"], time))
+            found[domain.number] = _with(domain, record.fields, time)
     return found
+
+
+def _with(domain: Domain, fields: Mapping[str, str], time: int) -> Domain:
+    """A domain with what a record of it says."""
+    if fields["status"] == _DEALLOCATED:
+        return replace(domain, counted=int(fields["denials"]), ended=time)
+    return replace(domain, maker=Maker(int(fields["pid"]), int(fields["uid"]), fields["exe"], fields["comm"]))
 
 
 def of_program(log: Log, name: str) -> Log:

@@ -86,7 +86,7 @@ def grant(log: Log, matched: Matched | None = None) -> Granted:
             found.unmended[name] += 1
         elif matched is not None and not all(access.domain in matched.layers for access in denial.accesses):
             found.of_others[name] += 1
-        elif matched is not None and _is_granted_since(denial, matched):
+        elif matched is not None and matched.is_granted_since(denial):
             found.since[name] += 1
         elif _would_gain(denial):
             found.gaining[name] += 1
@@ -116,12 +116,6 @@ def _is_grantable(objection: Objection) -> bool:
 def _is_no_text(character: str) -> bool:
     """Whether a character stands for a byte that is not UTF-8 (PEP 383)."""
     return "\ud800" <= character <= "\udfff"
-
-
-def _is_granted_since(denial: Denial, matched: Matched) -> bool:
-    """Whether the policy, as it is now, grants all that was denied; what came to the path of a rule is not granted."""
-    time = denial.stamp.milliseconds
-    return all(matched.is_granted_now(it) and not matched.is_made(it, time) for it in denial.accesses)
 
 
 def _would_gain(denial: Denial) -> bool:

@@ -13,11 +13,11 @@ from dataclasses import dataclass, field, replace
 from functools import cache
 from itertools import combinations
 
-from ..answers import Closed, Missing, Mounting, Objection, Scoped, Tracing
+from ..answers import Closed, Missing, Mounting, Objection, Scoped, Tracing, Unplaced
 from ..policies import Layer, PathRule, Policy, PortRule
 from ..rights import FS, NET
 from ..trees import upwards
-from .denials import Access, Log, Maker
+from .denials import Access, Denial, Domain, Log, Maker
 
 
 @dataclass(frozen=True)
@@ -34,8 +34,8 @@ class RuleAbove:
 class Matched:
     """What is known of a policy's part in a log: the layer of each domain.
 
-    A domain that is none of the policy's layers has none, and those of which some denials speak for one layer and some
-    for another are `unlike`. The policy's file was `changed` last at that time, in seconds since 1970.
+    A domain that is none of the policy's layers has none. Those that no layer fits, although it refuses some of their
+    denials, are `unlike`. The policy's file was `changed` last at that time, in seconds since 1970.
     """
 
     policy: Policy
@@ -59,6 +59,11 @@ class Matched:
         if layer is None or not isinstance(objection, Missing) or milliseconds < 1000 * self.changed:
             return False
         return not refuses(layer, objection) and refuses(_without_rules_on(layer, objection.path), objection)
+
+    def is_granted_since(self, denial: Denial) -> bool:
+        """Whether the policy, as it is now, grants all that was denied, but for what came to a rule's path later."""
+        time = denial.stamp.milliseconds
+        return all(self.is_granted_now(it) and not self.is_made(it, time) for it in denial.accesses)
 
     def rules_above(self, access: Access) -> Iterator[RuleAbove]:
         """The rules of the layer of a denial that are on its object or port, or above it."""
@@ -100,11 +105,21 @@ def _votes(policy: Policy, objections: Counter[Objection]) -> Counter[int]:
 
 
 def _by_process(log: Log, refused: Iterable[str]) -> Iterator[list[str]]:
-    """The domains that each process made, the oldest first; a domain of which that is not known is alone."""
-    found: dict[Maker | str, list[str]] = {}
-    for domain in refused:
-        found.setdefault(log.domains[domain].maker or domain, []).append(domain)
-    yield from (sorted(domains, key=lambda it: int(it, 16)) for domains in found.values())
+    """The domains that each process made, the oldest first; a domain of which that is not known is alone.
+
+    Once all domains of a process have ended, its pid may be that of another process.
+    """
+    groups: list[list[Domain]] = []
+    newest: dict[Maker, list[Domain]] = {}
+    for domain in sorted((log.domains[number] for number in refused), key=lambda it: int(it.number, 16)):
+        group = None if domain.maker is None else newest.get(domain.maker)
+        if group is None or all(it.ended is not None and it.ended < domain.first for it in group):
+            group = []
+            groups.append(group)
+            if domain.maker is not None:
+                newest[domain.maker] = group
+        group.append(domain)
+    yield from ([domain.number for domain in group] for group in groups)
 
 
 def _best(
@@ -130,9 +145,22 @@ def _best(
 
 
 def _handles_all(layer: Layer, objections: Iterable[Objection]) -> bool:
-    """Whether a layer restricts all that some objections are about, whatever its rules are."""
-    bare = replace(layer, path_beneath=(), net_port=())
-    return all(refuses(bare, objection) for objection in objections)
+    """Whether a layer restricts all that some objections are about, whatever its rules are.
+
+    Of a right that no policy here can name, that is not known.
+    """
+    fs, net = layer.handled_access_fs.rights, layer.handled_access_net.rights
+    for objection in objections:
+        match objection:
+            case Missing(rights=rights) | Unplaced(rights=rights):
+                handles = bool(fs) and set(rights) & FS.since.keys() <= fs | {"refer"}
+            case Closed(rights=rights):
+                handles = set(rights) & NET.since.keys() <= net
+            case _:
+                handles = refuses(layer, objection)
+        if not handles:
+            return False
+    return True
 
 
 def youngest(policy: Policy, objection: Objection) -> int | None:
