@@ -68,25 +68,21 @@ class Audit:
         message = self._socket.recv(65536)
         return _HEADER.unpack_from(message)[1], message[_HEADER.size :]
 
-    def _asked(self, kind: int, data: bytes = b"") -> bytes:
-        """Sends a request and waits until it is acknowledged; what came before that."""
+    def _asked(self, kind: int, data: bytes = b"", answer: int = _ERROR) -> bytes:
+        """Sends a request, and waits for a message of a type, which may be the one that the request is acknowledged."""
         self._send(kind, data)
-        found = b""
         while (message := self.receive(5)) is not None:
             if message[0] == _ERROR:
                 (number,) = struct.unpack_from("=i", message[1])
                 if number:
                     raise OSError(-number, os.strerror(-number))
-                return found
-            found = message[1] if message[0] == kind else found
+            if message[0] == answer:
+                return message[1]
         raise TimeoutError("the kernel's audit does not answer")
 
     def status(self) -> Status:
         """Whether audit is on."""
-        found = b""
-        self._send(_GET)
-        while not found and (message := self.receive(5)) is not None:
-            found = message[1] if message[0] == _GET else b""
+        found = self._asked(_GET, answer=_GET)
         _, enabled, _, daemon, _, backlog = struct.unpack_from("=6I", found)
         return Status(bool(enabled), daemon, backlog)
 
@@ -106,13 +102,10 @@ def wanting() -> str | None:
     if os.getuid() != 0:
         return "only root may switch audit on"
     try:
-        audit = Audit()
+        with contextlib.closing(Audit()) as audit:
+            status = audit.status()
     except OSError as error:
-        return f"this kernel has no audit: {error.strerror}"
-    try:
-        status = audit.status()
-    finally:
-        audit.close()
+        return f"the kernel's audit does not answer: {error.strerror or error}"
     return "audit is on already" if status.enabled or status.daemon else None
 
 
