@@ -18,6 +18,7 @@ from landaudit_record.landaudit import BUILT
 
 from .live_actor import CONFINER, RECORDER
 from .recorded import write_lines
+from .test_kernel_log import kept
 
 POLICY = """[[layer]]
 handled_access_fs = ["all"]
@@ -51,6 +52,7 @@ class Ends(unittest.TestCase):
         write_lines(self.recording / "trace.jsonl", TRACE)
         for name, text in (("policy", POLICY), ("cases", CASES)):
             (self.folder / f"{name}.toml").write_text(text)
+        (self.folder / "kernel.log").write_bytes(kept("dmesg.log"))
 
     def calls(self) -> Iterator[tuple[Path, list[str]]]:
         """Each subcommand of each program, with the words that it needs."""
@@ -58,8 +60,9 @@ class Ends(unittest.TestCase):
         words = {
             "run": ["new", "--policy", "policy.toml", "--", "true"], "convert": ["rec"], "audit": of_policy,
             "suggest": of_policy, "tighten": of_policy, "apply": ["policy.toml", "rec"], "compare": ["rec"],
-            "confine": ["policy.toml", "--", "true"], "diff": ["policy.toml", "policy.toml"],
-            "check": ["policy.toml", "cases.toml"], "export": ["policy.toml", "--c"],
+            "denials": ["kernel.log", "--policy", "policy.toml"], "confine": ["policy.toml", "--", "true"],
+            "diff": ["policy.toml", "policy.toml"], "check": ["policy.toml", "cases.toml"],
+            "export": ["policy.toml", "--c"],
         }
         for program, names in ((RECORDER, commands.NAMES), (CONFINER, policy_commands.NAMES)):
             for name in names:
@@ -82,7 +85,7 @@ class Ends(unittest.TestCase):
 
     def test_an_output_that_is_closed_or_full(self) -> None:
         """What prints its result can't; the others do their work or say what else they miss."""
-        printing = {"audit", "suggest", "tighten", "apply", "diff", "check", "export"}
+        printing = {"audit", "suggest", "tighten", "apply", "denials", "diff", "check", "export"}
         for how in ('exec "$@" >&-', 'exec "$@" >/dev/full'):
             for program, words in self.calls():
                 if words[0] in printing:
