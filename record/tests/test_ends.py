@@ -18,7 +18,7 @@ from landaudit_record.landaudit import BUILT
 
 from .live_actor import CONFINER, RECORDER
 from .recorded import write_lines
-from .test_kernel_log import kept
+from .test_kernel_log import ACCESS, CALL, DOMAIN, kept, line
 
 POLICY = """[[layer]]
 handled_access_fs = ["all"]
@@ -122,7 +122,7 @@ class Ends(unittest.TestCase):
             self.skipTest("setpriv is not installed")
         closed = self.folder / "closed"
         closed.mkdir()
-        for name in ("rec", "policy.toml", "cases.toml"):
+        for name in ("rec", "policy.toml", "cases.toml", "kernel.log"):
             (self.folder / name).rename(closed / name)
             (self.folder / name).symlink_to(closed / name)
         closed.chmod(0)
@@ -134,15 +134,15 @@ class Ends(unittest.TestCase):
                 self.assertEqual(run.returncode, 3, run.stderr)
 
     def test_a_file_in_the_place_of_a_folder_and_the_reverse(self) -> None:
-        for name in ("rec", "policy.toml"):
+        for name in ("rec", "policy.toml", "kernel.log"):
             there = self.folder / name
             there.rename(self.folder / "other")
-            there.mkdir() if name.endswith(".toml") else there.touch()
+            there.mkdir() if "." in name else there.touch()
             for program, words in self.calls():
                 if name in words:
                     with self.subTest(words, name=name):
                         self.failed(program, words, self.ended([sys.executable, program, *words]))
-            there.rmdir() if name.endswith(".toml") else there.unlink()
+            there.rmdir() if "." in name else there.unlink()
             (self.folder / "other").rename(there)
 
     def test_names_that_a_terminal_would_act_on(self) -> None:
@@ -154,7 +154,9 @@ class Ends(unittest.TestCase):
         name = json.loads(f'"{escaped}"')
         write_lines(self.recording / "tree.jsonl", [*TREE, {"path": name, "kind": "reg"}])
         write_lines(self.recording / "trace.jsonl", [*TRACE, {**TRACE[2], "path": name, "fd": 4, "call": 3}])
-        for program, words in self.calls():
+        (self.folder / "kernel.log").write_text(self.odd_log(name))
+        more = [(RECORDER, ["denials", "kernel.log", option]) for option in ("--suggest", "--all", "--json")]
+        for program, words in [*self.calls(), *more]:
             with self.subTest(words):
                 run = self.ended([sys.executable, program, *words])
                 printed = (run.stdout if words[0] != "apply" else "") + run.stderr
@@ -163,6 +165,18 @@ class Ends(unittest.TestCase):
                 run = self.ended([sys.executable, program, *[f"{name[1:]}.toml" if it.endswith(".toml") else it
                                                              for it in words]])
                 self.assertEqual([one for one in run.stderr if not one.isprintable() and one != "\n"], [])
+
+    def odd_log(self, name: str) -> str:
+        """A kernel's log with a name wherever a program chooses one, and where only a writer of the log could put it."""
+        digits = name.encode().hex().upper()
+        access = line(ACCESS).replace('"/a"', digits)
+        domain = line(DOMAIN).replace('"/bin/x"', digits).replace('"x"', digits)
+        call = line(CALL).replace('"/bin/x"', digits).replace('"x"', digits)
+        title = f"type=PROCTITLE msg=audit(1795939711.837:1): proctitle={digits}"
+        named = line(CALL, 2) + "\x1dSYSCALL=\"" + name.replace("\n", "") + "\""
+        kill = line(ACCESS, 2).replace('fs.make_dir path="/a"', f"scope.signal opid=1 ocomm={digits}")
+        cut = "type=UNKNOWN[1423] msg=audit(1795939711.837:3): domain=" + name.replace("\n", "")
+        return "\n".join([access, domain, call, title, kill, named, cut, ""])
 
     def test_an_audit_without_a_policy_of_a_program_that_confines_nothing(self) -> None:
         """A forgotten option is no success; what the program's own layers refuse is asked where there is one."""

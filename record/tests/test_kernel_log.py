@@ -275,6 +275,19 @@ class Missed(unittest.TestCase):
                 (unread,) = read(text).unread
                 self.assertIn("no audit(TIME:SERIAL)", str(unread))
 
+    def test_huge_numbers(self) -> None:
+        """Python turns no text of more than 4,300 digits into a number by itself."""
+        huge = "1" * 5_000
+        port = line(ACCESS).partition("fs.")[0] + f"net.bind_tcp src={huge}"
+        for text in (port, line(DOMAIN).replace("pid=7", f"pid={huge}"), line(ACCESS).replace("1795939711", huge),
+                     line(ENDED).replace("denials=1", f"denials={huge}")):
+            log = read(text)
+            self.assertEqual((len(log.unread), log.denials), (1, ()))
+        call = line(CALL).replace("syscall=83", f"syscall={huge}").replace("exit=-13", f"exit=-{huge}")
+        (denial,) = read("\n".join([line(ACCESS), call])).denials
+        assert denial.call is not None
+        self.assertEqual((denial.call.name, denial.call.error), ("-", None))
+
     def test_unknown_blockers_and_states(self) -> None:
         for text in (line(ACCESS).replace("fs.make_dir", "proc.look"), line(ACCESS).replace("fs.make_dir", ""),
                      line(DOMAIN).replace("allocated", "born"), line(ENDED).replace("denials=1", "denials=x")):

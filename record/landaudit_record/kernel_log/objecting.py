@@ -6,6 +6,7 @@ the object: a path with its device and inode, an address with a port, a process,
 
 from __future__ import annotations
 
+import re
 from collections.abc import Mapping
 
 from ..answers import Closed, Missing, Mounting, Objection, Scoped, Tracing, Unplaced
@@ -17,6 +18,9 @@ _MOUNTS, _PTRACE = "fs.change_topology", "ptrace"
 _SOCKETS = "abstract_unix_socket"
 #: The fields with a port: of an address that a socket gets, and of one that it connects to.
 _PORTS = ("dest", "src")
+_PORT = re.compile("[0-9]{1,5}")
+#: How many characters are shown of what is no port.
+_SHOWN = 10
 
 
 def objection(fields: Mapping[str, str]) -> Objection:
@@ -68,8 +72,8 @@ def _on_path(rights: tuple[str, ...], fields: Mapping[str, str]) -> Objection:
 def _port(fields: Mapping[str, str]) -> int:
     """The port of an address; the kernel leaves out the port 0."""
     port = next((fields[name] for name in _PORTS if name in fields), "0")
-    if not port.isdecimal() or not port.isascii() or int(port) > HIGHEST_PORT:
-        raise Cut(f"has the port {port!r}")
+    if not _PORT.fullmatch(port) or int(port) > HIGHEST_PORT:
+        raise Cut(f"has the port {port[:_SHOWN]!r}")
     return int(port)
 
 

@@ -158,7 +158,7 @@ def rules(granted: Granted, found: Counted, policy: Policy | None) -> Iterator[s
         yield "# the log has no refused call that a rule can fix"
     else:
         yield f"# {ONE_STEP}"
-    yield from (f"# {text}" for text in staying(granted, policy))
+    yield from (f"# {plain(text)}" for text in staying(granted, policy))
     yield from (f"# warning: {plain(text)}" for text in found.summary.warnings)
     yield from (f"# {NOT_ALL} {plain(text)}" for text in found.summary.missing)
 
