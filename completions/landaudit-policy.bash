@@ -7,7 +7,8 @@ _landaudit_policy_words() {
         diff) echo '-h --help --abi --landaudit' ;;
         check) echo '-h --help --json --landaudit' ;;
         export) echo '-h --help --c --log' ;;
-        *) echo 'confine check diff export -h --help -V --version' ;;
+        import) echo '-h --help --program --process' ;;
+        *) echo 'confine check diff export import -h --help -V --version' ;;
     esac
 }
 
@@ -45,7 +46,8 @@ _landaudit_policy() {
     fi
     case $prev in
         --abi) mapfile -t COMPREPLY < <(compgen -W "$(_landaudit_policy_abis "$sub")" -- "$cur") ;;
-        --landaudit) ;;
+        --landaudit | --process) ;;
+        --program) mapfile -t COMPREPLY < <(compgen -c -- "$cur") ;;
         *)
             if [[ -z $sub || $cur == -* ]]; then
                 mapfile -t COMPREPLY < <(compgen -W "$(_landaudit_policy_words "$sub")" -- "$cur")

@@ -30,8 +30,11 @@ class Program:
     commands: Sequence[str]
 
     def modules(self, words: Sequence[str]) -> list[ModuleType]:
-        """All subcommands, or only the one that begins the words: importing the others takes longer than parsing."""
-        named = [name for name in self.commands if name == words[0]] if words else []
+        """All subcommands, or only the one that begins the words: importing the others takes longer than parsing.
+
+        A module whose name would be a keyword has an underscore behind it.
+        """
+        named = [name for name in self.commands if name.rstrip("_") == words[0]] if words else []
         return [importlib.import_module(f"{self.package}.{name}") for name in named or self.commands]
 
 

@@ -13,6 +13,8 @@ from .trees import Tree
 from .wording import plain, quoted
 
 Remark = Callable[[int, PathRule | PortRule], str]
+"""A remark on a rule of the layer with a number; an empty one is none."""
+
 Words = tuple[str, ...]
 
 
@@ -96,7 +98,12 @@ def _meant(words: Words, family: Family, on_file: bool) -> Rights:
     return access.outright | access.grouped & FILE_RIGHTS if access.outright <= FILE_RIGHTS else frozenset()
 
 
-def lines(policy: Policy, comments: Comments, remark: Remark) -> Iterator[str]:
+def no_remark(layer: int, rule: PathRule | PortRule) -> str:
+    """No remark on any rule."""
+    return ""
+
+
+def lines(policy: Policy, comments: Comments = Comments(), remark: Remark = no_remark) -> Iterator[str]:
     """The lines of a policy with its comments; `remark` gives a remark on a rule of the layer with a number.
 
     The comments on a rule that is in parts are on the first of them.
@@ -104,7 +111,8 @@ def lines(policy: Policy, comments: Comments, remark: Remark) -> Iterator[str]:
     yield from _comments(comments.whole)
     if comments.whole:
         yield ""
-    for layer in policy.layers:
+    for number, layer in enumerate(policy.layers):
+        yield from [""] if number else []
         yield from _layer(layer, comments, remark)
 
 
@@ -140,7 +148,7 @@ def _head(
         yield from _comments(comments.on_rule(layer.number, rule.place))
     if isinstance(rule, PathRule) and rule.group is not None:
         yield from _comments([f"of the group {rule.group}"])
-    yield from _comments([remark(layer.number, rule)])
+    yield from _comments([text for text in [remark(layer.number, rule)] if text])
 
 
 def _comments(texts: list[str]) -> Iterator[str]:
