@@ -3,10 +3,10 @@
 # The options of a subcommand, or what can come instead of one.
 _landaudit_policy_words() {
     case $1 in
-        confine) echo '-h --help --abi --log --' ;;
-        diff) echo '-h --help --abi --landaudit' ;;
-        check) echo '-h --help --json --landaudit' ;;
-        export) echo '-h --help --c --log' ;;
+        confine) echo '-h --help --abi --log --set --' ;;
+        diff) echo '-h --help --abi --set --landaudit' ;;
+        check) echo '-h --help --json --set --landaudit' ;;
+        export) echo '-h --help --c --log --set' ;;
         import) echo '-h --help --program --process' ;;
         *) echo 'confine check diff export import -h --help -V --version' ;;
     esac
@@ -46,7 +46,7 @@ _landaudit_policy() {
     fi
     case $prev in
         --abi) mapfile -t COMPREPLY < <(compgen -W "$(_landaudit_policy_abis "$sub")" -- "$cur") ;;
-        --landaudit | --process) ;;
+        --landaudit | --process | --set) ;;
         --program) mapfile -t COMPREPLY < <(compgen -c -- "$cur") ;;
         *)
             if [[ -z $sub || $cur == -* ]]; then

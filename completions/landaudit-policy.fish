@@ -27,6 +27,7 @@ complete -c landaudit-policy -n __fish_is_first_arg -a import -d 'Print the poli
 
 complete -c landaudit-policy -n '__landaudit_policy_has confine diff check export import' -F
 complete -c landaudit-policy -n '__landaudit_policy_has confine' -l abi -x -a '1 2 3 4 5' -d 'Version of the interface of Landlock'
+complete -c landaudit-policy -n '__landaudit_policy_has confine diff check export' -l set -x -d 'Value of a variable, as NAME=VALUE'
 complete -c landaudit-policy -n '__landaudit_policy_has diff check' -l landaudit -r -F -d 'landaudit itself'
 complete -c landaudit-policy -n '__landaudit_policy_has diff' -l abi -x -a '1 2 3 4 5 1-2 1-3 1-4 1-5 2-3 2-4 2-5 3-4 3-5 4-5' -d 'Version of the interface of Landlock, or a range'
 complete -c landaudit-policy -n '__landaudit_policy_has check' -l json -d 'Print the result as JSON'

@@ -3,13 +3,13 @@
 # The options of a subcommand, or what can come instead of one.
 _landaudit_record_words() {
     case $1 in
-        run) echo '-h --help --watch --policy --abi --port-rules --readlink --witness --' ;;
-        convert) echo '-h --help --port-rules' ;;
-        apply) echo '-h --help --out --tree --program --abi' ;;
-        audit) echo '-h --help --policy --accepted --program --abi --as-recorded --all --json --html --landaudit' ;;
+        run) echo '-h --help --watch --policy --abi --port-rules --set --readlink --witness --' ;;
+        convert) echo '-h --help --port-rules --set' ;;
+        apply) echo '-h --help --out --tree --set --program --abi' ;;
+        audit) echo '-h --help --policy --accepted --set --program --abi --as-recorded --all --json --html --landaudit' ;;
         compare) echo '-h --help --abi --json --differences --landaudit' ;;
-        tighten) echo '-h --help --policy --list --program --abi --as-recorded --landaudit' ;;
-        suggest) echo '-h --help --policy --rules --style --program --abi --as-recorded --landaudit' ;;
+        tighten) echo '-h --help --policy --list --set --program --abi --as-recorded --landaudit' ;;
+        suggest) echo '-h --help --policy --rules --style --set --program --abi --as-recorded --landaudit' ;;
         denials) echo '-h --help --policy --program --all --suggest --json --html' ;;
         *) echo 'run convert apply audit compare suggest tighten denials -h --help -V --version' ;;
     esac
@@ -59,7 +59,7 @@ _landaudit_record() {
             compopt -o filenames 2> /dev/null
             mapfile -t COMPREPLY < <(compgen -d -- "$cur")
             ;;
-        --out | --tree | --differences | --html | --landaudit | --rules) ;;
+        --out | --tree | --differences | --html | --landaudit | --rules | --set) ;;
         *)
             if [[ -z $sub || $cur == -* ]]; then
                 mapfile -t COMPREPLY < <(compgen -W "$(_landaudit_record_words "$sub")" -- "$cur")

@@ -14,15 +14,16 @@ from collections.abc import Iterable, Iterator, Mapping, Sequence
 from pathlib import Path
 from typing import Any
 
-from . import documents
+from . import variables
 from .documents import Place, check_keys, tables
 from .policies import ACCEPTED, HIGHEST_PORT
 from .summary import Accepted, Summary
+from .variables import NOTHING_GIVEN, Given
 
 
-def read(path: Path, *, only: bool = True) -> list[Accepted]:
+def read(path: Path, given: Given = NOTHING_GIVEN, *, only: bool = True) -> list[Accepted]:
     """What a file accepts; any error in it is a Problem. With `only`, the file may contain nothing else."""
-    document, place = documents.read(path), Place(path)
+    document, place = variables.read(path, given).table, Place(path)
     if only:
         check_keys(document, (ACCEPTED,), place)
     found = tables(document.get(ACCEPTED, []), ACCEPTED, place)

@@ -20,7 +20,7 @@ from dataclasses import dataclass, field
 from pathlib import Path
 from typing import Any
 
-from . import documents, options, resolving
+from . import options, resolving, variables
 from .asking import Question, opening
 from .documents import Place, check_keys, tables, unknown
 from .policies import HIGHEST_PORT, LONGEST_PATH
@@ -29,6 +29,7 @@ from .recorder.disk import MOST_INTERPRETERS
 from .resolving import DISK, LinkLoop
 from .rights import NEWEST_ABI, OLDEST_ABI
 from .trees import ROOT, Tree, directory_of, joined
+from .variables import NOTHING_GIVEN, Given
 
 ALL_ABIS = range(OLDEST_ABI, NEWEST_ABI + 1)
 KINDS = ("reg", "dir", "sym", "char", "block", "fifo", "sock")
@@ -93,9 +94,9 @@ class Cases:
     tree: Tree = field(default_factory=Tree)
 
 
-def read(path: Path) -> Cases:
+def read(path: Path, given: Given = NOTHING_GIVEN) -> Cases:
     """The cases in a file; any error in it is a Problem that names its position and says what would be right."""
-    document, place = documents.read(path), Place(path)
+    document, place = variables.read(path, given).table, Place(path)
     check_keys(document, ("refused", "allowed"), place)
     found = Cases(path)
     for key in ("refused", "allowed"):

@@ -8,14 +8,17 @@ from __future__ import annotations
 
 from dataclasses import dataclass, field
 
-from . import outline
+from . import outline, variables
 
 
 @dataclass
 class Comments:
-    """The comments on the whole policy, and on its layers and rules: by the layer's number and the rule's name."""
+    """The comments on the whole policy, on its variables, and on its layers and rules: by the layer's number and the
+    rule's name.
+    """
 
     whole: list[str] = field(default_factory=list)
+    on_variables: list[str] = field(default_factory=list)
     parts: dict[tuple[int, str], list[str]] = field(default_factory=dict)
 
     def on_layer(self, layer: int) -> list[str]:
@@ -34,6 +37,8 @@ def read(text: str) -> Comments:
         match path:
             case ():
                 found.whole.append(comment)
+            case (variables.KEY,):
+                found.on_variables.append(comment)
             case ("layer", int(layer)):
                 found.parts.setdefault((layer + 1, ""), []).append(comment)
             case ("layer", int(layer), kind, int(rule)):

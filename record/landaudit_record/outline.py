@@ -83,6 +83,12 @@ def long_key(text: str) -> int | None:
     return None
 
 
+def end_of_text(text: str, offset: int) -> int | None:
+    """Where the text ends that begins at an offset; None if no text begins there."""
+    found = _TOKEN.match(text, offset)
+    return found.end() if found is not None and found.lastgroup == "text" else None
+
+
 def _tokens(text: str) -> Iterator[_Token]:
     """The tokens of a text, without blanks."""
     for found in _TOKEN.finditer(text):

@@ -20,21 +20,25 @@ its rights that the layer handles.
 `include` names groups of rules, each a TOML file in `groups`: at the top for all
 layers, in a layer, or in a `[[layer.path_beneath]]` instead of everything else.
 Their rights count as groups of rights do, and missing paths are left out without
-a note, since one group is for many machines.
+a note, since one group is for many machines. A name that begins with `./`, `../`
+or `/` is that of a group of one's own: a file, as seen from the one that includes it.
+
+Texts may have variables (`variables`).
 """
 
 from __future__ import annotations
 
 import re
 from collections.abc import Callable, Iterator, Mapping, Sequence
-from dataclasses import dataclass, replace
+from dataclasses import dataclass, field, replace
 from functools import cache
 from pathlib import Path
 from typing import Any, TypeVar
 
-from . import documents
+from . import variables
 from .documents import Place, check_keys, listed, one_or_several, tables, unknown
 from .rights import FS, NET, NEWER, NEWEST_ABI, NONE, Family, Rights
+from .variables import NOTHING_GIVEN, Filled, Given
 
 ACCEPTED = "accepted"
 """A key that is not part of the policy: refusals that are known and accepted, which `accepting` reads."""
@@ -107,10 +111,16 @@ class Layer:
 
 @dataclass(frozen=True)
 class Policy:
-    """A policy's layers, the oldest first, and the file that they were read from."""
+    """A policy's layers, the oldest first, and the file that they were read from.
+
+    `defaults` are the values that the file gives its variables, `written` its parents and ports that have variables, by
+    their values.
+    """
 
     path: Path
     layers: tuple[Layer, ...]
+    defaults: Mapping[str, str] = field(default_factory=dict, compare=False)
+    written: Mapping[str | int, str] = field(default_factory=dict, compare=False)
 
     @property
     def scoped(self) -> tuple[str, ...]:
@@ -118,72 +128,109 @@ class Policy:
         return tuple(scope for scope in SCOPES if any(scope in layer.scoped for layer in self.layers))
 
 
-def read(path: Path) -> Policy:
+def read(path: Path, given: Given = NOTHING_GIVEN) -> Policy:
     """The policy in a file; any error in it is a Problem that names its position and says what would be right."""
-    return _policy(documents.read(path), Place(path))
+    filled = variables.read(path, given)
+    return _Reading(filled, given).policy(Place(path))
 
 
-def _policy(document: Mapping[str, Any], place: Place) -> Policy:
-    check_keys(document, ("layer", "include", ACCEPTED), place)
-    included = _included(document, place)
-    found = tables(document.get("layer", []), "layer", place)
-    if not found:
-        place.fault("no layer: write one as [[layer]] with handled_access_fs")
-    if len(found) > MOST_LAYERS:
-        place.fault(f"{len(found)} layers: the kernel takes at most {MOST_LAYERS}")
-    layers = (_layer(table, number, included, place / f"layer {number}") for number, table in enumerate(found, start=1))
-    return Policy(place.path, tuple(layers))
+@dataclass(frozen=True)
+class Group:
+    """A group of rules, in a layer that handles all rights."""
+
+    name: str
+    rules: tuple[PathRule, ...]
+
+    def in_layer(self, handled: Rights) -> Iterator[PathRule]:
+        """The rules with those of their rights that a layer handles."""
+        for rule in self.rules:
+            if rights := rule.allowed_access.rights & handled:
+                yield replace(rule, allowed_access=Access(grouped=rights))
 
 
-def _layer(table: Mapping[str, Any], number: int, included: Sequence[str], place: Place) -> Layer:
-    """A layer, with the rules of the groups that its policy includes after its own."""
-    keys = ("handled_access_fs", "handled_access_net", "include", "path_beneath", "net_port", "scoped")
-    check_keys(table, keys, place)
-    fs = _access(table.get("handled_access_fs", []), FS, place / "handled_access_fs")
-    net = _access(table.get("handled_access_net", []), NET, place / "handled_access_net")
-    scoped = _scopes(table.get("scoped", []), place / "scoped")
-    if not fs.rights and not net.rights and not scoped:
-        place.fault('handles nothing: give handled_access_fs or handled_access_net rights, as ["all"]')
-    named = [*included, *_included(table, place)]
-    paths = _rules(table, "path_beneath", place, lambda it, name, at: _path_rule(it, name, fs.rights, named, at))
-    ports = _rules(table, "net_port", place, lambda it, name, at: _port_rule(it, name, net.rights, at))
-    of_groups = (rule for name in dict.fromkeys(named) for rule in group_rules(name, fs.rights))
-    return Layer(number, fs, net, (*filter(None, paths), *of_groups), ports, scoped)
+@dataclass(frozen=True)
+class _Reading:
+    """Reads a policy from a document, and the groups that it includes."""
 
+    filled: Filled
+    given: Given
 
-def _included(table: Mapping[str, Any], place: Place) -> tuple[str, ...]:
-    """The groups of rules that a table includes."""
-    return one_or_several(table["include"], _group_name, place / "include") if "include" in table else ()
+    def policy(self, place: Place) -> Policy:
+        """The policy."""
+        document = self.filled.table
+        check_keys(document, ("layer", "include", variables.KEY, ACCEPTED), place)
+        included = self._included(document, place)
+        found = tables(document.get("layer", []), "layer", place)
+        if not found:
+            place.fault("no layer: write one as [[layer]] with handled_access_fs")
+        if len(found) > MOST_LAYERS:
+            place.fault(f"{len(found)} layers: the kernel takes at most {MOST_LAYERS}")
+        layers = (self._layer(it, number, included, place / f"layer {number}") for number, it in enumerate(found, start=1))
+        return Policy(place.path, tuple(layers), self.filled.defaults, self.filled.written)
 
+    def _layer(self, table: Mapping[str, Any], number: int, included: Sequence[Group], place: Place) -> Layer:
+        """A layer, with the rules of the groups that its policy includes after its own."""
+        keys = ("handled_access_fs", "handled_access_net", "include", "path_beneath", "net_port", "scoped")
+        check_keys(table, keys, place)
+        fs = _access(table.get("handled_access_fs", []), FS, place / "handled_access_fs")
+        net = _access(table.get("handled_access_net", []), NET, place / "handled_access_net")
+        scoped = _scopes(table.get("scoped", []), place / "scoped")
+        if not fs.rights and not net.rights and not scoped:
+            place.fault('handles nothing: give handled_access_fs or handled_access_net rights, as ["all"]')
+        named = [*included, *self._included(table, place)]
 
-def _group_name(value: Any, place: Place) -> str:
-    names = group_names()
-    if value not in names:
-        place.fault(f"unknown group of rules {unknown(str(value), names)}")
-    return str(value)
+        def path_rule(it: Mapping[str, Any], name: str, at: Place) -> PathRule | None:
+            """A rule; None if it only includes groups."""
+            if "include" not in it:
+                return _path_rule(it, name, fs.rights, at)
+            check_keys(it, ("include",), at)
+            named.extend(self._included(it, at))
+            return None
+
+        paths = _rules(table, "path_beneath", place, path_rule)
+        ports = _rules(table, "net_port", place, lambda it, name, at: _port_rule(it, name, net.rights, at))
+        groups = {group.name: group for group in named}
+        of_groups = (rule for group in groups.values() for rule in group.in_layer(fs.rights))
+        return Layer(number, fs, net, (*filter(None, paths), *of_groups), ports, scoped)
+
+    def _included(self, table: Mapping[str, Any], place: Place) -> tuple[Group, ...]:
+        """The groups of rules that a table includes."""
+        return one_or_several(table["include"], self._group, place / "include") if "include" in table else ()
+
+    def _group(self, value: Any, place: Place) -> Group:
+        """A group of rules by its name, or one's own by its file."""
+        if isinstance(value, str) and value.startswith(variables.OWN_GROUP):
+            file = place.path.parent / value
+            return _group_in(variables.read(file, self.given, self.filled.defaults), value, Place(file))
+        names = group_names()
+        if value not in names:
+            place.fault(f"unknown group of rules {unknown(str(value), names)}; a file is written as ./site.toml")
+        return _group(value)
 
 
 def group_names() -> list[str]:
-    """The names of all groups of rules."""
+    """The names of all groups of rules that are installed."""
     return sorted(path.stem for path in GROUPS.glob("*.toml"))
 
 
 def group_rules(name: str, handled: Rights) -> Iterator[PathRule]:
-    """The rules of a group with those of their rights that a layer handles."""
-    for rule in _group(name):
-        if rights := rule.allowed_access.rights & handled:
-            yield replace(rule, allowed_access=Access(grouped=rights))
+    """The rules of a group that is installed, with those of their rights that a layer handles."""
+    return _group(name).in_layer(handled)
 
 
 @cache
-def _group(name: str) -> tuple[PathRule, ...]:
-    """The rules of a group in a layer that handles all rights."""
+def _group(name: str) -> Group:
+    """A group that is installed."""
     place = Place(GROUPS / f"{name}.toml")
-    document = documents.read(place.path)
-    check_keys(document, ("path_beneath",), place, all_needed=True)
-    handled, none = FS.groups["all"], list[str]()
-    rules = _rules(document, "path_beneath", place, lambda it, rule, at: _path_rule(it, rule, handled, none, at))
-    return tuple(replace(rule, place=f"{name} {rule.place}", group=name) for rule in filter(None, rules))
+    return _group_in(variables.read(place.path, NOTHING_GIVEN), name, place)
+
+
+def _group_in(filled: Filled, name: str, place: Place) -> Group:
+    """The group of a file."""
+    check_keys(filled.table, ("path_beneath",), place, all_needed=True)
+    handled = FS.groups["all"]
+    rules = _rules(filled.table, "path_beneath", place, lambda it, rule, at: _path_rule(it, rule, handled, at))
+    return Group(name, tuple(replace(rule, place=f"{name} {rule.place}", group=name) for rule in rules))
 
 
 def _scopes(value: Any, place: Place) -> tuple[str, ...]:
@@ -205,14 +252,7 @@ def _rules(
     return tuple(rule(table, name, place / name) for name, table in zip(names, found))
 
 
-def _path_rule(
-    table: Mapping[str, Any], name: str, handled: Rights, included: list[str], place: Place
-) -> PathRule | None:
-    """A rule; None if it only includes groups, which are then added to `included`."""
-    if "include" in table:
-        check_keys(table, ("include",), place)
-        included += _included(table, place)
-        return None
+def _path_rule(table: Mapping[str, Any], name: str, handled: Rights, place: Place) -> PathRule:
     check_keys(table, ("allowed_access", "parent"), place, all_needed=True)
     access = _allowed(table["allowed_access"], FS, handled, "handled_access_fs", place / "allowed_access")
     return PathRule(name, access, one_or_several(table["parent"], _parent, place / "parent"))

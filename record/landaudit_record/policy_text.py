@@ -2,10 +2,11 @@
 
 from __future__ import annotations
 
-from collections.abc import Callable, Iterator, Sequence
+from collections.abc import Callable, Iterator, Mapping, Sequence
 from dataclasses import replace
 from itertools import groupby
 
+from . import variables
 from .comments import Comments
 from .policies import Access, Layer, PathRule, Policy, PortRule
 from .rights import FILE_RIGHTS, FS, NET, Family, Rights
@@ -16,6 +17,8 @@ Remark = Callable[[int, PathRule | PortRule], str]
 """A remark on a rule of the layer with a number; an empty one is none."""
 
 Words = tuple[str, ...]
+Written = Mapping[str | int, str]
+"""Parents and ports that have variables as a file writes them, by their values."""
 
 
 def apart(policy: Policy, trees: Sequence[Tree]) -> Policy:
@@ -111,12 +114,25 @@ def lines(policy: Policy, comments: Comments = Comments(), remark: Remark = no_r
     yield from _comments(comments.whole)
     if comments.whole:
         yield ""
+    yield from _variables(policy, comments)
     for number, layer in enumerate(policy.layers):
         yield from [""] if number else []
-        yield from _layer(layer, comments, remark)
+        yield from _layer(layer, policy.written, comments, remark)
 
 
-def _layer(layer: Layer, comments: Comments, remark: Remark) -> Iterator[str]:
+def _variables(policy: Policy, comments: Comments) -> Iterator[str]:
+    """The values that the policy's file gives its variables, without those that no rule has any more."""
+    on: set[str | int] = {parent for layer in policy.layers for rule in layer.path_beneath for parent in rule.parents}
+    on |= {port for layer in policy.layers for rule in layer.net_port for port in rule.ports}
+    used = {name for value, text in policy.written.items() if value in on for name in variables.names(text)}
+    if values := {name: value for name, value in policy.defaults.items() if name in used}:
+        yield from _comments(comments.on_variables)
+        yield f"[{variables.KEY}]"
+        yield from (f"{name} = {quoted(value)}" for name, value in values.items())
+        yield ""
+
+
+def _layer(layer: Layer, written: Written, comments: Comments, remark: Remark) -> Iterator[str]:
     yield from _comments(comments.on_layer(layer.number))
     yield "[[layer]]"
     for key, access, family in (("fs", layer.handled_access_fs, FS), ("net", layer.handled_access_net, NET)):
@@ -129,13 +145,13 @@ def _layer(layer: Layer, comments: Comments, remark: Remark) -> Iterator[str]:
         yield from _head(layer, rule, before, comments, remark)
         yield "[[layer.path_beneath]]"
         yield f"allowed_access = {_list(_words(rule.allowed_access, FS, layer.handled_access_fs.rights))}"
-        yield f"parent = {_one_or_several(list(rule.parents))}"
+        yield f"parent = {_one_or_several(rule.parents, written)}"
         before = rule
     for port_rule in layer.net_port:
         yield from _head(layer, port_rule, before, comments, remark)
         yield "[[layer.net_port]]"
         yield f"allowed_access = {_list(_words(port_rule.allowed_access, NET, layer.handled_access_net.rights))}"
-        yield f"port = {_one_or_several(list(port_rule.ports))}"
+        yield f"port = {_one_or_several(port_rule.ports, written)}"
         before = port_rule
 
 
@@ -169,6 +185,18 @@ def _list(words: Sequence[str]) -> str:
     return f"[{', '.join(quoted(word) for word in words)}]"
 
 
-def _one_or_several(values: list[str] | list[int]) -> str:
-    written = [quoted(value) if isinstance(value, str) else str(value) for value in values]
-    return written[0] if len(written) == 1 else f"[{', '.join(written)}]"
+def _one_or_several(values: Sequence[str | int], written: Written) -> str:
+    texts = [_value(value, written) for value in values]
+    return texts[0] if len(texts) == 1 else f"[{', '.join(texts)}]"
+
+
+def _value(value: str | int, written: Written) -> str:
+    """A parent or a port; with variables if the policy's file has it so."""
+    if value in written:
+        return quoted(written[value])
+    return path(value) if isinstance(value, str) else str(value)
+
+
+def path(text: str) -> str:
+    """A path as a policy's file has it."""
+    return quoted(variables.escaped(text))

@@ -5,6 +5,7 @@ from __future__ import annotations
 from collections import Counter
 from collections.abc import Iterable, Iterator, Mapping
 
+from . import policy_text
 from .policies import Layer, Policy
 from .rights import FS, NET
 from .suggesting import Suggestion, needs_refer
@@ -53,7 +54,7 @@ def _rule(rule: Rule) -> Iterator[str]:
     if isinstance(rule.place, str):
         yield "[[layer.path_beneath]]"
         yield f"allowed_access = {_list(FS.ordered(rule.rights))}"
-        yield f"parent = {quoted(rule.place)}"
+        yield f"parent = {policy_text.path(rule.place)}"
     else:
         yield "[[layer.net_port]]"
         yield f"allowed_access = {_list(NET.ordered(rule.rights))}"

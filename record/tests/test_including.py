@@ -65,7 +65,8 @@ class Reading(unittest.TestCase):
             ('include = ["x"]\n' + ALL, f"include: unknown group of rules 'x': use {', '.join(NAMES)}"),
             (ALL + "include = 1\n", "layer 1, include: unknown group of rules '1'"),
             (ALL + "include = []\n", "layer 1, include: is empty: give one or several"),
-            (ALL + 'include = ["../base"]\n', "unknown group of rules '../base'"),
+            (ALL + 'include = ["base/x"]\n', "unknown group of rules 'base/x'"),
+            (ALL + 'include = ["../base"]\n', "/../base: No such file or directory"),
             (ALL + RULE + 'include = ["base"]\nparent = "/a"\n', "layer 1, path_beneath 1: unknown key 'parent'"),
         ):
             with self.subTest(text), self.assertRaises(Problem) as caught:

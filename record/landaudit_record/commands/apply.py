@@ -6,7 +6,7 @@ import argparse
 import sys
 from pathlib import Path
 
-from .. import applying, finished, fitting, policies, resolving, surroundings, trees
+from .. import applying, finished, fitting, policies, resolving, surroundings, trees, variables
 from ..options import add_abi, add_program, note
 from ..problems import NOT_ALL_JUDGED, USAGE, Problem
 
@@ -19,7 +19,8 @@ A policy is a TOML file: each [[layer]] has handled_access_fs, handled_access_ne
 and rules, [[layer.path_beneath]] with allowed_access and parent (one or several)
 and [[layer.net_port]] with allowed_access and port (one or several). In a layer
 or before all layers, include = ["base"] stands for a group of rules. The groups
-are base, nameservice, ssl, tmp, and some for languages.
+are base, nameservice, ssl, tmp, and some for languages; include = "./site.toml"
+stands for the [[path_beneath]] of that file. ${NAME} stands for a value: see --set.
 
 A right has its name in Landlock, such as read_file. The groups all, read, write
 and execute stand for several rights. In a rule, a group stands for those of its
@@ -36,6 +37,7 @@ def add_arguments(parser: argparse.ArgumentParser) -> None:
     parser.add_argument("trace", metavar="TRACE", help="a recording's folder, or its trace.jsonl")
     parser.add_argument("--out", metavar="FILE", help="where to write the trace (default: standard output)")
     parser.add_argument("--tree", metavar="TREE", help="the tree (default: tree.jsonl beside the trace)")
+    variables.add_set(parser)
     add_program(parser)
     add_abi(parser)
 
@@ -56,7 +58,9 @@ def _tree_beside(trace: Path) -> Path:
 
 def run(arguments: argparse.Namespace) -> int:
     """Writes the trace; notes on what the ABI drops go to standard error."""
-    policy = policies.read(Path(arguments.policy))
+    given = variables.given(arguments)
+    policy = policies.read(Path(arguments.policy), given)
+    given.check_used()
     named = Path(arguments.trace)
     trace = _only_trace(named) if named.is_dir() else named
     tree = trees.read(

@@ -9,7 +9,7 @@ from collections.abc import Iterator, Sequence
 from pathlib import Path
 from typing import Any
 
-from .. import accepting, by_abi, landaudit, layout, page, policies, summary_text, together
+from .. import accepting, by_abi, landaudit, layout, page, policies, summary_text, together, variables
 from ..options import add_abis, add_as_recorded, add_landaudit, add_program, add_recordings, note
 from ..problems import NOT_ALL_JUDGED, USAGE, Problem
 from ..rights import NEWEST_ABI
@@ -42,6 +42,7 @@ def add_arguments(parser: argparse.ArgumentParser) -> None:
         help="refusals that you know and accept: [[accepted]] with call, path (or from and to, or port) and reason; "
         "the file of the policy may also have them",
     )
+    variables.add_set(parser)
     add_program(parser)
     add_abis(parser)
     add_as_recorded(parser)
@@ -74,9 +75,11 @@ def run(arguments: argparse.Namespace) -> int:
     refuse could be judged.
     """
     program = landaudit.find(arguments.landaudit)
-    policy = None if arguments.policy is None else policies.read(Path(arguments.policy))
-    accepted = [*(accepting.read(policy.path, only=False) if policy else ()),
-                *(accepting.read(arguments.accepted) if arguments.accepted else ())]
+    given = variables.given(arguments)
+    policy = None if arguments.policy is None else policies.read(Path(arguments.policy), given)
+    accepted = [*(accepting.read(policy.path, given, only=False) if policy else ()),
+                *(accepting.read(arguments.accepted, given) if arguments.accepted else ())]
+    given.check_used()
     members = together.opened(arguments.recordings, policy, arguments.program)
     if policy is None and not arguments.as_recorded and not any(member.recording.has_layers() for member in members):
         named = ", ".join(arguments.recordings)

@@ -7,9 +7,10 @@ import contextlib
 import sys
 from pathlib import Path
 
-from .. import policies
+from .. import policies, variables
 from ..recorder import converting, recordings
 from ..recorder.ports import Ports
+from ..variables import Given
 from ..wording import plain
 
 NAME = "convert"
@@ -20,6 +21,7 @@ EXAMPLE = "landaudit-record convert rec"
 def add_arguments(parser: argparse.ArgumentParser) -> None:
     parser.add_argument("out", metavar="OUT", type=Path, help="the folder of a recording")
     add_port_rules(parser)
+    variables.add_set(parser)
 
 
 def add_port_rules(parser: argparse.ArgumentParser) -> None:
@@ -35,15 +37,22 @@ def add_port_rules(parser: argparse.ArgumentParser) -> None:
 
 def run(arguments: argparse.Namespace) -> int:
     """Converts the log of a recording."""
-    converted(arguments.out, arguments.port_rules)
+    given = variables.given(arguments)
+    found = ports(arguments.out, arguments.port_rules, given)
+    given.check_used()
+    converted(arguments.out, found)
     return 0
 
 
-def converted(folder: Path, port_rules: Path | None) -> None:
+def ports(folder: Path, port_rules: Path | None, given: Given) -> Ports:
+    """The rules on ports of a policy that is named, or of the one that was in force."""
+    named = port_rules if port_rules is not None else recordings.policy_of(folder)
+    return Ports(policies.read(named, given) if named is not None else None)
+
+
+def converted(folder: Path, ports: Ports) -> None:
     """Converts a recording, and says what the result is and what to do next."""
     in_force = recordings.policy_of(folder)
-    named = port_rules if port_rules is not None else in_force
-    ports = Ports(policies.read(named) if named is not None else None)
     done = converting.convert(folder, ports)
     processes = "1 process" if done.processes == 1 else f"{done.processes:,} processes"
     say(f"{done.records:,} records of {processes} on {done.objects:,} objects, in {folder}")

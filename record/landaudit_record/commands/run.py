@@ -14,10 +14,12 @@ from contextlib import contextmanager
 from dataclasses import dataclass, replace
 from pathlib import Path
 
-from .. import PROGRAMS, RECORDER, confining, landaudit, policies, surroundings
+from .. import PROGRAMS, RECORDER, confining, landaudit, policies, surroundings, variables
 from ..options import add_abi
+from ..policies import Policy
 from ..problems import USAGE, WANTING, Problem
 from ..recorder import beside, formats, recordings, tracing, witness
+from ..variables import Given
 from . import audit, convert
 
 NAME = "run"
@@ -29,7 +31,7 @@ BEHIND_DASHES = "give a command after '--', as in 'landaudit-record run rec -- l
 def add_arguments(parser: argparse.ArgumentParser) -> None:
     parser.usage = (
         "landaudit-record run [-h] OUT [--watch DIR].. [--policy POLICY.toml] [--abi N] [--port-rules POLICY.toml] "
-        "[--readlink] [--witness] -- COMMAND.."
+        "[--set NAME=VALUE].. [--readlink] [--witness] -- COMMAND.."
     )
     parser.add_argument("out", metavar="OUT", type=Path, help="the folder to make for the recording")
     parser.add_argument(
@@ -49,6 +51,7 @@ def add_arguments(parser: argparse.ArgumentParser) -> None:
     )
     add_abi(parser, "with --policy, rights that this ABI or the kernel does not have are dropped")
     convert.add_port_rules(parser)
+    variables.add_set(parser)
     parser.add_argument(
         "--readlink",
         action="store_true",
@@ -70,14 +73,18 @@ def run(arguments: argparse.Namespace) -> int:
         raise Problem(BEHIND_DASHES, USAGE)
     if shutil.which(command[0]) is None:
         raise Problem(f"{command[0]} is not found, or is not a program", WANTING)
-    policy = None if arguments.policy is None else _InForce.of(arguments.policy, arguments.abi)
+    given = variables.given(arguments)
+    policy = None if arguments.policy is None else _InForce.of(arguments.policy, arguments.abi, given)
+    if arguments.port_rules is not None:
+        policies.read(arguments.port_rules, given)
+    given.check_used()
     strace = tracing.version()
     tracing.may_trace()
     directories = _directories(arguments.watch)
     with _made(arguments.out) as folder:
         about = _about(command, _watched(folder, directories), strace, readlink=arguments.readlink)
         about.write(folder)
-        surroundings.keep(folder, None if policy is None else policies.read(policy.policy))
+        surroundings.keep(folder, None if policy is None else policy.policy)
         if policy is not None:
             command = confining.under(policy.kept_in(folder), policy.abi, command)
         listening = witness.Witness(folder) if arguments.witness else None
@@ -92,7 +99,7 @@ def run(arguments: argparse.Namespace) -> int:
         convert.say(f"strace waited for the file server of {place}: to end that, the file system was taken away")
     if not outcome.ended:
         convert.say("strace was ended, and with it all that it traced: the recording is not complete")
-    _converted(folder, arguments)
+    _converted(folder, arguments, given)
     if policy is not None:
         policy.tell_refused(folder)
     return outcome.status
@@ -102,19 +109,22 @@ def run(arguments: argparse.Namespace) -> int:
 class _InForce:
     """A policy under which a command is recorded, and the ABI at which it is in force."""
 
-    policy: Path
+    policy: Policy
+    given: Given
     abi: int
 
     @classmethod
-    def of(cls, policy: Path, abi: int) -> _InForce:
+    def of(cls, policy: Path, abi: int, given: Given) -> _InForce:
         """The policy, after checks that it reads, that the kernel has Landlock, and that landaudit is built."""
-        policies.read(policy)
+        found = policies.read(policy, given)
         landaudit.find(None)
-        return cls(policy, confining.known_abi(abi))
+        return cls(found, given, confining.known_abi(abi))
 
     def kept_in(self, folder: Path) -> Path:
-        """The policy's copy in a recording's folder, made here."""
-        return Path(shutil.copyfile(self.policy, folder / recordings.POLICY))
+        """The policy's copy in a recording's folder, made here, with the values of its variables."""
+        kept = folder / recordings.POLICY
+        variables.keep(self.policy.path, self.given, kept)
+        return kept
 
     def tell_refused(self, folder: Path) -> None:
         """Prints to standard error what the policy refused in a recording."""
@@ -122,10 +132,10 @@ class _InForce:
         subprocess.run(words, stdout=sys.stderr, check=False)
 
 
-def _converted(folder: Path, arguments: argparse.Namespace) -> None:
+def _converted(folder: Path, arguments: argparse.Namespace, given: Given) -> None:
     """Converts the log, which is kept if the conversion does not finish."""
     try:
-        convert.converted(folder, arguments.port_rules)
+        convert.converted(folder, convert.ports(folder, arguments.port_rules, given))
     except (KeyboardInterrupt, OSError):
         ports = ["--port-rules", str(arguments.port_rules)] if arguments.port_rules is not None else []
         words = ["landaudit-record", "convert", str(arguments.out), *ports]

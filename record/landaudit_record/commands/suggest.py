@@ -6,7 +6,7 @@ import argparse
 from collections.abc import Iterator, Sequence
 from pathlib import Path
 
-from .. import landaudit, leaving, policies, suggestion_text, together
+from .. import landaudit, leaving, policies, suggestion_text, together, variables
 from ..objects import Objects
 from ..options import add_abi, add_as_recorded, add_landaudit, add_program, add_recordings, note
 from ..policies import Policy
@@ -41,6 +41,7 @@ def add_arguments(parser: argparse.ArgumentParser) -> None:
         help="exact (the default) grants only what is needed; base includes the groups of rules that contain two or "
         "more of the paths: base, nameservice, ssl, tmp, and some for languages",
     )
+    variables.add_set(parser)
     add_program(parser)
     add_abi(parser)
     add_as_recorded(parser)
@@ -50,7 +51,9 @@ def add_arguments(parser: argparse.ArgumentParser) -> None:
 def run(arguments: argparse.Namespace) -> int:
     """Prints the rules; the status is 1 if calls are still refused that no rule of the policy can fix."""
     program = landaudit.find(arguments.landaudit)
-    policy = policies.read(Path(arguments.policy))
+    given = variables.given(arguments)
+    policy = policies.read(Path(arguments.policy), given)
+    given.check_used()
     members = together.opened(arguments.recordings, policy, arguments.program)
     abis = alone(arguments.abi)
     note(together.policy_notes(members, abis))

@@ -8,7 +8,7 @@ from collections.abc import Iterator, Sequence
 from dataclasses import replace
 from pathlib import Path
 
-from .. import RECORDER, comments, documents, landaudit, policies, policy_text, together
+from .. import RECORDER, comments, documents, landaudit, policies, policy_text, together, variables
 from ..distilling import Distilling, Question
 from ..options import add_abi, add_as_recorded, add_landaudit, add_program, add_recordings, note
 from ..policies import PathRule, Policy, PortRule
@@ -35,6 +35,7 @@ def add_arguments(parser: argparse.ArgumentParser) -> None:
         action="store_true",
         help="print a table instead: how many calls need each right, with the rights that no call needs first",
     )
+    variables.add_set(parser)
     add_program(parser)
     add_abi(parser)
     add_as_recorded(parser)
@@ -44,7 +45,9 @@ def add_arguments(parser: argparse.ArgumentParser) -> None:
 def run(arguments: argparse.Namespace) -> int:
     """Prints the policy, or the table."""
     program = landaudit.find(arguments.landaudit)
-    policy = policies.read(arguments.policy)
+    given = variables.given(arguments)
+    policy = policies.read(arguments.policy, given)
+    given.check_used()
     members = together.opened(arguments.recordings, policy, arguments.program)
     note(together.policy_notes(members, alone(arguments.abi)))
     tried = [member.tried for member in members if member.tried is not None]

@@ -9,7 +9,7 @@ from dataclasses import asdict, dataclass
 from pathlib import Path
 from typing import Any
 
-from .. import POLICIES, answers, asking, cases, granting, landaudit, policies, resolving, tap
+from .. import POLICIES, answers, asking, cases, granting, landaudit, policies, resolving, tap, variables
 from ..answers import MOOT, Answer, Kept, Objection
 from ..cases import Case
 from ..granting import Grant
@@ -38,6 +38,7 @@ def add_arguments(parser: argparse.ArgumentParser) -> None:
     parser.description = f"{HELP}\n{CASES}"
     add_policy(parser)
     parser.add_argument("cases", metavar="CASES.toml", type=Path, help="what the policy must allow and refuse")
+    variables.add_set(parser)
     parser.add_argument("--json", action="store_true", help="print the result as JSON")
     add_landaudit(parser)
 
@@ -45,8 +46,11 @@ def add_arguments(parser: argparse.ArgumentParser) -> None:
 def run(arguments: argparse.Namespace) -> int:
     """Prints a line of TAP for each case with the reasons, or all cases as JSON; the status is 1 if any fails."""
     program = landaudit.find(arguments.landaudit)
-    given = cases.read(arguments.cases)
-    policy = resolving.under_all_names(_on_objects(policies.read(arguments.policy)), given.tree.kinds)
+    values = variables.given(arguments)
+    given = cases.read(arguments.cases, values)
+    written = policies.read(arguments.policy, values)
+    values.check_used()
+    policy = resolving.under_all_names(_on_objects(written), given.tree.kinds)
     outcomes = list(_outcomes(program, policy, given))
     if arguments.json:
         print(json.dumps(_data(arguments, outcomes), indent=2))

@@ -5,7 +5,7 @@ from __future__ import annotations
 import argparse
 import shutil
 
-from .. import POLICIES, confining, policies
+from .. import POLICIES, confining, policies, variables
 from ..landlock_calls import ABI_OF_LOG
 from ..options import add_abi, add_policy, note
 from ..problems import USAGE, WANTING, Problem
@@ -24,8 +24,11 @@ OF_LOG = (
 
 def add_arguments(parser: argparse.ArgumentParser) -> None:
     """Adds the arguments of the subcommand."""
-    parser.usage = "landaudit-policy confine [-h] POLICY.toml [--abi N] [--log] -- COMMAND.."
+    parser.usage = (
+        "landaudit-policy confine [-h] POLICY.toml [--set NAME=VALUE].. [--abi N] [--log] -- COMMAND.."
+    )
     add_policy(parser)
+    variables.add_set(parser)
     add_abi(parser, "rights that this ABI or the kernel does not have are dropped")
     parser.add_argument("--log", action="store_true", help=OF_LOG)
 
@@ -35,7 +38,9 @@ def run(arguments: argparse.Namespace) -> int:
     command = arguments.behind
     if not command:
         raise Problem(BEHIND_DASHES, USAGE)
-    policy = policies.read(arguments.policy)
+    given = variables.given(arguments)
+    policy = policies.read(arguments.policy, given)
+    given.check_used()
     abi = confining.known_abi(arguments.abi)
     if shutil.which(command[0]) is None:
         raise Problem(f"{command[0]} is not found, or is not a program", WANTING)

@@ -6,7 +6,7 @@ import argparse
 from collections.abc import Iterator, Sequence
 from pathlib import Path
 
-from .. import POLICIES, differing, differing_text, landaudit, policies, resolving
+from .. import POLICIES, differing, differing_text, landaudit, policies, resolving, variables
 from ..options import add_abis, add_landaudit, note
 from ..policies import Policy
 from ..problems import Problem
@@ -22,6 +22,7 @@ def add_arguments(parser: argparse.ArgumentParser) -> None:
     """Adds the arguments of the subcommand."""
     parser.add_argument("old", metavar="OLD.toml", type=Path, help="the old policy")
     parser.add_argument("new", metavar="NEW.toml", type=Path, help="the new policy, which replaces it")
+    variables.add_set(parser)
     add_abis(parser, "Landlock's ABI, or a range (default: {all})")
     add_landaudit(parser)
 
@@ -29,7 +30,9 @@ def add_arguments(parser: argparse.ArgumentParser) -> None:
 def run(arguments: argparse.Namespace) -> int:
     """Prints what differs; the status is 1 if the new policy lets something pass that the old one refuses."""
     program = landaudit.find(arguments.landaudit)
-    both = [_on_objects(policies.read(path)) for path in (arguments.old, arguments.new)]
+    given = variables.given(arguments)
+    both = [_on_objects(policies.read(path, given)) for path in (arguments.old, arguments.new)]
+    given.check_used()
     rules = [rule for policy in both for layer in policy.layers for rule in layer.path_beneath]
     paths = [parent for rule in rules for parent in rule.parents]
     old, new = (resolving.under_all_names(policy, paths) for policy in both)

@@ -4,7 +4,7 @@ from __future__ import annotations
 
 import argparse
 
-from .. import comments, documents, exporting, policies
+from .. import comments, documents, exporting, policies, variables
 from ..landlock_calls import ABI_OF_LOG
 from ..options import add_policy
 
@@ -16,6 +16,7 @@ EXAMPLE = "landaudit-policy export policy.toml --c > confine_by_policy.c"
 def add_arguments(parser: argparse.ArgumentParser) -> None:
     """Adds the arguments of the subcommand."""
     add_policy(parser)
+    variables.add_set(parser)
     parser.add_argument(
         "--c",
         action="store_true",
@@ -32,7 +33,9 @@ def add_arguments(parser: argparse.ArgumentParser) -> None:
 
 def run(arguments: argparse.Namespace) -> int:
     """Prints the code."""
-    policy = policies.read(arguments.policy)
+    given = variables.given(arguments)
+    policy = policies.read(arguments.policy, given)
+    given.check_used()
     written = comments.read(documents.text_of(arguments.policy))
     for line in exporting.c_code(policy, written, log=arguments.log):
         print(line)
