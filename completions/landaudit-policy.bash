@@ -7,7 +7,7 @@ _landaudit_policy_words() {
         diff) echo '-h --help --abi --set --landaudit' ;;
         check) echo '-h --help --json --set --landaudit' ;;
         export) echo '-h --help --c --log --set' ;;
-        import) echo '-h --help --program --process' ;;
+        import) echo '-h --help --program --process --landlockconfig --setpriv --landrun --firejail --set' ;;
         *) echo 'confine check diff export import -h --help -V --version' ;;
     esac
 }
@@ -46,7 +46,11 @@ _landaudit_policy() {
     fi
     case $prev in
         --abi) mapfile -t COMPREPLY < <(compgen -W "$(_landaudit_policy_abis "$sub")" -- "$cur") ;;
-        --landaudit | --process | --set) ;;
+        --landaudit | --process | --set | --setpriv | --landrun) ;;
+        --landlockconfig | --firejail)
+            compopt -o filenames 2> /dev/null
+            mapfile -t COMPREPLY < <(compgen -f -- "$cur")
+            ;;
         --program) mapfile -t COMPREPLY < <(compgen -c -- "$cur") ;;
         *)
             if [[ -z $sub || $cur == -* ]]; then

@@ -9,8 +9,11 @@ from dataclasses import dataclass
 from pathlib import Path
 from typing import Any, NoReturn, TypeVar
 
-from . import outline
+from . import json_outline, outline
 from .problems import Problem
+
+JSON = ".json"
+"""How the name of a file ends that is JSON; others are TOML."""
 
 BYTE_ORDER_MARK = "\N{ZERO WIDTH NO-BREAK SPACE}"
 
@@ -42,13 +45,14 @@ class Place:
         raise Problem(said + self._in_file())
 
     def _in_file(self) -> str:
-        """The line and the column, as `tomllib` names them."""
+        """The line and the column, as `tomllib` names them; of JSON, if the file's name says so."""
         path: list[str | int] = []
         for step in self.steps:
             name, _, number = step.partition(" ")
             path += [name, int(number) - 1] if number else [name]
         path += [] if self.within is None else [self.within]
-        found = outline.of(text_of(self.path)).line_and_column(tuple(path), of_key=isinstance(self.within, str))
+        outlined = json_outline.of if self.path.suffix == JSON else outline.of
+        found = outlined(text_of(self.path)).line_and_column(tuple(path), of_key=isinstance(self.within, str))
         return "" if found is None else f" (at line {found[0]}, column {found[1]})"
 
 
@@ -59,7 +63,7 @@ def text_of(path: Path) -> str:
     except OSError as error:
         raise Problem(f"cannot read {path}: {error.strerror}") from error
     except UnicodeDecodeError as error:
-        raise Problem(f"{path}: not TOML: {error}") from error
+        raise Problem(f"{path}: not {'JSON' if path.suffix == JSON else 'TOML'}: {error}") from error
     return text.replace("\r\n", "\n")
 
 

@@ -137,7 +137,7 @@ def _layer(layer: Layer, written: Written, comments: Comments, remark: Remark) -
     yield "[[layer]]"
     for key, access, family in (("fs", layer.handled_access_fs, FS), ("net", layer.handled_access_net, NET)):
         if access.rights:
-            yield f"handled_access_{key} = {_list(_words(access, family, access.rights))}"
+            yield f"handled_access_{key} = {_list(_words(access, family, family.groups['all']))}"
     if layer.scoped:
         yield f"scoped = {_list(layer.scoped)}"
     before: PathRule | PortRule | None = None
@@ -172,13 +172,14 @@ def _comments(texts: list[str]) -> Iterator[str]:
 
 
 def _words(access: Access, family: Family, handled: Rights) -> Words:
-    """Rights as groups, if all rights of a group are there, and as names; no right that is not handled is named."""
-    for name, group in family.groups.items():
-        if group == access.grouped:
-            return name, *family.ordered(access.outright - group)
-    groups = [name for name, group in family.groups.items() if group and group <= access.grouped]
+    """Rights as groups, where these stand for no more in a layer that handles some rights, and as names."""
+    every = family.groups["all"]
+    parts = {name: group & handled for name, group in family.groups.items() if group != every}
+    groups = ["all"] if every <= access.grouped else [
+        name for name, group in parts.items() if group and group <= access.grouped
+    ]
     covered: Rights = frozenset().union(*(family.groups[name] for name in groups))
-    return *groups, *family.ordered((access.outright | access.grouped & handled) - covered)
+    return *groups, *family.ordered(access.outright | access.grouped & handled - covered)
 
 
 def _list(words: Sequence[str]) -> str:
