@@ -8,8 +8,8 @@ _landaudit_record_words() {
         apply) echo '-h --help --out --tree --set --program --abi' ;;
         audit) echo '-h --help --policy --accepted --set --program --abi --as-recorded --all --json --html --landaudit' ;;
         compare) echo '-h --help --abi --json --differences --landaudit' ;;
-        tighten) echo '-h --help --policy --list --set --program --abi --as-recorded --landaudit' ;;
-        suggest) echo '-h --help --policy --rules --style --set --program --abi --as-recorded --landaudit' ;;
+        tighten) echo '-h --help --policy --of-program --process --list --set --program --abi --as-recorded --landaudit' ;;
+        suggest) echo '-h --help --policy --of-program --process --rules --style --set --program --abi --as-recorded --landaudit' ;;
         denials) echo '-h --help --policy --program --all --suggest --json --html' ;;
         *) echo 'run convert apply audit compare suggest tighten denials -h --help -V --version' ;;
     esac
@@ -59,7 +59,7 @@ _landaudit_record() {
             compopt -o filenames 2> /dev/null
             mapfile -t COMPREPLY < <(compgen -d -- "$cur")
             ;;
-        --out | --tree | --differences | --html | --landaudit | --rules | --set) ;;
+        --out | --tree | --differences | --html | --landaudit | --rules | --set | --process) ;;
         *)
             if [[ -z $sub || $cur == -* ]]; then
                 mapfile -t COMPREPLY < <(compgen -W "$(_landaudit_record_words "$sub")" -- "$cur")

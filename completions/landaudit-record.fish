@@ -48,6 +48,8 @@ complete -c landaudit-record -n '__landaudit_record_has audit' -l accepted -r -F
 complete -c landaudit-record -n '__landaudit_record_has denials' -l policy -r -F -d 'Policy that was in force'
 complete -c landaudit-record -n '__landaudit_record_has denials' -l program -x -a '(__fish_complete_command)' -d 'Only denials of this program'
 complete -c landaudit-record -n '__landaudit_record_has denials' -l suggest -d 'Print the rules that grant what was refused'
+complete -c landaudit-record -n '__landaudit_record_has suggest tighten' -l of-program -d 'Policy that the recorded program puts in force by itself'
+complete -c landaudit-record -n '__landaudit_record_has suggest tighten' -l process -x -d 'Process that restricts itself'
 complete -c landaudit-record -n '__landaudit_record_has tighten' -l list -d 'Print a table instead'
 complete -c landaudit-record -n '__landaudit_record_has suggest' -l rules -x -d 'At most this many rules for a layer'
 complete -c landaudit-record -n '__landaudit_record_has suggest' -l style -x -a 'exact base' -d 'Exact rules, or groups of rules too'

@@ -20,8 +20,9 @@ from .processes import program_run, shown
 from .rights import FILE_RIGHTS, FS, NET, NONE, Family, Rights
 from .trees import Tree
 
-#: The records that say which processes there are, what they run, and what they do with rulesets.
-_TELLS = re.compile(rb'"op":\s*"(?:start|fork|exit|exec|create|add_path|add_port|restrict|close_rs)"')
+#: The records that say which processes there are, what they run, and what they do with rulesets. One that only repeats
+#: what there was may be of any kind and say what is run after it.
+_TELLS = re.compile(rb'"op":\s*"(?:start|fork|exit|exec|create|add_path|add_port|restrict|close_rs)"|"ran":')
 #: How the calls of Landlock begin in the list of calls that could not be recorded, and how those that failed end.
 _OF_LANDLOCK = "landlock_"
 _FAILED = " = -1 "
@@ -30,11 +31,11 @@ NO_PROGRAM = "-"
 
 @dataclass(frozen=True)
 class Rule:
-    """A rule on a path or on a TCP port; `made` says that the run made the object at the path."""
+    """A rule on a path or on a TCP port. If the run made the object at the path, `made` is its name in the tree."""
 
     on: str | int
     rights: Rights
-    made: bool = False
+    made: str | None = None
 
 
 @dataclass(frozen=True)
@@ -96,10 +97,14 @@ class _Process:
 
 @dataclass(frozen=True)
 class Restricted:
-    """A restriction that the kernel allowed: the process, and the layers of its program with this one as the last."""
+    """A restriction that the kernel allowed: the process, and the layers of its program with this one as the last.
+
+    `again` says that the record only gives a process what it had.
+    """
 
     pid: int
     own: Own
+    again: bool
 
 
 class Following:
@@ -139,7 +144,6 @@ class Following:
             self._found[own].then[program] += 1
         process.before += (process.program,) * len(process.layers)
         process.program, process.layers = program, ()
-        process.rulesets.clear()
 
     def _on_ruleset(self, process: _Process, record: Record) -> None:
         rs, kernel = record["rs"], record.get("kernel", "ok")
@@ -174,7 +178,7 @@ class Following:
         own = Own(process.program, process.layers)
         if "again" not in record:
             self._count(record["pid"], process, before, own)
-        return Restricted(record["pid"], own)
+        return Restricted(record["pid"], own, "again" in record)
 
     def _count(self, pid: int, process: _Process, before: Own, own: Own) -> None:
         """Counts the layers of a process, in place of those that it had before in the same program."""
@@ -220,7 +224,7 @@ def _with_rule(ruleset: Ruleset, record: Record, tree: Tree) -> Ruleset:
         named = ", ".join(family.ordered(rights)) or "no right"
         text = [f"its rule on {on} ({named}): {why}"] if why is not None else []
         return replace(ruleset, dropped=(*dropped, *text))
-    made = isinstance(on, str) and not tree.is_there_before(record["path"])
+    made = record["path"] if isinstance(on, str) and not tree.is_there_before(record["path"]) else None
     return replace(ruleset, rules=(*ruleset.rules, Rule(on, rights, made)), dropped=tuple(dropped))
 
 

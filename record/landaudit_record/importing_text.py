@@ -52,7 +52,7 @@ def comments(found: Found, own: Own, name: str) -> Comments:
     policy = importing.policy(own, Path(name))
     for ruleset, layer in zip(layers, policy.layers):
         written.parts[layer.number, ""] = [f"left out: {text}" for text in _times(ruleset.dropped)]
-        made = {rule.on for rule in ruleset.rules if rule.made}
+        made = {rule.on for rule in ruleset.rules if rule.made is not None}
         for rule in layer.path_beneath:
             some = [parent for parent in rule.parents if parent in made]
             written.parts[layer.number, rule.place] = [f"made by the run itself: {some_of(some)}"] if some else []

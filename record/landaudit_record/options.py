@@ -120,6 +120,33 @@ def add_program(parser: argparse.ArgumentParser) -> None:
     )
 
 
+def add_of_program(parser: argparse.ArgumentParser) -> None:
+    """Adds the options that name a policy, or take the one that the recorded program puts in force by itself."""
+    source = parser.add_mutually_exclusive_group(required=True)
+    source.add_argument("--policy", metavar="POLICY.toml", type=Path, help="the policy")
+    source.add_argument(
+        "--of-program",
+        action="store_true",
+        help="the policy that the recorded program puts in force by itself, as landaudit-policy import prints it: "
+        "--program or --process choose one of several",
+    )
+    add_process(parser)
+
+
+def add_process(parser: argparse.ArgumentParser) -> None:
+    """Adds the option that chooses a process of a recording that restricts itself."""
+    parser.add_argument(
+        "--process", metavar="PID", type=_process, help="the process of the recording that restricts itself"
+    )
+
+
+def _process(text: str) -> int:
+    """The number of a process."""
+    if not text.isdecimal():
+        raise argparse.ArgumentTypeError(f"{text!r} is not the number of a process")
+    return int(text)
+
+
 def add_landaudit(parser: argparse.ArgumentParser) -> None:
     """Adds the option that says where landaudit is."""
     parser.add_argument(

@@ -73,7 +73,7 @@ class Tried:
         tree = part.tree
         if len(self.recording.parts) > 1:
             tree = into.tree
-            _write_tree(part.tree, self.tree, inserted, tree)
+            write_tree(part.tree, self.tree, inserted, tree)
         if places.records(inserted) <= applying.MOST_RECORDS:
             _write_trace(part.trace, places, inserted, into.tried)
             yield Files(tree, into.tried, into.report)
@@ -95,7 +95,7 @@ def _write_trace(trace: Path, places: Plan, inserted: list[Record], tried: Path)
         applying.write(trace, places, inserted, out)
 
 
-def _write_tree(part: Path, tree: Tree, inserted: Iterable[Record], out: Path) -> None:
+def write_tree(part: Path, tree: Tree, inserted: Iterable[Record], out: Path) -> None:
     """Writes the tree of a part with the objects of rules, which may not occur in the part."""
     lines = [line for _, line in jsonl.numbered(part)]
     listed = {ROOT, *(line["path"] for line in lines)}

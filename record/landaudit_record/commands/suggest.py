@@ -4,16 +4,16 @@ from __future__ import annotations
 
 import argparse
 from collections.abc import Iterator, Sequence
-from pathlib import Path
 
-from .. import landaudit, leaving, policies, suggestion_text, together, variables
+from .. import landaudit, leaving, of_program, suggestion_text, together, variables
 from ..objects import Objects
-from ..options import add_abi, add_as_recorded, add_landaudit, add_program, add_recordings, note
+from ..options import add_abi, add_as_recorded, add_landaudit, add_of_program, add_program, add_recordings, note
 from ..policies import Policy
 from ..reading import Walk
 from ..rights import alone
 from ..suggesting import Making, Recorded, suggest
 from ..together import Member
+from ..wording import plain
 
 EXACT, BASE = "exact", "base"
 NAME = "suggest"
@@ -26,7 +26,7 @@ EXAMPLE = """landaudit-record suggest rec --policy policy.toml >> policy.toml
 def add_arguments(parser: argparse.ArgumentParser) -> None:
     """Adds the arguments of the subcommand."""
     add_recordings(parser)
-    parser.add_argument("--policy", metavar="POLICY.toml", required=True, help="the policy that the rules are for")
+    add_of_program(parser)
     parser.add_argument(
         "--rules",
         metavar="N",
@@ -51,10 +51,8 @@ def add_arguments(parser: argparse.ArgumentParser) -> None:
 def run(arguments: argparse.Namespace) -> int:
     """Prints the rules; the status is 1 if calls are still refused that no rule of the policy can fix."""
     program = landaudit.find(arguments.landaudit)
-    given = variables.given(arguments)
-    policy = policies.read(Path(arguments.policy), given)
-    given.check_used()
-    members = together.opened(arguments.recordings, policy, arguments.program)
+    tried = of_program.of_arguments(arguments)
+    policy, members = tried.policy, tried.members
     abis = alone(arguments.abi)
     note(together.policy_notes(members, abis))
     with together.audits(members, program, NAME, best_effort=not arguments.as_recorded) as audits:
@@ -65,6 +63,8 @@ def run(arguments: argparse.Namespace) -> int:
         recorded = [_recorded(member) for member in members]
         suggestion = suggest(recorded, policy, arguments.abi, audit, _making(recorded, arguments))
     together.note_missing(members)
+    if arguments.of_program:
+        print(f"# for the policy that {plain(str(policy.path))} puts in force by itself (landaudit-policy import)")
     for line in suggestion_text.lines(suggestion, policy):
         print(line)
     done = suggestion.finished and not suggestion.unmended and not suggestion.of_program

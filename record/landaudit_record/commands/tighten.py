@@ -8,9 +8,10 @@ from collections.abc import Iterator, Sequence
 from dataclasses import replace
 from pathlib import Path
 
-from .. import RECORDER, comments, documents, landaudit, policies, policy_text, together, variables
+from .. import RECORDER, landaudit, of_program, policy_text, together, variables
+from ..comments import Comments
 from ..distilling import Distilling, Question
-from ..options import add_abi, add_as_recorded, add_landaudit, add_program, add_recordings, note
+from ..options import add_abi, add_as_recorded, add_landaudit, add_of_program, add_program, add_recordings, note
 from ..policies import PathRule, Policy, PortRule
 from ..problems import WANTING, Problem
 from ..rights import alone
@@ -29,7 +30,7 @@ _Asked = dict[Path, Counter[Question]]
 def add_arguments(parser: argparse.ArgumentParser) -> None:
     """Adds the arguments of the subcommand."""
     add_recordings(parser)
-    parser.add_argument("--policy", metavar="POLICY.toml", type=Path, required=True, help="the policy")
+    add_of_program(parser)
     parser.add_argument(
         "--list",
         action="store_true",
@@ -45,10 +46,8 @@ def add_arguments(parser: argparse.ArgumentParser) -> None:
 def run(arguments: argparse.Namespace) -> int:
     """Prints the policy, or the table."""
     program = landaudit.find(arguments.landaudit)
-    given = variables.given(arguments)
-    policy = policies.read(arguments.policy, given)
-    given.check_used()
-    members = together.opened(arguments.recordings, policy, arguments.program)
+    given = of_program.of_arguments(arguments)
+    policy, members = given.policy, given.members
     note(together.policy_notes(members, alone(arguments.abi)))
     tried = [member.tried for member in members if member.tried is not None]
     with together.audits(members, program, NAME, best_effort=not arguments.as_recorded) as audits:
@@ -69,7 +68,7 @@ def run(arguments: argparse.Namespace) -> int:
               "Landlock refuses a move or link by which an object would gain rights, and such rights are removed"])
     together.note_missing(members)
     for line in (_table(whole, done, tightening, arguments.abi) if arguments.list
-                 else _toml(replace(done, policy=tight), tightening)):
+                 else _toml(replace(done, policy=tight), tightening, given.comments)):
         print(line)
     return together.status(members)
 
@@ -102,7 +101,7 @@ def _more(some: Sequence[_Asked], others: Sequence[_Asked]) -> int:
     return sum((found - other[tree]).total() for one, other in zip(some, others) for tree, found in one.items())
 
 
-def _toml(done: Tightened, tightening: Tightening) -> Iterator[str]:
+def _toml(done: Tightened, tightening: Tightening, written: Comments) -> Iterator[str]:
     """The policy with a remark on each rule."""
     by_place: defaultdict[Place, list[Refused]] = defaultdict(list)
     for unit, needed in done.needed.items():
@@ -112,7 +111,6 @@ def _toml(done: Tightened, tightening: Tightening) -> Iterator[str]:
         calls = tightening.calls(one for on in places(rule) for one in by_place[layer, rule.place, on])
         return f"needed by {counted(calls, 'call')}" if calls else "kept: it is not known where its parent led"
 
-    written = comments.read(documents.text_of(done.policy.path))
     yield f"# {counted(done.taken, 'right')} removed that these recordings don't need ({done.audits} audits)"
     yield from policy_text.lines(done.policy, written, remark)
 

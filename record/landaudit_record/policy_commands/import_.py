@@ -8,7 +8,7 @@ from pathlib import Path
 
 from .. import POLICIES, finished, importing, importing_text, policy_text, trying, variables
 from ..forms import Imported, firejail, landlockconfig, landrun, setpriv
-from ..options import note
+from ..options import add_process, note
 from ..problems import NOT_ALL_JUDGED, USAGE, Problem
 from ..variables import Given
 
@@ -43,17 +43,8 @@ def add_arguments(parser: argparse.ArgumentParser) -> None:
     parser.add_argument(
         "--program", metavar="NAME", help="the program of the recording that restricts itself, by its name or whole path"
     )
-    parser.add_argument(
-        "--process", metavar="PID", type=_process, help="the process of the recording that restricts itself"
-    )
+    add_process(parser)
     variables.add_set(parser)
-
-
-def _process(text: str) -> int:
-    """The number of a process."""
-    if not text.isdecimal():
-        raise argparse.ArgumentTypeError(f"{text!r} is not the number of a process")
-    return int(text)
 
 
 def run(arguments: argparse.Namespace) -> int:
