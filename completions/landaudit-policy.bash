@@ -4,11 +4,12 @@
 _landaudit_policy_words() {
     case $1 in
         confine) echo '-h --help --abi --log --set --' ;;
+        lint) echo '-h --help --set' ;;
         diff) echo '-h --help --abi --set --landaudit' ;;
         check) echo '-h --help --json --set --landaudit' ;;
         export) echo '-h --help --c --log --set' ;;
         import) echo '-h --help --program --process --landlockconfig --setpriv --landrun --firejail --set' ;;
-        *) echo 'confine check diff export import -h --help -V --version' ;;
+        *) echo 'confine check lint diff export import -h --help -V --version' ;;
     esac
 }
 

@@ -22,12 +22,13 @@ complete -c landaudit-policy -n __fish_is_first_arg -s V -l version -d 'Print th
 complete -c landaudit-policy -n __fish_is_first_arg -a confine -d 'Run a command under a policy'
 complete -c landaudit-policy -n __fish_is_first_arg -a diff -d 'Say what a new policy allows and an old one refuses'
 complete -c landaudit-policy -n __fish_is_first_arg -a check -d 'Check what a policy allows and refuses'
+complete -c landaudit-policy -n __fish_is_first_arg -a lint -d 'Find what the author of a policy should look at'
 complete -c landaudit-policy -n __fish_is_first_arg -a export -d 'Print a policy as a function in C'
 complete -c landaudit-policy -n __fish_is_first_arg -a import -d 'Print a policy that comes from elsewhere'
 
-complete -c landaudit-policy -n '__landaudit_policy_has confine diff check export import' -F
+complete -c landaudit-policy -n '__landaudit_policy_has confine lint diff check export import' -F
 complete -c landaudit-policy -n '__landaudit_policy_has confine' -l abi -x -a '1 2 3 4 5' -d 'Version of the interface of Landlock'
-complete -c landaudit-policy -n '__landaudit_policy_has confine diff check export import' -l set -x -d 'Value of a variable, as NAME=VALUE'
+complete -c landaudit-policy -n '__landaudit_policy_has confine lint diff check export import' -l set -x -d 'Value of a variable, as NAME=VALUE'
 complete -c landaudit-policy -n '__landaudit_policy_has diff check' -l landaudit -r -F -d 'landaudit itself'
 complete -c landaudit-policy -n '__landaudit_policy_has diff' -l abi -x -a '1 2 3 4 5 1-2 1-3 1-4 1-5 2-3 2-4 2-5 3-4 3-5 4-5' -d 'Version of the interface of Landlock, or a range'
 complete -c landaudit-policy -n '__landaudit_policy_has check' -l json -d 'Print the result as JSON'

@@ -1,0 +1,189 @@
+"""Finds in a policy what its author should look at: rules that the kernel refuses or that have no effect, rules that
+reach secrets, files that may be written and executed, and parents that are missing or lead elsewhere.
+
+It looks at the policy by itself and at this machine's disk; no call is tried.
+"""
+
+from __future__ import annotations
+
+from collections.abc import Iterator, Sequence
+from dataclasses import dataclass
+from functools import cached_property
+
+from . import resolving, sensitive
+from .policies import Layer, PathRule, Policy, PortRule, group_names
+from .recorder import disk
+from .resolving import DISK, Parent
+from .rights import FILE_RIGHTS, FS, NET, NONE, Rights
+from .trees import ROOT, upwards
+
+FAULT, WARNING, NOTE = "fault", "warning", "note"
+_BOTH = frozenset({"write_file", "execute"})
+
+
+@dataclass(frozen=True)
+class Finding:
+    """A part of a policy, how grave it is, and what there is to say of it; a note is nothing to mend."""
+
+    where: str
+    kind: str
+    text: str
+
+    def __str__(self) -> str:
+        return f"{self.where}: {self.kind}: {self.text}"
+
+
+@dataclass(frozen=True)
+class _On:
+    """A rule on one object of this machine: `path` is where its parent leads, `rights` what it can grant there."""
+
+    parent: Parent
+    path: str
+    is_file: bool
+    rights: Rights
+
+    @property
+    def rule(self) -> PathRule:
+        """The rule."""
+        return self.parent.rule
+
+
+@dataclass(frozen=True)
+class _Layer:
+    """A layer with its rules, each on the objects that its parents lead to."""
+
+    layer: Layer
+    rules: Sequence[_On]
+
+    @property
+    def handled(self) -> Rights:
+        """The rights for files that it handles."""
+        return self.layer.handled_access_fs.rights
+
+    def granted(self, path: str, but: _On | None = None) -> Rights:
+        """The rights that its rules grant on a path, without one of them."""
+        over = set(upwards(path))
+        return NONE.union(*(on.rights for on in self.rules if on is not but and on.path in over))
+
+    def lets_pass(self, path: str) -> Rights:
+        """The rights that it does not refuse on a path."""
+        return self.granted(path) | FS.groups["all"] - self.handled
+
+    def grants_near(self, path: str, right: str) -> bool:
+        """Whether it does not refuse a right on a path, or on something beneath it."""
+        return right in self.lets_pass(path) or any(path in upwards(on.path) and right in on.rights for on in self.rules)
+
+
+@dataclass(frozen=True)
+class Linting:
+    """A policy on this machine."""
+
+    policy: Policy
+
+    @cached_property
+    def _layers(self) -> list[_Layer]:
+        by_number: dict[int, list[_On]] = {layer.number: [] for layer in self.policy.layers}
+        for parent in resolving.parents(self.policy, DISK):
+            if parent.led.blocked is None:
+                by_number[parent.layer].append(self._on(parent))
+        return [_Layer(layer, by_number[layer.number]) for layer in self.policy.layers]
+
+    def _on(self, parent: Parent) -> _On:
+        seen = disk.look(parent.led.path)
+        is_file = seen is not None and seen.kind != "dir"
+        handled = self.policy.layers[parent.layer - 1].handled_access_fs.rights
+        rights = parent.rule.allowed_access.rights & handled
+        return _On(parent, parent.led.path, is_file, rights & FILE_RIGHTS if is_file else rights)
+
+    def findings(self) -> Iterator[Finding]:
+        """All findings: those on each rule in the order of the policy, then those on all of it."""
+        yield from self._of_parents()
+        for number, layer in enumerate(self._layers):
+            for index, on in enumerate(layer.rules):
+                yield from self._of_rule(layer, index, on)
+            yield from self._of_ports(layer.layer, self.policy.layers[:number] + self.policy.layers[number + 1 :])
+        yield from self._written_and_run()
+
+    def _of_parents(self) -> Iterator[Finding]:
+        """What this machine has at the parents of the policy's own rules."""
+        for parent in resolving.parents(self.policy, DISK):
+            if parent.rule.group is not None:
+                continue
+            led = parent.led
+            if led.blocked is not None:
+                yield Finding(parent.place, FAULT, f"{led.blocked} is no directory, so the path leads nowhere")
+            elif led.unknown is not None:
+                yield Finding(parent.place, NOTE, f"what is at {led.unknown} differs from process to process")
+            elif disk.look(led.path) is None:
+                yield Finding(parent.place, WARNING, "is not on this machine, so there is no rule on it")
+            elif led.now:
+                yield Finding(parent.place, NOTE, f"leads by a link to {led.path}, on which the rule is")
+
+    def _of_rule(self, layer: _Layer, index: int, on: _On) -> Iterator[Finding]:
+        place = on.parent.place
+        named = FS.ordered(on.rule.allowed_access.outright - FILE_RIGHTS) if on.is_file else []
+        if named:
+            yield Finding(place, FAULT, f"is no directory, so the kernel refuses the rule for {', '.join(named)}")
+        elif not on.rights and on.rule.group is None:
+            yield Finding(place, FAULT, "is no directory, and the rule has no right that a file can have")
+        if named or not on.rights:
+            return
+        for text in sensitive.warnings(on.path, on.rights) if on.rule.group not in group_names() else ():
+            yield Finding(place, WARNING, text.removeprefix("warning: "))
+        if on.rule.group is None:
+            yield from self._without_effect(layer, index, on)
+
+    def _without_effect(self, layer: _Layer, index: int, on: _On) -> Iterator[Finding]:
+        """What a rule grants that other rules of its layer grant too, and what another layer refuses anyway."""
+        left, others = on.rights, list[_On]()
+        for at, one in enumerate(layer.rules):
+            if (one.path != on.path or at < index) and one.path in upwards(on.path) and left & one.rights:
+                left -= one.rights
+                others.append(one)
+        if not left:
+            names = ", ".join(dict.fromkeys(f"{one.rule.place} on {one.parent.written}" for one in others))
+            kind = NOTE if on.parent.led.now else WARNING
+            yield Finding(on.parent.place, kind, f"without effect unless it is moved or linked: {names} grants as much")
+        for other in self._layers:
+            if other is not layer:
+                none = [right for right in FS.ordered(on.rights) if not other.grants_near(on.path, right)]
+                if none:
+                    yield Finding(on.parent.place, WARNING, f"{', '.join(none)} without effect: layer "
+                                  f"{other.layer.number} grants it neither there nor beneath")
+
+    def _of_ports(self, layer: Layer, others: Sequence[Layer]) -> Iterator[Finding]:
+        """Rules on ports that grant nothing new, or what another layer refuses."""
+        granted: dict[int, Rights] = {}
+        for rule in layer.net_port:
+            for port in rule.ports:
+                place = f"layer {layer.number}, {rule.place}, port {port}"
+                rights = rule.allowed_access.rights & layer.handled_access_net.rights
+                if rights <= granted.get(port, NONE):
+                    yield Finding(place, WARNING, "without effect: rules before it grant as much")
+                granted[port] = granted.get(port, NONE) | rights
+                for other in others:
+                    none = NET.ordered(rights & other.handled_access_net.rights - _on_port(other.net_port, port))
+                    if none:
+                        yield Finding(place, WARNING,
+                                      f"{', '.join(none)} without effect: layer {other.number} does not grant it there")
+
+    def _written_and_run(self) -> Iterator[Finding]:
+        """Where files may be written and executed: the topmost places."""
+        places = {ROOT, *(on.path for layer in self._layers for on in layer.rules)}
+        told: set[str] = set()
+        for path in sorted(places, key=lambda path: (path.count("/"), path)):
+            over = set(upwards(path))
+            if not told & over and all(_BOTH <= layer.lets_pass(path) for layer in self._layers):
+                told.add(path)
+                where = "everywhere" if path == ROOT else f"at {path} and beneath" if _is_dir(path) else f"at {path}"
+                yield Finding(str(self.policy.path), WARNING, f"files {where} may be both written and executed")
+
+
+def _is_dir(path: str) -> bool:
+    seen = disk.look(path)
+    return seen is None or seen.kind == "dir"
+
+
+def _on_port(rules: Sequence[PortRule], port: int) -> Rights:
+    """The rights that rules grant on a port."""
+    return NONE.union(*(rule.allowed_access.rights for rule in rules if port in rule.ports))

@@ -1,0 +1,130 @@
+"""What lint finds in a policy, in a folder of real files."""
+
+from __future__ import annotations
+
+import tempfile
+import unittest
+from contextlib import redirect_stderr, redirect_stdout
+from io import StringIO
+from pathlib import Path
+
+from landaudit_record import cli
+
+LAYER = '[[layer]]\nhandled_access_fs = ["all"]\nhandled_access_net = ["all"]\n'
+
+
+class Linting(unittest.TestCase):
+    def setUp(self) -> None:
+        self.folder = Path(self.enterContext(tempfile.TemporaryDirectory())).resolve()
+        for directory in ("d", "d/e", "o", "home/.ssh"):
+            (self.folder / directory).mkdir(parents=True)
+        for file in ("d/f", "o/f"):
+            (self.folder / file).write_text("")
+        (self.folder / "link").symlink_to("d")
+
+    def rule(self, rights: str, *parents: str) -> str:
+        named = ", ".join(f'"{self.folder}/{parent}"' for parent in parents)
+        return f"[[layer.path_beneath]]\nallowed_access = [{rights}]\nparent = [{named}]\n"
+
+    def port(self, rights: str, ports: str) -> str:
+        return f"[[layer.net_port]]\nallowed_access = [{rights}]\nport = {ports}\n"
+
+    def lint(self, text: str) -> tuple[int, list[str]]:
+        """The status, and the findings without the folder; the last line counts them."""
+        policy = self.folder / "P.toml"
+        policy.write_text(text)
+        with redirect_stdout(StringIO()) as out, redirect_stderr(StringIO()):
+            status = cli.main(["lint", str(policy)], cli.POLICY)
+        *lines, last = out.getvalue().replace(f"{self.folder}/", "").splitlines()
+        notes = sum(": note: " in line for line in lines)
+        finding, note = len(lines) - notes, notes
+        self.assertEqual(last, f"P.toml: {finding} finding{'s' * (finding != 1)}, {note} note{'s' * (note != 1)}")
+        self.assertEqual(status, 1 if finding else 0)
+        return status, lines
+
+    def found(self, text: str) -> list[str]:
+        return self.lint(text)[1]
+
+    def test_a_policy_of_which_nothing_is_to_be_said(self) -> None:
+        self.assertEqual(self.found(LAYER + self.rule('"read"', "d", "o/f") + self.port('"bind_tcp"', "80")), [])
+
+    def test_what_this_machine_has_at_parents(self) -> None:
+        self.assertEqual(self.found(LAYER + self.rule('"read"', "no", "link", "d/f/..")), [
+            "layer 1, path_beneath 1, parent no: warning: is not on this machine, so there is no rule on it",
+            "layer 1, path_beneath 1, parent link: note: leads by a link to d, on which the rule is",
+            "layer 1, path_beneath 1, parent d/f/..: fault: d/f is no directory, so the path leads nowhere",
+        ])
+
+    def test_links_alone_are_notes(self) -> None:
+        self.assertEqual(self.lint(LAYER + self.rule('"read"', "link"))[0], 0)
+
+    def test_rights_for_directories_on_a_file(self) -> None:
+        place = "layer 1, path_beneath 1, parent d/f: fault: is no directory, "
+        for rights, said in (('"read_file", "read_dir"', "so the kernel refuses the rule for read_dir"),
+                             ('"read_dir", "make_reg"', "so the kernel refuses the rule for read_dir, make_reg")):
+            self.assertEqual(self.found(LAYER + self.rule(rights, "d/f")), [place + said])
+        text = '[[layer]]\nhandled_access_fs = ["read_dir"]\n' + self.rule('"read"', "d/f")
+        self.assertEqual(self.found(text)[0], place + "and the rule has no right that a file can have")
+        self.assertEqual(self.found(LAYER + self.rule('"read"', "d/f")), [])
+
+    def test_secrets(self) -> None:
+        self.assertEqual(self.found(LAYER + self.rule('"read"', "home", "home/.ssh")), [
+            "layer 1, path_beneath 1, parent home: warning: this reaches home/.ssh",
+            "layer 1, path_beneath 1, parent home/.ssh: warning: home/.ssh holds secrets",
+            "layer 1, path_beneath 1, parent home/.ssh: warning: without effect unless it is moved or linked: "
+            "path_beneath 1 on home grants as much",
+        ])
+
+    def test_what_rules_above_or_before_grant_too(self) -> None:
+        text = LAYER + self.rule('"read"', "d") + self.rule('"read_file"', "d/f", "o") + self.rule('"read"', "d", "o")
+        self.assertEqual(self.found(text), [
+            "layer 1, path_beneath 2, parent d/f: warning: without effect unless it is moved or linked: path_beneath 1 on d "
+            "grants as much",
+            "layer 1, path_beneath 3, parent d: warning: without effect unless it is moved or linked: path_beneath 1 on d "
+            "grants as much",
+        ])
+
+    def test_two_rules_together_grant_as_much(self) -> None:
+        text = LAYER + self.rule('"read_file"', "d") + self.rule('"read_dir"', "d") + self.rule('"read"', "d/e")
+        self.assertEqual(self.found(text), [
+            "layer 1, path_beneath 3, parent d/e: warning: without effect unless it is moved or linked: path_beneath 1 on d, "
+            "path_beneath 2 on d grants as much"])
+
+    def test_what_another_layer_refuses(self) -> None:
+        second = '[[layer]]\nhandled_access_fs = ["write_file"]\n'
+        text = LAYER + self.rule('"write_file", "read"', "d", "o") + second + self.rule('"write_file"', "d/e")
+        self.assertEqual(self.found(text), [
+            "layer 1, path_beneath 1, parent o: warning: write_file without effect: layer 2 grants it neither there nor "
+            "beneath"])
+
+    def test_ports(self) -> None:
+        second = '[[layer]]\nhandled_access_net = ["connect_tcp"]\n'
+        text = (LAYER + self.port('"all"', "80") + self.port('"bind_tcp"', "[80, 443]") + second +
+                self.port('"connect_tcp"', "80"))
+        self.assertEqual(self.found(text), [
+            "layer 1, net_port 2, port 80: warning: without effect: rules before it grant as much"])
+        text = LAYER + self.port('"all"', "443") + second
+        self.assertEqual(self.found(text), [
+            "layer 1, net_port 1, port 443: warning: connect_tcp without effect: layer 2 does not grant it there"])
+
+    def test_written_and_executed(self) -> None:
+        both = '"write_file", "execute"'
+        self.assertEqual(self.found(LAYER + self.rule(both, "d") + self.rule('"read"', "d/e")),
+                         ["P.toml: warning: files at d and beneath may be both written and executed"])
+        self.assertEqual(self.found(LAYER + self.rule('"write_file"', "d") + self.rule('"execute"', "d/f")),
+                         ["P.toml: warning: files at d/f may be both written and executed"])
+        self.assertEqual(self.found(LAYER + self.rule('"write_file"', "d") + self.rule('"execute"', "o")), [])
+        only = '[[layer]]\nhandled_access_fs = ["write_file"]\n'
+        self.assertEqual(self.found(only + self.rule('"write_file"', "d")),
+                         ["P.toml: warning: files at d and beneath may be both written and executed"])
+        self.assertEqual(self.found('[[layer]]\nhandled_access_net = ["bind_tcp"]\n'),
+                         ["P.toml: warning: files everywhere may be both written and executed"])
+        self.assertEqual(self.found(only + self.rule('"write_file"', "d") + '[[layer]]\nhandled_access_fs = ["execute"]\n' +
+                                    self.rule('"execute"', "o")), [])
+
+    def test_groups_of_rules_are_for_many_machines(self) -> None:
+        self.assertEqual(self.found('include = ["python", "base"]\n' + LAYER), [])
+
+
+if __name__ == "__main__":
+    unittest.main()
