@@ -32,6 +32,8 @@ _SCOPED = {
 }
 #: The class of a layer that a conversion can't write into the trace.
 FOREIGN_RULESET = "a layer of a ruleset that came from elsewhere"
+#: The class of what a ruleset has beside rights; its `create` has the names, unless it has nothing else.
+OF_SCOPES = "scopes of a ruleset"
 #: The files that `landaudit-record run` writes and from which a recording can be converted.
 RECORDED = ("recording.json", "strace.txt", "strace.txt.gz")
 

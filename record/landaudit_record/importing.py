@@ -8,12 +8,12 @@ from __future__ import annotations
 
 import re
 from collections import Counter
-from collections.abc import Iterator, Mapping, Sequence
+from collections.abc import Container, Iterator, Mapping, Sequence
 from dataclasses import dataclass, field, replace
 from pathlib import Path
 
 from . import jsonl
-from .finished import Finished
+from .finished import OF_SCOPES, Finished
 from .jsonl import Record
 from .policies import LONGEST_PATH, SCOPES, Access, Layer, PathRule, Policy, PortRule
 from .processes import program_run, shown
@@ -26,6 +26,8 @@ _TELLS = re.compile(rb'"op":\s*"(?:start|fork|exit|exec|create|add_path|add_port
 #: How the calls of Landlock begin in the list of calls that could not be recorded, and how those that failed end.
 _OF_LANDLOCK = "landlock_"
 _FAILED = " = -1 "
+#: A restriction without a ruleset, which only says what is logged.
+_NO_LAYER = "landlock_restrict_self(-1,"
 NO_PROGRAM = "-"
 
 
@@ -111,6 +113,8 @@ class Following:
     """Follows one part of a recording, record by record."""
 
     def __init__(self, tree: Tree, found: dict[Own, Times], failed: Counter[str]) -> None:
+        #: The numbers of calls that make rulesets with scopes.
+        self.scoping: set[int] = set()
         self._tree = tree
         self._found = found
         self._failed = failed
@@ -148,6 +152,8 @@ class Following:
     def _on_ruleset(self, process: _Process, record: Record) -> None:
         rs, kernel = record["rs"], record.get("kernel", "ok")
         if record["op"] == "create":
+            if "scoped" in record:
+                self.scoping.add(record.get("call", 0))
             if kernel == "ok":
                 process.rulesets[rs] = _Open(_made(record))
             else:
@@ -259,11 +265,13 @@ def found(recording: Finished, tree: Tree) -> Found:
     """What the programs of a recording put in force by themselves."""
     own: dict[Own, Times] = {}
     failed: Counter[str] = Counter()
+    scoping: set[int] = set()
     for part in recording.parts:
         following = Following(tree, own, failed)
         for _, record in told(part.trace):
             following.take(record)
-    return Found(own, failed, _unseen(recording.folder / "unsaid.jsonl"))
+        scoping |= following.scoping
+    return Found(own, failed, _unseen(recording.folder / "unsaid.jsonl", scoping))
 
 
 def told(trace: Path) -> Iterator[tuple[int, Record]]:
@@ -274,11 +282,18 @@ def told(trace: Path) -> Iterator[tuple[int, Record]]:
                 yield number, jsonl.read(trace, number, line)
 
 
-def _unseen(unsaid: Path) -> Counter[str]:
-    """The calls of Landlock that could not be recorded, by class, without those that failed."""
-    entries = (entry for _, entry in jsonl.numbered(unsaid)) if unsaid.is_file() else ()
-    calls = ((str(entry.get("class")), str(entry.get("call", ""))) for entry in entries)
-    return Counter(why for why, call in calls if call.startswith(_OF_LANDLOCK) and _FAILED not in call)
+def _unseen(unsaid: Path, scoping: Container[int]) -> Counter[str]:
+    """The calls of Landlock that could not be recorded, by class, without those that failed.
+
+    Scopes are known of the calls that have a record.
+    """
+    found: Counter[str] = Counter()
+    for _, entry in jsonl.numbered(unsaid) if unsaid.is_file() else ():
+        why, call = str(entry.get("class")), str(entry.get("call", ""))
+        known = why == OF_SCOPES and entry.get("line") in scoping
+        if call.startswith(_OF_LANDLOCK) and not (_FAILED in call or call.startswith(_NO_LAYER) or known):
+            found[why] += 1
+    return found
 
 
 # ---- as a policy

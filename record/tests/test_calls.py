@@ -139,6 +139,20 @@ class Calls(StraceLines):
         self.assertEqual(trace, [])
         self.assertEqual(self.unsaid(), ["a call of Landlock's with flags"] * 2)
 
+    def test_flags_that_say_what_is_logged_change_no_layer(self) -> None:
+        (restrict,) = self.convert("landlock_restrict_self(4, 0x2 /* LANDLOCK_RESTRICT_SELF_LOG_NEW_EXEC_ON */) = 0")
+        self.assertEqual((restrict["op"], restrict["rs"], self.unsaid()), ("restrict", 4, []))
+
+    def test_what_is_logged_without_a_ruleset_is_no_layer(self) -> None:
+        self.assertEqual(self.convert("landlock_restrict_self(-1, 0x4) = 0"), [])
+        self.assertEqual(self.unsaid(), ["a call of Landlock's with flags"])
+
+    def test_scopes_of_a_ruleset_are_named(self) -> None:
+        attributes = "{handled_access_fs=0x4, handled_access_net=0, scoped=0x6 /* LANDLOCK_SCOPE_SIGNAL|0x4 */}"
+        (made,) = self.convert(f"landlock_create_ruleset({attributes}, 24, 0) = 3<anon_inode:[landlock-ruleset]>")
+        self.assertEqual((made["fs"], made["scoped"]), (["read_file"], ["signal", "bit_2"]))
+        self.assertEqual(self.unsaid(), ["scopes of a ruleset"])
+
     def test_a_ruleset_that_no_number_names(self) -> None:
         restrict = self.one("landlock_restrict_self(-1, 0) = -1 EBADF (Bad file descriptor)")
         self.assertEqual(restrict["op"], "restrict")

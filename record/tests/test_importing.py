@@ -157,6 +157,17 @@ class Written(unittest.TestCase):
         (layer,) = self.layers({**create(["execute"]), "scoped": ["signal"]}, RESTRICT)
         self.assertEqual(layer.scoped, ("signal",))
 
+    def test_a_layer_of_scopes_alone_is_not_known(self) -> None:
+        made = {**create(["execute"]), "scoped": ["signal"], "call": 5}
+        entries = [{"line": line, "pid": 1, "class": "scopes of a ruleset", "call": "landlock_create_ruleset({..}, 24, 0) = 3"}
+                   for line in (5, 9)]
+        entries += [{**entries[0], "line": 11, "class": "a call of Landlock's with flags", "call": said}
+                    for said in ("landlock_restrict_self(-1, 0x4) = 0", "landlock_restrict_self(3, 8) = -1 EINVAL (..)")]
+        write_lines(self.folder / "unsaid.jsonl", entries)
+        status, out, _ = self.imported(by(1, made, RESTRICT))
+        self.assertEqual(status, NOT_ALL_JUDGED)
+        self.assertIn("NOT ALL IS KNOWN: 1 call of Landlock could not be recorded: scopes of a ruleset (1)", out)
+
     def test_a_copy_for_a_further_name_of_the_object_is_no_rule_of_its_own(self) -> None:
         named = {**rule("/etc", "read_file"), "call": 7}
         (layer,) = self.layers(create(["read_file"]), named, {**named, "path": "/etc/f"}, RESTRICT)

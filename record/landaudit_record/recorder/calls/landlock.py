@@ -4,7 +4,8 @@ from __future__ import annotations
 
 from .. import values
 from ..processes import Handle, Thread
-from ...finished import FOREIGN_RULESET
+from ...finished import FOREIGN_RULESET, OF_SCOPES
+from ...policies import SCOPES
 from ...rights import FS, NET, Family
 from ..scene import Scene
 from ..strace_log import Call
@@ -20,6 +21,9 @@ SIZES = (8, 16, 24)
 
 #: What stands for a ruleset of which nothing is known, in the layers of a process.
 UNSEEN = -1
+WITH_FLAGS = "a call of Landlock's with flags"
+#: The flags of landlock_restrict_self(2) that say what the kernel logs (ABI 7). Without a ruleset they make no layer.
+LOGGING = 0b111
 NOT_DECODED = " (strace before 6.7 does not decode it: see --port-rules)"
 
 
@@ -30,19 +34,24 @@ def named(bits: int, family: Family) -> list[str] | None:
     return found or None
 
 
-def _handled(scene: Scene, thread: Thread, call: Call) -> tuple[list[str] | None, list[str] | None, bool]:
-    """Handled rights for files and for ports, and whether there are scopes.
+def _handled(scene: Scene, thread: Thread, call: Call) -> tuple[list[str] | None, list[str] | None, list[str]]:
+    """Handled rights for files and for ports, and the scopes.
 
     strace before 6.7 prints only an ellipsis for everything after the rights for files.
     """
     argument = call.arguments[0]
     files, ports, scoped = (_member(argument, name) for name in ("handled_access_fs", "handled_access_net", "scoped"))
     if "..." not in argument:
-        return named(files, FS), named(ports, NET), scoped != 0
+        return named(files, FS), named(ports, NET), _scopes(scoped)
     of_policy = scene.ports.handled()
     if of_policy is None:
         scene.leave_out(thread, call, "what a ruleset handles beside files" + NOT_DECODED, asks=True)
-    return named(files, FS), of_policy or None, False
+    return named(files, FS), of_policy or None, []
+
+
+def _scopes(bits: int) -> list[str]:
+    """The names of scopes by their bits, as `named` has those of rights."""
+    return [SCOPES[bit] if bit < len(SCOPES) else f"bit_{bit}" for bit in range(64) if bits >> bit & 1]
 
 
 def _member(argument: str, name: str) -> int:
@@ -62,9 +71,9 @@ def _create_ruleset(scene: Scene, thread: Thread, call: Call) -> None:
         number = call.value
         scene.put(thread, call, number, Handle(close_on_exec=True, ruleset=can_be_said))
     if scoped:
-        scene.leave_out(thread, call, "scopes of a ruleset")
+        scene.leave_out(thread, call, OF_SCOPES)
     if can_be_said:
-        scene.say(thread, call, "create", rs=number, fs=files, net=ports)
+        scene.say(thread, call, "create", rs=number, fs=files, net=ports, scoped=scoped or None)
 
 
 def _unsaid(call: Call, reason: str) -> CannotSay:
@@ -72,11 +81,16 @@ def _unsaid(call: Call, reason: str) -> CannotSay:
     return CannotSay(reason) if call.ok else NotAsked(reason)
 
 
-def _ruleset(scene: Scene, thread: Thread, call: Call, flags: int) -> int:
-    """The number of the ruleset of a call without flags; a number that names no ruleset gets one of its own."""
-    if arguments.number_at(call, flags):
-        raise _unsaid(call, "a call of Landlock's with flags")
-    number = values.descriptor(call.arguments[0]).number
+def _ruleset(scene: Scene, thread: Thread, call: Call, flags: int, known: int = 0) -> int:
+    """The number of the ruleset of a call without flags; a number that names no ruleset gets one of its own.
+
+    Flags that are `known` change no answer if the kernel takes them.
+    """
+    number, given = values.descriptor(call.arguments[0]).number, arguments.number_at(call, flags)
+    if given and number < 0:
+        raise NotAsked(WITH_FLAGS)
+    if given & ~known or (given and not call.ok):
+        raise _unsaid(call, WITH_FLAGS)
     return number if number >= 0 else thread.process.made_up()
 
 
@@ -132,7 +146,7 @@ def _restrict_self(scene: Scene, thread: Thread, call: Call) -> None:
     thread.process.confined |= call.ok
     if _is_foreign(scene, thread, call):
         _restricted_unseen(thread, call)
-    number = _ruleset(scene, thread, call, 1)
+    number = _ruleset(scene, thread, call, 1, LOGGING)
     restricted = thread.process.restricted
     if call.ok and thread.layers < len(restricted):
         if restricted[thread.layers] != number:
