@@ -24,7 +24,7 @@ from typing import Any, NoReturn
 from . import documents, outline
 from .documents import Place
 from .problems import USAGE, Problem
-from .wording import quoted
+from .wording import is_utf8, quoted
 
 KEY = "variables"
 INCLUDE = "include"
@@ -178,6 +178,8 @@ class _Filling:
             self._unknown(name, place)
         if not value:
             place.fault(f"the value of ${{{name}}} is empty")
+        if not is_utf8(value):
+            place.fault(f"the value of ${{{name}}} is not UTF-8")
         return value
 
     def _unknown(self, name: str, place: Place) -> NoReturn:

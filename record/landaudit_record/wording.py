@@ -38,6 +38,11 @@ def printable(text: str) -> str:
     return text if text.isprintable() else "".join(one if one.isprintable() else _escape(one) for one in text)
 
 
+def is_utf8(text: str) -> bool:
+    """Whether a text can be written as UTF-8; names with other bytes, and some texts of JSON, can't."""
+    return text.isascii() or not any("\ud800" <= letter <= "\udfff" for letter in text)
+
+
 def plain(text: str) -> str:
     """A text on one line, with an escape for each character that a terminal acts on or draws from right to left."""
     shown = printable(text)

@@ -4,6 +4,7 @@ and firejail from what they did on a kernel.
 
 from __future__ import annotations
 
+import json
 import os
 import random
 import tempfile
@@ -12,6 +13,7 @@ from collections.abc import Iterator
 from contextlib import redirect_stderr, redirect_stdout
 from io import StringIO
 from pathlib import Path
+from typing import Any
 from unittest import mock
 
 from landaudit_record import cli, fitting, policies, policy_text
@@ -165,6 +167,7 @@ class OfLandrun(Forms):
             ("landrun --rox /usr --ldd ls", "--landrun: word 4, --ldd: adds files that it finds on the machine"),
             ("--add-exec ls", "word 1, --add-exec: adds files"),
             ("--ro usr", "'usr' is not absolute"),
+            ("--ro /\udcff", "is no path that a rule can be on"),
             ("--bind-tcp http", "'http' is not a port"),
             ("--bind-tcp 65536", "'65536' is not a port"),
             ("--rx /usr", "unknown option '--rx', did you mean"),
@@ -332,6 +335,34 @@ class OfLandlockconfig(Forms):
         ):
             with self.subTest(text):
                 self.assertIn(said, self.fault("--landlockconfig", self.config(text)))
+
+
+    def test_each_value_may_be_of_any_kind(self) -> None:
+        """What is not read is a Problem and nothing else; `imported` lets other exceptions pass."""
+        others = (None, 1, -1, True, 1.5, 1e400, "", "x", [], {}, [1], [[]], "/\ud800", ["/\ud800"], "${", {"": 1})
+        for where in _leaves(json.loads(AS_JSON)):
+            for other in others:
+                document = json.loads(AS_JSON)
+                _put(document, where, other)
+                status, _, errors = imported("--landlockconfig", self.config(json.dumps(document)))
+                self.assertIn(status, (0, UNREADABLE), errors)
+
+
+def _leaves(document: Any, where: tuple[Any, ...] = ()) -> Iterator[tuple[Any, ...]]:
+    """The positions in a document, but for the whole."""
+    if where:
+        yield where
+    if isinstance(document, (dict, list)):
+        for key, value in document.items() if isinstance(document, dict) else enumerate(document):
+            yield from _leaves(value, (*where, key))
+
+
+def _put(document: Any, where: tuple[Any, ...], value: Any) -> None:
+    """Replaces what is at a position."""
+    *over, last = where
+    for key in over:
+        document = document[key]
+    document[last] = value
 
 
 class Words(Forms):

@@ -111,6 +111,9 @@ class Faults(InFolder):
         given = Given({}, {"LANDAUDIT_APP": ""})
         self.assertIn("the value of ${APP} is empty", self.fault(LAYER + RULE + '"${APP}/"\n', given))
 
+    def test_a_value_that_can_not_be_written(self) -> None:
+        self.assertIn("the value of ${A} is not UTF-8", self.fault(LAYER + RULE + '"${A}"\n', Given({"A": "/\udcff"})))
+
     def test_a_value_that_makes_no_path(self) -> None:
         self.assertIn("'here/x' is not absolute", self.fault(LAYER + RULE + '"${A}/x"\n', Given({"A": "here"})))
 

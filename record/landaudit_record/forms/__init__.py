@@ -11,8 +11,9 @@ from dataclasses import dataclass, field
 from typing import TypeVar
 
 from ..comments import Comments
-from ..policies import Access, PathRule, Policy, PortRule
+from ..policies import LONGEST_PATH, Access, PathRule, Policy, PortRule
 from ..rights import FS, Rights
+from ..wording import is_utf8
 
 On = TypeVar("On", str, int)
 
@@ -43,6 +44,15 @@ def _together(rules: Iterable[tuple[Access, On]]) -> Mapping[Access, Iterable[On
     for access, on in rules:
         found.setdefault(access, {})[on] = None
     return found
+
+
+def path_fault(text: str) -> str | None:
+    """What is wrong with a path that a rule is to be on, if anything is."""
+    if not text.startswith("/"):
+        return f"{text!r} is not absolute: it depends on where the program is started, so write it from /"
+    if "\0" in text or not is_utf8(text) or len(text.encode()) > LONGEST_PATH:
+        return f"{text!r} is no path that a rule can be on"
+    return None
 
 
 def all_of(names: Iterable[str]) -> Rights:

@@ -14,12 +14,12 @@ from typing import NoReturn
 
 from ..comments import Comments
 from ..documents import listed
-from ..policies import LONGEST_PATH, Access, Layer, Policy
+from ..policies import Access, Layer, Policy
 from ..problems import Problem
 from ..rights import FS, Rights
 from ..variables import Given
 from ..wording import counted, some_of
-from . import Imported, path_rules
+from . import Imported, path_fault, path_rules
 
 VERSION = "0.9.74"
 NAME = "firejail"
@@ -140,12 +140,10 @@ def _paths(line: _Line, text: str, found: _Read, given: Given) -> Iterator[str]:
     values = {name: _value(line, name, given) for name in _MACRO.findall(text)}
     for one in values.get(_SEVERAL, "").split(":"):
         path = _MACRO.sub(lambda macro: one if macro[1] == _SEVERAL else values[macro[1]], text)
-        if not path.startswith("/"):
-            line.fault(f"{path!r} is not absolute")
+        if (wrong := path_fault(path)) is not None:
+            line.fault(wrong)
         if any(letter in path for letter in "*?["):
             line.fault(f"{path!r}: Landlock has no patterns")
-        if "\0" in path or len(path.encode()) > LONGEST_PATH:
-            line.fault(f"{path!r} is no path that a rule can be on")
         found.written.setdefault(path, set()).add(path if _SEVERAL in values else text)
         found.values |= {name: value for name, value in values.items() if name != _SEVERAL}
         yield path

@@ -18,10 +18,10 @@ from typing import Any, TypeVar
 from .. import documents
 from ..comments import Comments
 from ..documents import JSON, Place, listed, one_or_several, tables, unknown
-from ..policies import HIGHEST_PORT, LONGEST_PATH, SCOPES, Access, Layer, Policy
+from ..policies import HIGHEST_PORT, SCOPES, Access, Layer, Policy
 from ..problems import Problem
 from ..rights import FS, NET, NEWEST_ABI, NONE, Family, Rights
-from . import Imported, path_rules, port_rules
+from . import Imported, path_fault, path_rules, port_rules
 
 VERSION = "of 2025, from memory"
 NAME = "landlockconfig"
@@ -153,13 +153,15 @@ class _Reader:
     def _rights(self, word: Any, family: Family, place: Place) -> Rights:
         """The rights that a word stands for: a right by its name, or several of the file's ABI."""
         groups = _groups(self.abi) if family is FS else {"abi.all": NET.known(min(self.abi, NEWEST_ABI))}
+        if not isinstance(word, str):
+            place.fault(f"{word!r} is not the name of a right")
         if word in groups:
             if not self.abi:
                 place.fault(f"{word!r} needs an ABI, which the file does not name: write abi = {NEWEST_ABI} first")
             return groups[word]
         if word not in family.since:
-            place.fault(f"unknown right {family.what} {unknown(str(word), [*groups, *family.since])}")
-        return frozenset({str(word)})
+            place.fault(f"unknown right {family.what} {unknown(word, [*groups, *family.since])}")
+        return frozenset({word})
 
     def _scoped(self, value: Any, place: Place) -> tuple[str, ...]:
         words = self._list(value, place, self._scope)
@@ -225,10 +227,8 @@ def _expanded(value: Any, variables: Mapping[str, tuple[str, ...]], place: Place
     for values in itertools.product(*(variables[name] for name in names)):
         chosen = dict(zip(names, values))
         path = _VARIABLE.sub(lambda use: str(chosen[use[1]]), str(value))
-        if not path.startswith("/"):
-            place.fault(f"{path!r} is not absolute: it depends on where the program is started, so write it from /")
-        if "\0" in path or len(path.encode()) > LONGEST_PATH:
-            place.fault(f"{path!r} is no path that a rule can be on")
+        if (wrong := path_fault(path)) is not None:
+            place.fault(wrong)
         found.append(path)
     return found
 

@@ -8,8 +8,9 @@ from dataclasses import dataclass
 from typing import NoReturn
 
 from ..documents import unknown
-from ..policies import HIGHEST_PORT, LONGEST_PATH
+from ..policies import HIGHEST_PORT
 from ..problems import Problem
+from . import path_fault
 
 
 @dataclass(frozen=True)
@@ -27,10 +28,8 @@ class Option:
 
     def path(self, text: str) -> str:
         """A path that a rule can be on."""
-        if not text.startswith("/"):
-            self.fault(f"{text!r} is not absolute: it depends on where the program is started, so write it from /")
-        if "\0" in text or len(text.encode()) > LONGEST_PATH:
-            self.fault(f"{text!r} is no path that a rule can be on")
+        if (wrong := path_fault(text)) is not None:
+            self.fault(wrong)
         return text
 
     def port(self, text: str) -> int:
