@@ -9,6 +9,8 @@ from .processes import of_policy, program_run
 from .recorder.processes import FIRST_MADE_UP
 
 NOWHERE: frozenset[int] = frozenset()
+#: Says in the `policy` of a `restrict` that it is in the place of one of the run.
+IN_RUN = "in_run"
 
 
 class Followed:
@@ -64,8 +66,9 @@ class Followed:
                 self.confines = True
             case "restrict":
                 self.confines = True
-                self._policies[line] = (of_policy(record) or {}).get("layer")
-                self._confined.update({pid} if of_policy(record) is None else ())
+                origin = of_policy(record)
+                self._policies[line] = (origin or {}).get("layer")
+                self._confined.update({pid} if origin is None or IN_RUN in origin else ())
             case "open":
                 self.miss(pid, record["fd"], not_allowed)
             case "dup":

@@ -18,6 +18,7 @@ from . import (
 from .applying import MOST_RECORDS
 from .comments import Comments
 from .finished import Finished, Part
+from .following import IN_RUN
 from .importing import Following, Own
 from .jsonl import Record
 from .policies import Policy
@@ -90,7 +91,8 @@ def _write(
                 out.write(line)
                 continue
             again = {"again": True} if place.again else {}
-            records = ({**record, "pid": place.pid, **again} for record in by_layer.get(place.layer, ()))
+            records = ({**record, "pid": place.pid, "policy": {**record["policy"], IN_RUN: True}, **again}
+                       for record in by_layer.get(place.layer, ()))
             out.writelines(jsonl.line(record).encode() for record in records)
 
 

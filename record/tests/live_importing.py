@@ -10,9 +10,11 @@ import unittest
 from pathlib import Path
 
 from landaudit_record import confining, policies
+from landaudit_record.landaudit import BUILT
 from landaudit_record.policies import Policy
 from landaudit_record.problems import Problem
 from landaudit_record.rights import FS, NET, NEWEST_ABI, Rights
+from landaudit_record.variables import Given
 
 from .live_actor import CONFINER, RECORDER
 from .live_exporting import MAIN
@@ -114,6 +116,36 @@ parent = "/"
         built = self.run_it("cc", "-o", program, self.folder / "policy.c", self.folder / "main.c")
         self.assertEqual(built.returncode, 0, built.stderr)
         self.assert_alike(self.imported(program, "true", ports=policy.path), policy)
+
+    @unittest.skipUnless(BUILT.exists(), f"{BUILT} is not built")
+    def test_a_recording_under_a_policy_keeps_it_with_its_values(self) -> None:
+        (self.folder / "site.toml").write_text('[[path_beneath]]\nallowed_access = ["read"]\nparent = "${ETC}"\n')
+        policy = self.folder / "P.toml"
+        policy.write_text('include = ["base", "./site.toml"]\n[[layer]]\nhandled_access_fs = ["all"]\n'
+                          '[[layer.path_beneath]]\nallowed_access = ["read", "execute"]\nparent = "${USR}"\n')
+        given = ("--set", "USR=/usr", "--set", "ETC=/etc")
+        recording = self.folder / "rec"
+        ran = self.run_it(sys.executable, RECORDER, "run", recording, "--policy", policy, *given, "--", "ls", "-d", "/etc")
+        self.assertEqual((ran.returncode, ran.stdout), (0, "/etc\n"), ran.stderr)
+        kept = policies.read(recording / "policy.toml")
+        self.assertEqual(granted(kept.layers[0]), granted(policies.read(policy, Given({"USR": "/usr", "ETC": "/etc"})).layers[0]))
+        compared = self.run_it(sys.executable, RECORDER, "compare", recording)
+        self.assertEqual(compared.returncode, 0, compared.stdout)
+
+    @unittest.skipUnless(BUILT.exists(), f"{BUILT} is not built")
+    def test_the_rule_that_a_program_lacks_lets_it_pass(self) -> None:
+        """What the program was refused is suggested for its layer, and with that rule in its code it is not refused."""
+        lacking = OWN + 'print(open(directory + "/../other").read())\n'
+        (self.folder / "other").write_text("said")
+        recording = self.folder / "rec"
+        ran = self.run_it(sys.executable, RECORDER, "run", recording, "--", "/usr/bin/python3", "-c", lacking, self.work)
+        self.assertEqual(ran.returncode, 1)
+        found = self.run_it(sys.executable, RECORDER, "suggest", recording, "--of-program")
+        self.assertIn(f'allowed_access = ["read_file"]\nparent = "{self.folder}/other"\n', found.stdout, found.stderr)
+        granting = lacking.replace('assert call(446', 'assert call(445, rules, 1, beneath(0b100, directory + "/../other"), 0) == 0\n'
+                                   'assert call(446')
+        done = self.run_it("/usr/bin/python3", "-c", granting, self.work)
+        self.assertEqual((done.returncode, done.stdout), (0, "said\n"), done.stderr)
 
     def assert_alike(self, found: Policy, wanted: Policy) -> None:
         """The same layers, which handle what this kernel has of them."""
