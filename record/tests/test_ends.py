@@ -30,10 +30,16 @@ TREE = [{"path": "/program", "kind": "reg"}, {"path": "/f", "kind": "reg"}]
 TRACE = [{"op": "start", "pid": 10}, {"op": "exec", "path": "/program", "pid": 10, "call": 1},
          {"op": "open", "path": "/f", "mode": "r", "fd": 3, "pid": 10, "call": 2}]
 CASES = '[[allowed]]\ncall = "connect"\nport = 443\n'
+CONFIG = """[[ruleset]]
+handled_access_fs = ["execute"]
+[[path_beneath]]
+allowed_access = ["execute"]
+parent = "/program"
+"""
 HUGE = "1" * 5_000
 """A number with more digits than Python turns into a number by itself."""
 
-STATUSES = {RECORDER: range(1, 6), CONFINER: range(1, 5)}
+STATUSES = {RECORDER: range(1, 6), CONFINER: range(1, 6)}
 """The statuses of a failure, by the manual pages ("EXIT STATUS")."""
 
 NEEDS = 4
@@ -50,7 +56,7 @@ class Ends(unittest.TestCase):
         self.recording.mkdir()
         write_lines(self.recording / "tree.jsonl", TREE)
         write_lines(self.recording / "trace.jsonl", TRACE)
-        for name, text in (("policy", POLICY), ("cases", CASES)):
+        for name, text in (("policy", POLICY), ("cases", CASES), ("config", CONFIG)):
             (self.folder / f"{name}.toml").write_text(text)
         (self.folder / "kernel.log").write_bytes(kept("dmesg.log"))
 
@@ -62,11 +68,12 @@ class Ends(unittest.TestCase):
             "suggest": of_policy, "tighten": of_policy, "apply": ["policy.toml", "rec"], "compare": ["rec"],
             "denials": ["kernel.log", "--policy", "policy.toml"], "confine": ["policy.toml", "--", "true"],
             "diff": ["policy.toml", "policy.toml"], "check": ["policy.toml", "cases.toml"],
-            "export": ["policy.toml", "--c"],
+            "export": ["policy.toml", "--c"], "lint": ["policy.toml"], "import": ["--landlockconfig", "config.toml"],
         }
         for program, names in ((RECORDER, commands.NAMES), (CONFINER, policy_commands.NAMES)):
             for name in names:
-                yield program, [name, *words[name]]
+                called = name.rstrip("_")
+                yield program, [called, *words[called]]
 
     def ended(self, words: Sequence[str | Path], how: str = "exec \"$@\"") -> subprocess.CompletedProcess[str]:
         """A command that a shell starts, from the folder; it ends without a traceback, with a line if it fails."""
@@ -85,7 +92,7 @@ class Ends(unittest.TestCase):
 
     def test_an_output_that_is_closed_or_full(self) -> None:
         """What prints its result can't; the others do their work or say what else they miss."""
-        printing = {"audit", "suggest", "tighten", "apply", "denials", "diff", "check", "export"}
+        printing = {"audit", "suggest", "tighten", "apply", "denials", "diff", "check", "export", "lint", "import"}
         for how in ('exec "$@" >&-', 'exec "$@" >/dev/full'):
             for program, words in self.calls():
                 if words[0] in printing:
@@ -122,7 +129,7 @@ class Ends(unittest.TestCase):
             self.skipTest("setpriv is not installed")
         closed = self.folder / "closed"
         closed.mkdir()
-        for name in ("rec", "policy.toml", "cases.toml", "kernel.log"):
+        for name in ("rec", "policy.toml", "cases.toml", "config.toml", "kernel.log"):
             (self.folder / name).rename(closed / name)
             (self.folder / name).symlink_to(closed / name)
         closed.chmod(0)
@@ -151,6 +158,7 @@ class Ends(unittest.TestCase):
         rule = f'[[layer.path_beneath]]\nallowed_access = ["read_dir"]\nparent = "{escaped}"\n'
         (self.folder / "policy.toml").write_text(POLICY + rule + rule.replace("31m", "*"))
         (self.folder / "cases.toml").write_text(f'[[refused]]\ncall = "open r"\nkind = "reg"\npath = "{escaped}"\n')
+        (self.folder / "config.toml").write_text(CONFIG.replace("/program", escaped))
         name = json.loads(f'"{escaped}"')
         write_lines(self.recording / "tree.jsonl", [*TREE, {"path": name, "kind": "reg"}])
         write_lines(self.recording / "trace.jsonl", [*TRACE, {**TRACE[2], "path": name, "fd": 4, "call": 3}])
@@ -196,7 +204,7 @@ class Ends(unittest.TestCase):
 
     def test_huge_numbers(self) -> None:
         """In each file that is TOML, and in a trace and a tree."""
-        texts = {"policy.toml": f"x = {HUGE}\n{POLICY}", "cases.toml": CASES.replace("443", HUGE),
+        texts = {"policy.toml": f"x = {HUGE}\n{POLICY}", "config.toml": f"abi = {HUGE}\n{CONFIG}", "cases.toml": CASES.replace("443", HUGE),
                  "rec/trace.jsonl": f'{{"op":"start","pid":{HUGE}}}\n',
                  "rec/tree.jsonl": f'{{"path":{HUGE},"kind":"reg"}}\n'}
         for name, text in texts.items():
