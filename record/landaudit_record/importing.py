@@ -85,7 +85,7 @@ class _Open:
 
 @dataclass
 class _Process:
-    """What a process has: its program, its layers since it runs that, the programs of those before, and its rulesets."""
+    """What a process has: its program, its layers since it runs that, the programs of those before, its rulesets."""
 
     program: str = NO_PROGRAM
     layers: tuple[Ruleset, ...] = ()

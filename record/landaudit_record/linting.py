@@ -71,7 +71,8 @@ class _Layer:
 
     def grants_near(self, path: str, right: str) -> bool:
         """Whether it does not refuse a right on a path, or on something beneath it."""
-        return right in self.lets_pass(path) or any(path in upwards(on.path) and right in on.rights for on in self.rules)
+        beneath = (on for on in self.rules if path in upwards(on.path))
+        return right in self.lets_pass(path) or any(right in on.rights for on in beneath)
 
 
 @dataclass(frozen=True)

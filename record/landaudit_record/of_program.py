@@ -128,8 +128,8 @@ def opened(names: Sequence[str], program: str | None, process: int | None) -> Of
         found = importing.found(recording, tree)
         own = importing_text.choose(found, name, program, process)
         if chosen and own != chosen[0][-1]:
-            raise Problem(f"{own.program} puts another policy in force in {name} than in {names[0]}: name recordings in "
-                          "which it is the same", USAGE)
+            raise Problem(f"{own.program} puts another policy in force in {name} than in {names[0]}: name recordings "
+                          "in which it is the same", USAGE)
         if not chosen:
             written = importing_text.comments(found, own, name)
         chosen.append((name, recording, tree, own))

@@ -165,7 +165,8 @@ class _Reading:
             place.fault("no layer: write one as [[layer]] with handled_access_fs")
         if len(found) > MOST_LAYERS:
             place.fault(f"{len(found)} layers: the kernel takes at most {MOST_LAYERS}")
-        layers = (self._layer(it, number, included, place / f"layer {number}") for number, it in enumerate(found, start=1))
+        layers = (self._layer(it, number, included, place / f"layer {number}")
+                  for number, it in enumerate(found, start=1))
         return Policy(place.path, tuple(layers), self.filled.defaults, self.filled.written)
 
     def _layer(self, table: Mapping[str, Any], number: int, included: Sequence[Group], place: Place) -> Layer:

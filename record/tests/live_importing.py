@@ -1,4 +1,4 @@
-"""Programs in Python and C, and a sandboxer, that restrict themselves on a running kernel: their policies are imported."""
+"""Policies of programs in Python and C, and of a sandboxer, that restrict themselves on a running kernel."""
 
 from __future__ import annotations
 
@@ -19,7 +19,7 @@ from landaudit_record.variables import Given
 from .live_actor import CONFINER, RECORDER
 from .live_exporting import MAIN
 
-#: Made of calls as they are, since Python has none for Landlock: execute, read_file and read_dir in DIR, refer on DIR/f.
+#: Restricts itself by calls as they are, since Python has none for Landlock; one of its rules is refused.
 OWN = """
 import ctypes, os, struct, sys
 call, directory = ctypes.CDLL(None).syscall, sys.argv[1]
@@ -125,10 +125,12 @@ parent = "/"
                           '[[layer.path_beneath]]\nallowed_access = ["read", "execute"]\nparent = "${USR}"\n')
         given = ("--set", "USR=/usr", "--set", "ETC=/etc")
         recording = self.folder / "rec"
-        ran = self.run_it(sys.executable, RECORDER, "run", recording, "--policy", policy, *given, "--", "ls", "-d", "/etc")
+        words = ("run", recording, "--policy", policy, *given, "--", "ls", "-d", "/etc")
+        ran = self.run_it(sys.executable, RECORDER, *words)
         self.assertEqual((ran.returncode, ran.stdout), (0, "/etc\n"), ran.stderr)
         kept = policies.read(recording / "policy.toml")
-        self.assertEqual(granted(kept.layers[0]), granted(policies.read(policy, Given({"USR": "/usr", "ETC": "/etc"})).layers[0]))
+        wanted = policies.read(policy, Given({"USR": "/usr", "ETC": "/etc"}))
+        self.assertEqual(granted(kept.layers[0]), granted(wanted.layers[0]))
         compared = self.run_it(sys.executable, RECORDER, "compare", recording)
         self.assertEqual(compared.returncode, 0, compared.stdout)
 
@@ -138,13 +140,13 @@ parent = "/"
         lacking = OWN + 'print(open(directory + "/../other").read())\n'
         (self.folder / "other").write_text("said")
         recording = self.folder / "rec"
-        ran = self.run_it(sys.executable, RECORDER, "run", recording, "--", "/usr/bin/python3", "-c", lacking, self.work)
+        python = ("/usr/bin/python3", "-c")
+        ran = self.run_it(sys.executable, RECORDER, "run", recording, "--", *python, lacking, self.work)
         self.assertEqual(ran.returncode, 1)
         found = self.run_it(sys.executable, RECORDER, "suggest", recording, "--of-program")
         self.assertIn(f'allowed_access = ["read_file"]\nparent = "{self.folder}/other"\n', found.stdout, found.stderr)
-        granting = lacking.replace('assert call(446', 'assert call(445, rules, 1, beneath(0b100, directory + "/../other"), 0) == 0\n'
-                                   'assert call(446')
-        done = self.run_it("/usr/bin/python3", "-c", granting, self.work)
+        rule = 'assert call(445, rules, 1, beneath(0b100, directory + "/../other"), 0) == 0\n'
+        done = self.run_it(*python, lacking.replace("assert call(446", f"{rule}assert call(446"), self.work)
         self.assertEqual((done.returncode, done.stdout), (0, "said\n"), done.stderr)
 
     def assert_alike(self, found: Policy, wanted: Policy) -> None:

@@ -204,7 +204,8 @@ class Ends(unittest.TestCase):
 
     def test_huge_numbers(self) -> None:
         """In each file that is TOML, and in a trace and a tree."""
-        texts = {"policy.toml": f"x = {HUGE}\n{POLICY}", "config.toml": f"abi = {HUGE}\n{CONFIG}", "cases.toml": CASES.replace("443", HUGE),
+        texts = {"policy.toml": f"x = {HUGE}\n{POLICY}", "cases.toml": CASES.replace("443", HUGE),
+                 "config.toml": f"abi = {HUGE}\n{CONFIG}",
                  "rec/trace.jsonl": f'{{"op":"start","pid":{HUGE}}}\n',
                  "rec/tree.jsonl": f'{{"path":{HUGE},"kind":"reg"}}\n'}
         for name, text in texts.items():

@@ -52,7 +52,8 @@ class Recorded(KeptLogs):
         self.assertEqual(layer.handled_access_fs.rights, FS.known(3))
         self.assertEqual(layer.handled_access_net.rights, frozenset())
         root = "/tmp/story/trixie"
-        self.assertEqual({(parent, rule.allowed_access.rights) for rule in layer.path_beneath for parent in rule.parents}, {
+        granted = {(on, rule.allowed_access.rights) for rule in layer.path_beneath for on in rule.parents}
+        self.assertEqual(granted, {
             (f"{root}/usr", frozenset({"execute", "read_file", "read_dir"})),
             (f"{root}/etc", frozenset({"read_file"})),
             (f"{root}/usr/lib", frozenset({"read_file"})),
@@ -69,7 +70,8 @@ class Recorded(KeptLogs):
         self.assertEqual(first.path_beneath, second.path_beneath)
         self.assertEqual(first.handled_access_fs.rights, {"execute", "read_file", "read_dir", "refer", "truncate"})
         self.assertEqual([rule.parents for rule in first.path_beneath], [("/etc",)])
-        self.assertEqual([(rule.ports, rule.allowed_access.rights) for rule in first.net_port], [((4242,), {"bind_tcp"})])
+        (port,) = first.net_port
+        self.assertEqual((port.ports, port.allowed_access.rights), ((4242,), {"bind_tcp"}))
 
     def test_what_strace_does_not_decode_is_told(self) -> None:
         folder = self.folder("policy")
@@ -159,10 +161,10 @@ class Written(unittest.TestCase):
 
     def test_a_layer_of_scopes_alone_is_not_known(self) -> None:
         made = {**create(["execute"]), "scoped": ["signal"], "call": 5}
-        entries = [{"line": line, "pid": 1, "class": "scopes of a ruleset", "call": "landlock_create_ruleset({..}, 24, 0) = 3"}
-                   for line in (5, 9)]
+        made_with = {"pid": 1, "class": "scopes of a ruleset", "call": "landlock_create_ruleset({..}, 24, 0) = 3"}
+        entries = [{"line": line, **made_with} for line in (5, 9)]
         entries += [{**entries[0], "line": 11, "class": "a call of Landlock's with flags", "call": said}
-                    for said in ("landlock_restrict_self(-1, 0x4) = 0", "landlock_restrict_self(3, 8) = -1 EINVAL (..)")]
+                    for said in ("landlock_restrict_self(-1, 4) = 0", "landlock_restrict_self(3, 8) = -1 EINVAL (..)")]
         write_lines(self.folder / "unsaid.jsonl", entries)
         status, out, _ = self.imported(by(1, made, RESTRICT))
         self.assertEqual(status, NOT_ALL_JUDGED)

@@ -10,6 +10,7 @@ from pathlib import Path
 
 from landaudit_record import cli
 
+WARNED = "warning: without effect unless it is moved or linked: "
 LAYER = '[[layer]]\nhandled_access_fs = ["all"]\nhandled_access_net = ["all"]\n'
 
 
@@ -71,31 +72,27 @@ class Linting(unittest.TestCase):
         self.assertEqual(self.found(LAYER + self.rule('"read"', "home", "home/.ssh")), [
             "layer 1, path_beneath 1, parent home: warning: this reaches home/.ssh",
             "layer 1, path_beneath 1, parent home/.ssh: warning: home/.ssh holds secrets",
-            "layer 1, path_beneath 1, parent home/.ssh: warning: without effect unless it is moved or linked: "
-            "path_beneath 1 on home grants as much",
+            f"layer 1, path_beneath 1, parent home/.ssh: {WARNED}path_beneath 1 on home grants as much",
         ])
 
     def test_what_rules_above_or_before_grant_too(self) -> None:
         text = LAYER + self.rule('"read"', "d") + self.rule('"read_file"', "d/f", "o") + self.rule('"read"', "d", "o")
         self.assertEqual(self.found(text), [
-            "layer 1, path_beneath 2, parent d/f: warning: without effect unless it is moved or linked: path_beneath 1 on d "
-            "grants as much",
-            "layer 1, path_beneath 3, parent d: warning: without effect unless it is moved or linked: path_beneath 1 on d "
-            "grants as much",
+            f"layer 1, path_beneath 2, parent d/f: {WARNED}path_beneath 1 on d grants as much",
+            f"layer 1, path_beneath 3, parent d: {WARNED}path_beneath 1 on d grants as much",
         ])
 
     def test_two_rules_together_grant_as_much(self) -> None:
         text = LAYER + self.rule('"read_file"', "d") + self.rule('"read_dir"', "d") + self.rule('"read"', "d/e")
         self.assertEqual(self.found(text), [
-            "layer 1, path_beneath 3, parent d/e: warning: without effect unless it is moved or linked: path_beneath 1 on d, "
-            "path_beneath 2 on d grants as much"])
+            f"layer 1, path_beneath 3, parent d/e: {WARNED}path_beneath 1 on d, path_beneath 2 on d grants as much"])
 
     def test_what_another_layer_refuses(self) -> None:
         second = '[[layer]]\nhandled_access_fs = ["write_file"]\n'
         text = LAYER + self.rule('"write_file", "read"', "d", "o") + second + self.rule('"write_file"', "d/e")
         self.assertEqual(self.found(text), [
-            "layer 1, path_beneath 1, parent o: warning: write_file without effect: layer 2 grants it neither there nor "
-            "beneath"])
+            "layer 1, path_beneath 1, parent o: warning: write_file without effect: layer 2 grants it neither there "
+            "nor beneath"])
 
     def test_ports(self) -> None:
         second = '[[layer]]\nhandled_access_net = ["connect_tcp"]\n'
@@ -119,8 +116,9 @@ class Linting(unittest.TestCase):
                          ["P.toml: warning: files at d and beneath may be both written and executed"])
         self.assertEqual(self.found('[[layer]]\nhandled_access_net = ["bind_tcp"]\n'),
                          ["P.toml: warning: files everywhere may be both written and executed"])
-        self.assertEqual(self.found(only + self.rule('"write_file"', "d") + '[[layer]]\nhandled_access_fs = ["execute"]\n' +
-                                    self.rule('"execute"', "o")), [])
+        other = '[[layer]]\nhandled_access_fs = ["execute"]\n'
+        text = only + self.rule('"write_file"', "d") + other + self.rule('"execute"', "o")
+        self.assertEqual(self.found(text), [])
 
     def test_groups_of_rules_are_for_many_machines(self) -> None:
         self.assertEqual(self.found('include = ["python", "base"]\n' + LAYER), [])

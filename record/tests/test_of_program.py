@@ -27,7 +27,8 @@ from .test_importing import RESTRICT, by, create, rule, run
 
 #: A program that allows itself to read in /etc and to write nothing.
 TREE = [{"path": "/bin", "kind": "dir"}, {"path": "/bin/p", "kind": "reg"}, {"path": "/etc", "kind": "dir"},
-        {"path": "/etc/f", "kind": "reg"}, {"path": "/tmp", "kind": "dir"}, {"path": "/tmp/new", "kind": "dir", "made": True}]
+        {"path": "/etc/f", "kind": "reg"}, {"path": "/tmp", "kind": "dir"},
+        {"path": "/tmp/new", "kind": "dir", "made": True}]
 CALLS = (
     run("/bin/p"),
     {"op": "nnp"},
@@ -37,6 +38,10 @@ CALLS = (
     {"op": "open", "path": "/etc/f", "fd": 5, "mode": "r", "kernel": "ok"},
     {"op": "open", "path": "/etc/f", "fd": 6, "mode": "w", "kernel": "EACCES"},
 )
+
+
+#: The operations on rulesets.
+ON_RULESETS = ("create", "add_path", "add_port", "restrict", "close_rs")
 
 
 class InFolder(unittest.TestCase):
@@ -74,7 +79,7 @@ class Written(InFolder):
 
     def test_a_layer_of_the_policy_is_in_place_of_the_program_s_restriction(self) -> None:
         trace = self.written(self.recording("one", *CALLS))
-        ops = ["start", "exec", "nnp", "create", "add_path", "create", "add_path", "restrict", "close_rs", "open", "open"]
+        ops = "start exec nnp create add_path create add_path restrict close_rs open open".split()
         self.assertEqual([record["op"] for record in trace], ops)
         self.assertEqual([record.get("policy", {}).get("layer") for record in trace], [None] * 5 + [1] * 4 + [None] * 2)
         made, added, restricted, _ = (record for record in trace if "policy" in record)
@@ -198,7 +203,8 @@ class Answers(InFolder):
         status, out, errors = self.said("tighten", self.recording("one", *CALLS), "--of-program")
         self.assertEqual((status, errors), (0, ""))
         self.assertIn("# what /bin/p puts in force by itself, as recorded in", out)
-        self.assertIn('# needed by 1 call\n[[layer.path_beneath]]\nallowed_access = ["read_file"]\nparent = "/etc"\n', out)
+        rule = '[[layer.path_beneath]]\nallowed_access = ["read_file"]\nparent = "/etc"\n'
+        self.assertIn(f"# needed by 1 call\n{rule}", out)
         (layer,) = self.read(out).layers
         self.assertEqual(len(layer.path_beneath), 1)
 
@@ -227,7 +233,7 @@ class Answers(InFolder):
             audit = trying.Auditing(BUILT, recording, Path(folder), True, trying.Progress())
             return [(it.record["op"], it.record["pid"], str(it.record.get("path"))) for walk in
                     audit.walks(range(NEWEST_ABI, NEWEST_ABI + 1), tried, only_refused=True) for it in walk
-                    if it.answered and it.record["op"] not in ("create", "add_path", "add_port", "restrict", "close_rs")]
+                    if it.answered and it.record["op"] not in ON_RULESETS]
 
     def read(self, text: str) -> policies.Policy:
         file = self.folder / "P.toml"

@@ -89,14 +89,15 @@ class Values(InFolder):
 class Faults(InFolder):
     def test_each_names_its_place(self) -> None:
         for text, said in (
-            (LAYER + RULE + '["/a", "${AP}"]\n', "layer 1, path_beneath 1, parent: unknown variable ${AP}: give it a value "
-             "by --set AP=VALUE, by LANDAUDIT_AP in the environment, or under [variables] (at line 6, column 17)"),
+            (LAYER + RULE + '["/a", "${AP}"]\n',
+             "layer 1, path_beneath 1, parent: unknown variable ${AP}: give it a value by --set AP=VALUE, by LANDAUDIT_AP "
+             "in the environment, or under [variables] (at line 6, column 17)"),
             (APP + LAYER + RULE + '"${AP}"\n', "did you mean ${APP}? give it"),
             (LAYER + RULE + '"${A-B}"\n', "'${A-B}' is no variable: write ${NAME}, or $${ for the characters ${"),
             (LAYER + RULE + '"/a/${A"\n', "'${A' is no variable"),
             (LAYER + RULE + '"${}"\n', "'${}' is no variable"),
-            ('[variables]\nA = ""\n' + LAYER, "variables: '' is not a value: write a text that is not empty, or a number "
-             "(at line 2, column 1)"),
+            ('[variables]\nA = ""\n' + LAYER,
+             "variables: '' is not a value: write a text that is not empty, or a number (at line 2, column 1)"),
             ("[variables]\nA = [1]\n" + LAYER, "[1] is not a value"),
             ('[variables]\nA = "${B}"\n' + LAYER, "a value has no variables"),
             ('[variables]\n"a b" = "x"\n' + LAYER, "'a b' is not a name"),
@@ -161,7 +162,8 @@ class OwnGroups(InFolder):
                      '[[layer.path_beneath]]\ninclude = ["ssl", "./parts/site.toml"]\n'):
             with self.subTest(text):
                 (layer,) = self.read(text).layers
-                self.assertEqual(list(dict.fromkeys(rule.group for rule in layer.path_beneath)), ["ssl", "./parts/site.toml"])
+                groups = dict.fromkeys(rule.group for rule in layer.path_beneath)
+                self.assertEqual(list(groups), ["ssl", "./parts/site.toml"])
                 self.assertEqual(layer.path_beneath[-1].parents, ("/site", "/srv/app/x"))
 
     def test_by_its_whole_path_and_once(self) -> None:
@@ -202,7 +204,8 @@ class Written(InFolder):
     def test_variables_stay(self) -> None:
         out = self.printed("# Where it is.\n" + APP + LAYER + RULE + '["${APP}/a", "/b$${"]\n' + PORT + '"${P}"\n',
                            Given({"P": "8", "APP": "/opt"}))
-        for line in ("# Where it is.", "[variables]", 'APP = "/srv/app"', 'parent = ["${APP}/a", "/b$${"]', 'port = "${P}"'):
+        for line in ("# Where it is.", "[variables]", 'APP = "/srv/app"', 'parent = ["${APP}/a", "/b$${"]',
+                     'port = "${P}"'):
             self.assertIn(line, out.splitlines())
 
     def test_a_value_that_the_file_also_writes_itself_is_written_as_it_is(self) -> None:
@@ -214,7 +217,8 @@ class Written(InFolder):
 
     def test_the_text_that_is_kept_with_a_recording_stands_alone(self) -> None:
         self.file('[[path_beneath]]\nallowed_access = ["read"]\nparent = "/site/${APP}/${PORT}"\n', "site.toml")
-        text = ('include = ["tmp", "./site.toml"] # "${NOT}"\n' + APP + LAYER + RULE + """['${APP}/"x', "/$${", "/é"]\n"""
+        parents = """['${APP}/"x', "/$${", "/é"]\n"""
+        text = ('include = ["tmp", "./site.toml"] # "${NOT}"\n' + APP + LAYER + RULE + parents
                 + PORT + '["${PORT}", 80]\n')
         given = Given({"PORT": "443"})
         policy = self.read(text, given)

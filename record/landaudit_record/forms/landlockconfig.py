@@ -1,8 +1,8 @@
 """The configuration format of landlockconfig, TOML or JSON, written from memory of its first releases (2025).
 
 A file has `abi`, `[[variable]]` (a name with one or several values), `[[ruleset]]`, `[[path_beneath]]` and
-`[[net_port]]`. In JSON, names of keys are written without underscores (`pathBeneath`). A word such as `abi.read_execute`
-stands for rights of the ABI that the file names; on a file, for those of them that files can have.
+`[[net_port]]`. In JSON, names of keys are written without underscores (`pathBeneath`). A word such as
+`abi.read_execute` stands for rights of the ABI that the file names; on a file, for those of them that files can have.
 """
 
 from __future__ import annotations
@@ -84,13 +84,13 @@ class _Reader:
     abi: int = 0
 
     def imported(self) -> Imported:
-        """The policy. Several rulesets in one file are a Problem: whether they are one layer or several is not known."""
+        """The policy. Several rulesets are a Problem: whether they are one layer or several is not known."""
         self._keys(self.document, ("abi", "variable", "ruleset", "path_beneath", "net_port"), self.place)
         self.abi = self._abi()
         variables = dict(self._variables())
         rulesets = list(self._tables("ruleset"))
         if len(rulesets) != 1:
-            self.place.fault(f"{len(rulesets)} rulesets: one is read, since it is not known here which layers others make")
+            self.place.fault(f"{len(rulesets)} rulesets: one is read, since it is not known which layers others make")
         layer = self._layer(*rulesets[0], variables)
         said = [f"from {self.place.path}, which is of {NAME} ({VERSION})"]
         if self.abi:
@@ -139,7 +139,8 @@ class _Reader:
             place.fault("handles nothing")
         paths = [(access, parent) for rule, at in self._tables("path_beneath")
                  for access, parent in self._path_rule(rule, fs, variables, at)]
-        ports = [(access, port) for rule, at in self._tables("net_port") for access, port in self._port_rule(rule, net, at)]
+        ports = [(access, port) for rule, at in self._tables("net_port")
+                 for access, port in self._port_rule(rule, net, at)]
         return Layer(1, _as_access(fs, FS), _as_access(net, NET), path_rules(paths), port_rules(ports), scoped)
 
     def _handled(self, table: Mapping[str, Any], name: str, family: Family, place: Place) -> Rights:
@@ -182,7 +183,8 @@ class _Reader:
         key = self.key("allowed_access")
         documents.check_keys(table, (key, "parent"), place, all_needed=True)
         access = self._allowed(table[key], FS, handled, place / key)
-        for parents in one_or_several(table["parent"], lambda value, at: _expanded(value, variables, at), place / "parent"):
+        several = one_or_several(table["parent"], lambda value, at: _expanded(value, variables, at), place / "parent")
+        for parents in several:
             yield from ((access, parent) for parent in parents)
 
     def _port_rule(self, table: Mapping[str, Any], handled: Rights, place: Place) -> Iterator[tuple[Access, int]]:

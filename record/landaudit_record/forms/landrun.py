@@ -18,7 +18,9 @@ from .words import Known
 VERSION = "0.1.15, from memory"
 NAME = "landrun"
 #: The groups of rights that its options about paths stand for.
-PATHS = {"--ro": ("read",), "--rox": ("read", "execute"), "--rw": ("read", "write"), "--rwx": ("read", "write", "execute")}
+PATHS = {
+    "--ro": ("read",), "--rox": ("read", "execute"), "--rw": ("read", "write"), "--rwx": ("read", "write", "execute"),
+}
 PORTS = {"--bind-tcp": "bind_tcp", "--connect-tcp": "connect_tcp"}
 NO_PATHS, NO_PORTS = "--unrestricted-filesystem", "--unrestricted-network"
 #: Options by which it looks for files on the machine.
@@ -54,6 +56,7 @@ def read(text: str) -> Imported:
         layers.append(Layer(len(layers) + 1, Access(), Access(grouped=NET.groups["all"]), (), port_rules(ports)))
     if not layers:
         raise Problem(f"--{NAME}: it restricts neither paths nor ports, so it puts no layer in force")
-    said = [f"from a command line of {NAME} ({VERSION})", *words.beside(line, (*PATHS, *PORTS, NO_PATHS, NO_PORTS, BEST))]
+    of_policy = (*PATHS, *PORTS, NO_PATHS, NO_PORTS, BEST)
+    said = [f"from a command line of {NAME} ({VERSION})", *words.beside(line, of_policy)]
     said.append("on a kernel before ABI 5 it goes on with less" if BEST in given else "it runs on ABI 5 and later only")
     return Imported(Policy(Path(NAME), tuple(layers)), Comments(said))

@@ -41,7 +41,9 @@ def add_arguments(parser: argparse.ArgumentParser) -> None:
     source.add_argument("--landrun", metavar="WORDS", help="a command line of landrun, as one word")
     source.add_argument("--firejail", metavar="FILE", help="a profile of firejail, with the profiles beside it")
     parser.add_argument(
-        "--program", metavar="NAME", help="the program of the recording that restricts itself, by its name or whole path"
+        "--program",
+        metavar="NAME",
+        help="the program of the recording that restricts itself, by its name or whole path",
     )
     add_process(parser)
     variables.add_set(parser)
