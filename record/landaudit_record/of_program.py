@@ -28,6 +28,10 @@ from .trees import Tree
 from .trying import Files, Tried
 
 
+#: What stands for the file of a policy that is a program's own.
+PRINTED = Path("what landaudit-policy import prints")
+
+
 @dataclass(frozen=True)
 class _Place:
     """A restriction of a program: its process, which layer of the policy it is, and whether it is written again."""
@@ -98,11 +102,14 @@ def _write(
 
 @dataclass(frozen=True)
 class OfProgram:
-    """A policy, its comments, and the recordings in which other rules can be tried."""
+    """A policy, its comments, and the recordings in which other rules can be tried; and the program whose policy it is,
+    if it is one's own.
+    """
 
     policy: Policy
     comments: Comments
     members: list[Member]
+    program: str | None = None
 
 
 def of_arguments(arguments: argparse.Namespace) -> OfProgram:
@@ -133,8 +140,9 @@ def opened(names: Sequence[str], program: str | None, process: int | None) -> Of
         if not chosen:
             written = importing_text.comments(found, own, name)
         chosen.append((name, recording, tree, own))
-    policy = importing.policy(chosen[0][-1], Path(chosen[0][-1].program))
-    return OfProgram(policy, written, [_member(*one, policy) for one in chosen])
+    own = chosen[0][-1]
+    policy = importing.policy(own, PRINTED)
+    return OfProgram(policy, written, [_member(*one, policy) for one in chosen], own.program)
 
 
 def _member(name: str, recording: Finished, tree: Tree, own: Own, policy: Policy) -> Member:

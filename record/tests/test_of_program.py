@@ -8,10 +8,11 @@ import unittest
 from collections import Counter
 from collections.abc import Iterator
 from contextlib import redirect_stderr, redirect_stdout
+from dataclasses import replace
 from io import StringIO
 from pathlib import Path
 
-from landaudit_record import cli, finished, importing, jsonl, of_program, policies, trying
+from landaudit_record import cli, finished, importing, jsonl, of_program, policies, policy_text, trying
 from landaudit_record.finished import Finished, Part
 from landaudit_record.importing import Following, Own
 from landaudit_record.jsonl import Record
@@ -132,6 +133,18 @@ class Stories(unittest.TestCase):
                 self.assertEqual({own: sorted(times.pids) for own, times in one.own.items()},
                                  {own: sorted(times.pids) for own, times in several.own.items()})
 
+    def test_what_is_printed_reads_as_what_is_found(self) -> None:
+        for seed in range(40):
+            with tempfile.TemporaryDirectory() as folder, self.subTest(seed):
+                found, _ = self.found(finished.opened(str(told(Path(folder), seed, 200))))
+                for own in found.own:
+                    layers = [_meant(replace(it, rules=tuple(replace(rule, made=None) for rule in it.rules)))
+                              for it in own.layers if it.is_layer]
+                    file = Path(folder, "P.toml")
+                    file.write_text("\n".join(policy_text.lines(importing.policy(own, file))))
+                    if layers:
+                        self.assertEqual([_of_policy(layer) for layer in policies.read(file).layers], layers)
+
     def test_a_program_s_own_policy_in_its_place_is_what_it_had(self) -> None:
         tried = 0
         for seed in range(60):
@@ -188,6 +201,18 @@ def _meant(ruleset: importing.Ruleset) -> _Layer:
     return ruleset.fs, ruleset.net, on
 
 
+def _of_policy(layer: policies.Layer) -> _Layer:
+    """The same of a layer of a policy."""
+    on: dict[str | int, Rights] = {}
+    for rule in layer.path_beneath:
+        for parent in rule.parents:
+            on[parent] = on.get(parent, frozenset()) | rule.allowed_access.rights
+    for port_rule in layer.net_port:
+        for port in port_rule.ports:
+            on[port] = on.get(port, frozenset()) | port_rule.allowed_access.rights
+    return layer.handled_access_fs.rights, layer.handled_access_net.rights, on
+
+
 @unittest.skipUnless(BUILT.exists(), f"{BUILT} is not built")
 class Answers(InFolder):
     """What suggest and tighten say of a program that restricts itself."""
@@ -212,7 +237,8 @@ class Answers(InFolder):
         name = self.recording("one", *CALLS[:-1], create(["write_file"]), rule("/bin", "write_file"), RESTRICT,
                               {"op": "open", "path": "/bin/p", "fd": 6, "mode": "w", "kernel": "EACCES"})
         _, out, _ = self.said("suggest", name, "--of-program")
-        self.assertIn("# 1 rule for layer 1: paste them under the [[layer]] of that number in /bin/p\n", out)
+        self.assertIn("# 1 rule for layer 1: paste them under the [[layer]] of that number in what "
+                      "landaudit-policy import prints\n", out)
         self.assertNotIn("layer 2", out)
 
     def test_an_audit_of_the_policy_in_its_place_is_that_of_the_recording(self) -> None:

@@ -63,8 +63,8 @@ def run(arguments: argparse.Namespace) -> int:
         recorded = [_recorded(member) for member in members]
         suggestion = suggest(recorded, policy, arguments.abi, audit, _making(recorded, arguments))
     together.note_missing(members)
-    if arguments.of_program:
-        print(f"# for the policy that {plain(str(policy.path))} puts in force by itself (landaudit-policy import)")
+    if tried.program is not None:
+        print(f"# for the policy that {plain(tried.program)} puts in force by itself (landaudit-policy import)")
     for line in suggestion_text.lines(suggestion, policy):
         print(line)
     done = suggestion.finished and not suggestion.unmended and not suggestion.of_program

@@ -58,5 +58,6 @@ def read(text: str) -> Imported:
         raise Problem(f"--{NAME}: it restricts neither paths nor ports, so it puts no layer in force")
     of_policy = (*PATHS, *PORTS, NO_PATHS, NO_PORTS, BEST)
     said = [f"from a command line of {NAME} ({VERSION})", *words.beside(line, of_policy)]
+    said.append("--rw and --rwx are taken with refer, truncate and ioctl_dev")
     said.append("on a kernel before ABI 5 it goes on with less" if BEST in given else "it runs on ABI 5 and later only")
     return Imported(Policy(Path(NAME), tuple(layers)), Comments(said))
