@@ -15,7 +15,7 @@ from pathlib import Path
 from . import jsonl
 from .finished import OF_SCOPES, Finished
 from .jsonl import Record
-from .policies import LONGEST_PATH, SCOPES, Access, Layer, PathRule, Policy, PortRule
+from .policies import HIGHEST_PORT, LONGEST_PATH, SCOPES, Access, Layer, PathRule, Policy, PortRule
 from .processes import program_run, shown
 from .rights import FILE_RIGHTS, FS, NET, NONE, Family, Rights
 from .trees import Tree
@@ -240,6 +240,8 @@ def _refusal(record: Record, rights: Rights, handled: Rights, tree: Tree) -> str
         return f"the kernel refused it with {record['kernel']}"
     if not rights <= handled:
         return "the kernel refuses it with EINVAL, since the ruleset does not handle all of it"
+    if record.get("port", 0) > HIGHEST_PORT:
+        return "the kernel refuses it with EINVAL, since it is on no port"
     kind = tree.kind(record["path"]) if "path" in record else None
     if kind not in (None, "dir") and not rights <= FILE_RIGHTS:
         return "the kernel refuses it with EINVAL, since it is on no directory"

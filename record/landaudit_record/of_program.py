@@ -22,7 +22,7 @@ from .following import IN_RUN
 from .importing import Following, Own
 from .jsonl import Record
 from .policies import Policy
-from .problems import USAGE, Problem
+from .problems import NOT_ALL_JUDGED, USAGE, Problem
 from .together import Member
 from .trees import Tree
 from .trying import Files, Tried
@@ -103,13 +103,19 @@ def _write(
 @dataclass(frozen=True)
 class OfProgram:
     """A policy, its comments, and the recordings in which other rules can be tried; and the program whose policy it is,
-    if it is one's own.
+    if it is one's own. `unseen` are notes that calls of Landlock could not be recorded, which may be of the policy.
     """
 
     policy: Policy
     comments: Comments
     members: list[Member]
     program: str | None = None
+    unseen: tuple[str, ...] = ()
+
+    @property
+    def status(self) -> int:
+        """The status of what was done: 0, unless not all of the policy, or of where its parents led, is known."""
+        return NOT_ALL_JUDGED if self.unseen else together.status(self.members)
 
 
 def of_arguments(arguments: argparse.Namespace) -> OfProgram:
@@ -129,6 +135,7 @@ def of_arguments(arguments: argparse.Namespace) -> OfProgram:
 def opened(names: Sequence[str], program: str | None, process: int | None) -> OfProgram:
     """The policy that a program puts in force by itself in some recordings; it must be the same in all."""
     chosen: list[tuple[str, Finished, Tree, Own]] = []
+    unseen: list[str] = []
     for name in dict.fromkeys(names):
         recording = finished.opened(name)
         tree = trying.tree_of(recording)
@@ -140,9 +147,10 @@ def opened(names: Sequence[str], program: str | None, process: int | None) -> Of
         if not chosen:
             written = importing_text.comments(found, own, name)
         chosen.append((name, recording, tree, own))
+        unseen += (f"{name}: {text}" for text in importing_text.notes(found))
     own = chosen[0][-1]
     policy = importing.policy(own, PRINTED)
-    return OfProgram(policy, written, [_member(*one, policy) for one in chosen], own.program)
+    return OfProgram(policy, written, [_member(*one, policy) for one in chosen], own.program, tuple(unseen))
 
 
 def _member(name: str, recording: Finished, tree: Tree, own: Own, policy: Policy) -> Member:

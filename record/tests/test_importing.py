@@ -128,11 +128,13 @@ class Written(unittest.TestCase):
     def test_what_the_kernel_refuses_is_dropped_and_told(self) -> None:
         status, out, _ = self.imported(by(
             1, create(["read_file", "read_dir"]), rule("/etc", "read_file", kernel="EBADFD"), rule("/etc", "execute"),
-            rule("/etc/f", "read_dir"), {"op": "restrict", "rs": 3, "kernel": "EPERM"}, RESTRICT))
+            rule("/etc/f", "read_dir"), {"op": "add_port", "rs": 3, "port": 65536},
+            {"op": "restrict", "rs": 3, "kernel": "EPERM"}, RESTRICT))
         self.assertEqual((status, read(out).layers[0].path_beneath), (0, ()))
         for text in ("its rule on /etc (read_file): the kernel refused it with EBADFD",
                      "its rule on /etc (execute): the kernel refuses it with EINVAL, since the ruleset does not handle",
                      "its rule on /etc/f (read_dir): the kernel refuses it with EINVAL, since it is on no directory",
+                     "its rule on 65536 (no right): the kernel refuses it with EINVAL, since it is on no port",
                      "calls that the kernel refused: restrict of -: EPERM (1)"):
             self.assertIn(text, out)
 

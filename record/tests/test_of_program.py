@@ -17,7 +17,7 @@ from landaudit_record.finished import Finished, Part
 from landaudit_record.importing import Following, Own
 from landaudit_record.jsonl import Record
 from landaudit_record.landaudit import BUILT
-from landaudit_record.problems import USAGE, Problem
+from landaudit_record.problems import NOT_ALL_JUDGED, USAGE, Problem
 from landaudit_record.recorder.writing import Limits
 from landaudit_record.rights import NEWEST_ABI, Rights
 from landaudit_record.trees import Tree
@@ -232,6 +232,15 @@ class Answers(InFolder):
         self.assertIn(f"# needed by 1 call\n{rule}", out)
         (layer,) = self.read(out).layers
         self.assertEqual(len(layer.path_beneath), 1)
+
+    def test_what_is_not_known_of_the_policy_is_told(self) -> None:
+        name = self.recording("one", *CALLS)
+        entry = {"line": 90, "pid": 10, "class": "a rule of a kind that is not known", "call": "landlock_add_rule(3, 9, .."}
+        write_lines(Path(name, "unsaid.jsonl"), [entry])
+        for command in ("suggest", "tighten"):
+            status, _, errors = self.said(command, name, "--of-program")
+            self.assertEqual(status, NOT_ALL_JUDGED)
+            self.assertIn(f"note: {name}: NOT ALL IS KNOWN: 1 call of Landlock could not be recorded", errors)
 
     def test_the_second_layer_is_named(self) -> None:
         name = self.recording("one", *CALLS[:-1], create(["write_file"]), rule("/bin", "write_file"), RESTRICT,

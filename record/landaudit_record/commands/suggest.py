@@ -62,13 +62,14 @@ def run(arguments: argparse.Namespace) -> int:
 
         recorded = [_recorded(member) for member in members]
         suggestion = suggest(recorded, policy, arguments.abi, audit, _making(recorded, arguments))
+    note(tried.unseen)
     together.note_missing(members)
     if tried.program is not None:
         print(f"# for the policy that {plain(tried.program)} puts in force by itself (landaudit-policy import)")
     for line in suggestion_text.lines(suggestion, policy):
         print(line)
     done = suggestion.finished and not suggestion.unmended and not suggestion.of_program
-    return together.status(members) if done else 1
+    return tried.status if done else 1
 
 
 def _number(text: str) -> int:

@@ -66,11 +66,12 @@ def run(arguments: argparse.Namespace) -> int:
     if passing := _more(after, before):
         note([f"the printed policy allows {counted(passing, 'call')} of these recordings that the policy refuses: "
               "Landlock refuses a move or link by which an object would gain rights, and such rights are removed"])
+    note(given.unseen)
     together.note_missing(members)
     for line in (_table(whole, done, tightening, arguments.abi) if arguments.list
                  else _toml(replace(done, policy=tight), tightening, given.comments)):
         print(line)
-    return together.status(members)
+    return given.status
 
 
 def _with_unknown(tight: Policy, whole: Policy, unknown: frozenset[str]) -> Policy:
