@@ -235,8 +235,8 @@ class Answers(InFolder):
 
     def test_what_is_not_known_of_the_policy_is_told(self) -> None:
         name = self.recording("one", *CALLS)
-        entry = {"line": 90, "pid": 10, "class": "a rule of a kind that is not known", "call": "landlock_add_rule(3, 9, .."}
-        write_lines(Path(name, "unsaid.jsonl"), [entry])
+        entry = {"line": 90, "pid": 10, "class": "a rule of a kind that is not known"}
+        write_lines(Path(name, "unsaid.jsonl"), [{**entry, "call": "landlock_add_rule(3, 9, .."}])
         for command in ("suggest", "tighten"):
             status, _, errors = self.said(command, name, "--of-program")
             self.assertEqual(status, NOT_ALL_JUDGED)
