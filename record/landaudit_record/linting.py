@@ -17,13 +17,13 @@ from .resolving import DISK, Parent
 from .rights import FILE_RIGHTS, FS, NET, NONE, Rights
 from .trees import ROOT, upwards
 
-FAULT, WARNING, NOTE = "fault", "warning", "note"
+WARNING, NOTE = "warning", "note"
 _BOTH = frozenset({"write_file", "execute"})
 
 
 @dataclass(frozen=True)
-class Finding:
-    """A part of a policy, how grave it is, and what there is to say of it; a note is nothing to mend."""
+class Remark:
+    """A part of a policy, whether it is a warning or a note, and what there is to say of it; a note is nothing to mend."""
 
     where: str
     kind: str
@@ -96,8 +96,8 @@ class Linting:
         rights = parent.rule.allowed_access.rights & handled
         return _On(parent, parent.led.path, is_file, rights & FILE_RIGHTS if is_file else rights)
 
-    def findings(self) -> Iterator[Finding]:
-        """All findings: those on each rule in the order of the policy, then those on all of it."""
+    def remarks(self) -> Iterator[Remark]:
+        """All remarks: those on each rule in the order of the policy, then those on all of it."""
         yield from self._of_parents()
         for number, layer in enumerate(self._layers):
             for index, on in enumerate(layer.rules):
@@ -105,36 +105,36 @@ class Linting:
             yield from self._of_ports(layer.layer, self.policy.layers[:number] + self.policy.layers[number + 1 :])
         yield from self._written_and_run()
 
-    def _of_parents(self) -> Iterator[Finding]:
+    def _of_parents(self) -> Iterator[Remark]:
         """What this machine has at the parents of the policy's own rules."""
         for parent in resolving.parents(self.policy, DISK):
             if parent.rule.group is not None:
                 continue
             led = parent.led
             if led.blocked is not None:
-                yield Finding(parent.place, FAULT, f"{led.blocked} is no directory, so the path leads nowhere")
+                yield Remark(parent.place, WARNING, f"{led.blocked} is no directory, so the path leads nowhere")
             elif led.unknown is not None:
-                yield Finding(parent.place, NOTE, f"what is at {led.unknown} differs from process to process")
+                yield Remark(parent.place, NOTE, f"what is at {led.unknown} differs from process to process")
             elif disk.look(led.path) is None:
-                yield Finding(parent.place, WARNING, "is not on this machine, so there is no rule on it")
+                yield Remark(parent.place, WARNING, "is not on this machine, so there is no rule on it")
             elif led.now:
-                yield Finding(parent.place, NOTE, f"leads by a link to {led.path}, on which the rule is")
+                yield Remark(parent.place, NOTE, f"leads by a link to {led.path}, on which the rule is")
 
-    def _of_rule(self, layer: _Layer, index: int, on: _On) -> Iterator[Finding]:
+    def _of_rule(self, layer: _Layer, index: int, on: _On) -> Iterator[Remark]:
         place = on.parent.place
         named = FS.ordered(on.rule.allowed_access.outright - FILE_RIGHTS) if on.is_file else []
         if named:
-            yield Finding(place, FAULT, f"is no directory, so the kernel refuses the rule for {', '.join(named)}")
+            yield Remark(place, WARNING, f"is no directory, so the kernel refuses the rule for {', '.join(named)}")
         elif not on.rights and on.rule.group is None:
-            yield Finding(place, FAULT, "is no directory, and the rule has no right that a file can have")
+            yield Remark(place, WARNING, "is no directory, and the rule has no right that a file can have")
         if named or not on.rights:
             return
         for text in sensitive.warnings(on.path, on.rights) if on.rule.group not in group_names() else ():
-            yield Finding(place, WARNING, text.removeprefix("warning: "))
+            yield Remark(place, WARNING, text.removeprefix("warning: "))
         if on.rule.group is None:
             yield from self._without_effect(layer, index, on)
 
-    def _without_effect(self, layer: _Layer, index: int, on: _On) -> Iterator[Finding]:
+    def _without_effect(self, layer: _Layer, index: int, on: _On) -> Iterator[Remark]:
         """What a rule grants that other rules of its layer grant too, and what another layer refuses anyway."""
         left, others = on.rights, list[_On]()
         for at, one in enumerate(layer.rules):
@@ -144,15 +144,15 @@ class Linting:
         if not left:
             names = ", ".join(dict.fromkeys(f"{one.rule.place} on {one.parent.written}" for one in others))
             kind = NOTE if on.parent.led.now else WARNING
-            yield Finding(on.parent.place, kind, f"without effect unless it is moved or linked: {names} grants as much")
+            yield Remark(on.parent.place, kind, f"without effect unless it is moved or linked: {names} grants as much")
         for other in self._layers:
             if other is not layer:
                 none = [right for right in FS.ordered(on.rights) if not other.grants_near(on.path, right)]
                 if none:
-                    yield Finding(on.parent.place, WARNING, f"{', '.join(none)} without effect: layer "
+                    yield Remark(on.parent.place, WARNING, f"{', '.join(none)} without effect: layer "
                                   f"{other.layer.number} grants it neither there nor beneath")
 
-    def _of_ports(self, layer: Layer, others: Sequence[Layer]) -> Iterator[Finding]:
+    def _of_ports(self, layer: Layer, others: Sequence[Layer]) -> Iterator[Remark]:
         """Rules on ports that grant nothing new, or what another layer refuses."""
         granted: dict[int, Rights] = {}
         for rule in layer.net_port:
@@ -160,15 +160,15 @@ class Linting:
                 place = f"layer {layer.number}, {rule.place}, port {port}"
                 rights = rule.allowed_access.rights & layer.handled_access_net.rights
                 if rights <= granted.get(port, NONE):
-                    yield Finding(place, WARNING, "without effect: rules before it grant as much")
+                    yield Remark(place, WARNING, "without effect: rules before it grant as much")
                 granted[port] = granted.get(port, NONE) | rights
                 for other in others:
                     none = NET.ordered(rights & other.handled_access_net.rights - _on_port(other.net_port, port))
                     if none:
-                        yield Finding(place, WARNING,
+                        yield Remark(place, WARNING,
                                       f"{', '.join(none)} without effect: layer {other.number} does not grant it there")
 
-    def _written_and_run(self) -> Iterator[Finding]:
+    def _written_and_run(self) -> Iterator[Remark]:
         """Where files may be written and executed: the topmost places."""
         places = {ROOT, *(on.path for layer in self._layers for on in layer.rules)}
         told: set[str] = set()
@@ -177,7 +177,7 @@ class Linting:
             if not told & over and all(_BOTH <= layer.lets_pass(path) for layer in self._layers):
                 told.add(path)
                 where = "everywhere" if path == ROOT else f"at {path} and beneath" if _is_dir(path) else f"at {path}"
-                yield Finding(str(self.policy.path), WARNING, f"files {where} may be both written and executed")
+                yield Remark(str(self.policy.path), WARNING, f"files {where} may be both written and executed")
 
 
 def _is_dir(path: str) -> bool:

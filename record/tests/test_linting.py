@@ -31,16 +31,16 @@ class Linting(unittest.TestCase):
         return f"[[layer.net_port]]\nallowed_access = [{rights}]\nport = {ports}\n"
 
     def lint(self, text: str) -> tuple[int, list[str]]:
-        """The status, and the findings without the folder; the last line counts them."""
+        """The status, and the remarks without the folder; the last line counts them."""
         policy = self.folder / "P.toml"
         policy.write_text(text)
         with redirect_stdout(StringIO()) as out, redirect_stderr(StringIO()):
             status = cli.main(["lint", str(policy)], cli.POLICY)
         *lines, last = out.getvalue().replace(f"{self.folder}/", "").splitlines()
         notes = sum(": note: " in line for line in lines)
-        finding, note = len(lines) - notes, notes
-        self.assertEqual(last, f"P.toml: {finding} finding{'s' * (finding != 1)}, {note} note{'s' * (note != 1)}")
-        self.assertEqual(status, 1 if finding else 0)
+        warnings = len(lines) - notes
+        self.assertEqual(last, f"P.toml: {warnings} warning{'s' * (warnings != 1)}, {notes} note{'s' * (notes != 1)}")
+        self.assertEqual(status, 1 if warnings else 0)
         return status, lines
 
     def found(self, text: str) -> list[str]:
@@ -53,14 +53,14 @@ class Linting(unittest.TestCase):
         self.assertEqual(self.found(LAYER + self.rule('"read"', "no", "link", "d/f/..")), [
             "layer 1, path_beneath 1, parent no: warning: is not on this machine, so there is no rule on it",
             "layer 1, path_beneath 1, parent link: note: leads by a link to d, on which the rule is",
-            "layer 1, path_beneath 1, parent d/f/..: fault: d/f is no directory, so the path leads nowhere",
+            "layer 1, path_beneath 1, parent d/f/..: warning: d/f is no directory, so the path leads nowhere",
         ])
 
     def test_links_alone_are_notes(self) -> None:
         self.assertEqual(self.lint(LAYER + self.rule('"read"', "link"))[0], 0)
 
     def test_rights_for_directories_on_a_file(self) -> None:
-        place = "layer 1, path_beneath 1, parent d/f: fault: is no directory, "
+        place = "layer 1, path_beneath 1, parent d/f: warning: is no directory, "
         for rights, said in (('"read_file", "read_dir"', "so the kernel refuses the rule for read_dir"),
                              ('"read_dir", "make_reg"', "so the kernel refuses the rule for read_dir, make_reg")):
             self.assertEqual(self.found(LAYER + self.rule(rights, "d/f")), [place + said])

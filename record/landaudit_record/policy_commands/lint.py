@@ -13,10 +13,10 @@ NAME = "lint"
 HELP = "find rules without effect, rules that reach secrets, and parents that are missing"
 EXAMPLE = "landaudit-policy lint policy.toml"
 ABOUT = """
-What is found: rules that the kernel refuses on this machine (rights for
+It finds rules that the kernel refuses on this machine (rights for
 directories on a file), rules without effect, parents that are missing or lead
 elsewhere by links, rules that reach secrets, and where files may be both
-written and executed. The status is 1 if there is more than notes."""
+written and executed. The status is 1 if there is a warning."""
 
 
 def add_arguments(parser: argparse.ArgumentParser) -> None:
@@ -27,13 +27,13 @@ def add_arguments(parser: argparse.ArgumentParser) -> None:
 
 
 def run(arguments: argparse.Namespace) -> int:
-    """Prints a line for each finding; the status is 1 if one is more than a note."""
+    """Prints a line for each remark; the status is 1 if one is a warning."""
     given = variables.given(arguments)
     policy = policies.read(arguments.policy, given)
     given.check_used()
-    found = list(dict.fromkeys(Linting(policy).findings()))
-    for finding in found:
-        print(plain(str(finding)))
-    grave = sum(finding.kind != NOTE for finding in found)
-    print(plain(f"{arguments.policy}: {counted(grave, 'finding')}, {counted(len(found) - grave, 'note')}"))
-    return 1 if grave else 0
+    remarks = list(dict.fromkeys(Linting(policy).remarks()))
+    for remark in remarks:
+        print(plain(str(remark)))
+    warnings = sum(remark.kind != NOTE for remark in remarks)
+    print(plain(f"{arguments.policy}: {counted(warnings, 'warning')}, {counted(len(remarks) - warnings, 'note')}"))
+    return 1 if warnings else 0
