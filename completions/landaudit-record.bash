@@ -10,7 +10,7 @@ _landaudit_record_words() {
         compare) echo '-h --help --abi --json --differences --landaudit' ;;
         tighten) echo '-h --help --policy --of-program --process --list --set --program --abi --as-recorded --landaudit' ;;
         suggest) echo '-h --help --policy --of-program --process --rules --style --set --program --abi --as-recorded --landaudit' ;;
-        denials) echo '-h --help --policy --program --all --suggest --json --html' ;;
+        denials) echo '-h --help --policy --set --program --all --suggest --json --html' ;;
         *) echo 'run convert apply audit compare suggest tighten denials -h --help -V --version' ;;
     esac
 }

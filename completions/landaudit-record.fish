@@ -38,7 +38,7 @@ complete -c landaudit-record -n '__landaudit_record_has run audit suggest tighte
 complete -c landaudit-record -n '__landaudit_record_has apply audit suggest tighten' -l program -x -a '(__fish_complete_command)' -d 'Put the policy before each run of this program'
 complete -c landaudit-record -n '__landaudit_record_has run apply compare suggest tighten' -l abi -x -a '1 2 3 4 5' -d 'Version of the interface of Landlock'
 complete -c landaudit-record -n '__landaudit_record_has audit' -l abi -x -a '1 2 3 4 5 1-2 1-3 1-4 1-5 2-3 2-4 2-5 3-4 3-5 4-5' -d 'Version of the interface of Landlock, or a range'
-complete -c landaudit-record -n '__landaudit_record_has run convert apply audit suggest tighten' -l set -x -d 'Value of a variable, as NAME=VALUE'
+complete -c landaudit-record -n '__landaudit_record_has run convert apply audit suggest tighten denials' -l set -x -d 'Value of a variable, as NAME=VALUE'
 complete -c landaudit-record -n '__landaudit_record_has audit suggest tighten' -l as-recorded -d 'Judge the rulesets of the program as they were recorded'
 complete -c landaudit-record -n '__landaudit_record_has audit compare denials' -l json -d 'Print the result as JSON'
 complete -c landaudit-record -n '__landaudit_record_has audit compare suggest tighten' -l landaudit -r -F -d 'landaudit itself'

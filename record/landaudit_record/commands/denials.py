@@ -9,7 +9,7 @@ from collections.abc import Iterator, Sequence
 from pathlib import Path
 from typing import Any
 
-from .. import RECORDER, layout, policies
+from .. import RECORDER, layout, policies, variables
 from ..kernel_log import counting, data, denials, granting, matching, records, text
 from ..kernel_log.counting import Counted
 from ..kernel_log.granting import Granted
@@ -43,6 +43,7 @@ def add_arguments(parser: argparse.ArgumentParser) -> None:
         type=Path,
         help="the policy that was in force: say which of its layers and rules each denial is about",
     )
+    variables.add_set(parser)
     parser.add_argument(
         "--program",
         metavar="NAME",
@@ -66,7 +67,9 @@ def run(arguments: argparse.Namespace) -> int:
 
     With `--suggest` it is 1 only if a refused call has no rule.
     """
-    policy = None if arguments.policy is None else policies.read(arguments.policy)
+    given = variables.given(arguments)
+    policy = None if arguments.policy is None else policies.read(arguments.policy, given)
+    given.check_used()
     log = denials.read(_opened(arguments.logs))
     if arguments.program is not None:
         log = denials.of_program(log, arguments.program)
