@@ -23,7 +23,7 @@ _BOTH = frozenset({"write_file", "execute"})
 
 @dataclass(frozen=True)
 class Remark:
-    """A part of a policy, whether it is a warning or a note, and what there is to say of it; a note is nothing to mend."""
+    """A part of a policy, and what there is to say of it: a warning, or a note, which is nothing to mend."""
 
     where: str
     kind: str

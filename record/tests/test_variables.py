@@ -90,8 +90,8 @@ class Faults(InFolder):
     def test_each_names_its_place(self) -> None:
         for text, said in (
             (LAYER + RULE + '["/a", "${AP}"]\n',
-             "layer 1, path_beneath 1, parent: unknown variable ${AP}: give it a value by --set AP=VALUE, by LANDAUDIT_AP "
-             "in the environment, or under [variables] (at line 6, column 17)"),
+             "layer 1, path_beneath 1, parent: unknown variable ${AP}: give it a value by --set AP=VALUE, by "
+             "LANDAUDIT_AP in the environment, or under [variables] (at line 6, column 17)"),
             (APP + LAYER + RULE + '"${AP}"\n', "did you mean ${APP}? give it"),
             (LAYER + RULE + '"${A-B}"\n', "'${A-B}' is no variable: write ${NAME}, or $${ for the characters ${"),
             (LAYER + RULE + '"/a/${A"\n', "'${A' is no variable"),
