@@ -1,0 +1,3 @@
+pub mod Runs
+pub mod OneLayer
+pub mod AllLayers

@@ -1,0 +1,101 @@
+//! The calls that put a policy in force.
+
+ghost use Rattle.std.specs.Prelude.{◌≡◌, ◌++◌, IfOk, OnOk, map};
+ghost use Rattle.ll_fitting.specs.Shown.{shown};
+ghost use Rattle.ll_enforcing.specs.Calls.{calls_of, calls_of_layer, of_path_rules, of_port_rules};
+
+use ll_fitting::{FittedLayer, FittedPathRule, FittedPortRule};
+use ll_rights::{Fs, Net};
+use std::alloc::{AllocError, Global};
+
+/// A call by which a process restricts itself. A call on a ruleset names the layer that this becomes, by its index in
+/// the policy.
+#[derive(Clone, Copy, Debug, PartialEq, Eq)]
+pub enum Call {
+    /// prctl(2), PR_SET_NO_NEW_PRIVS.
+    NoNewPrivs,
+    /// landlock_create_ruleset(2).
+    CreateRuleset {
+        layer: usize,
+        files: Fs,
+        network: Net,
+    },
+    /// landlock_add_rule(2) under a path.
+    AddPath {
+        layer: usize,
+        rule: FittedPathRule,
+    },
+    /// landlock_add_rule(2) on a port.
+    AddPort {
+        layer: usize,
+        rule: FittedPortRule,
+    },
+    /// landlock_restrict_self(2).
+    RestrictSelf {
+        layer: usize,
+    },
+    /// close(2) of the ruleset.
+    CloseRuleset {
+        layer: usize,
+    },
+}
+
+/// Adds a call for each rule for files of a layer.
+fn add_path_rules(calls: &mut Vec<Call>, left: &FittedLayer) -> Result<(), AllocError>
+    ensures { OnOk result
+        (calls.new.items ≡ calls.old.items ++ of_path_rules (shown left.now)) }
+{
+    for rule in &left.path_rules {
+        calls.push(Call::AddPath {
+            layer: left.layer,
+            rule: *rule,
+        })?;
+    }
+    Ok(())
+}
+
+/// Adds a call for each rule for ports of a layer.
+fn add_port_rules(calls: &mut Vec<Call>, left: &FittedLayer) -> Result<(), AllocError>
+    ensures { OnOk result
+        (calls.new.items ≡ calls.old.items ++ of_port_rules (shown left.now)) }
+{
+    for rule in &left.port_rules {
+        calls.push(Call::AddPort {
+            layer: left.layer,
+            rule: *rule,
+        })?;
+    }
+    Ok(())
+}
+
+/// Adds the calls for a layer.
+#[tactic(auto, unfolding(crate::specs::Calls::calls_of_layer))]
+fn add_layer(calls: &mut Vec<Call>, left: &FittedLayer) -> Result<(), AllocError>
+    ensures { OnOk result
+        (calls.new.items ≡ calls.old.items ++ calls_of_layer (shown left.now)) }
+{
+    let layer = left.layer;
+    calls.push(Call::CreateRuleset {
+        layer,
+        files: left.files,
+        network: left.network,
+    })?;
+    add_path_rules(calls, left)?;
+    add_port_rules(calls, left)?;
+    calls.push(Call::RestrictSelf { layer })?;
+    calls.push(Call::CloseRuleset { layer })?;
+    Ok(())
+}
+
+/// The calls that put layers in force, the oldest layer first.
+#[tactic(auto, unfolding(crate::specs::Calls::calls_of))]
+pub fn calls_of(alloc: Global, layers: &[FittedLayer]) -> Result<Vec<Call>, AllocError>
+    ensures { IfOk result (λ calls. calls.items ≡ calls_of (map shown layers.now)) }
+{
+    let mut calls = Vec::new(alloc);
+    calls.push(Call::NoNewPrivs)?;
+    for left in layers {
+        add_layer(&mut calls, left)?;
+    }
+    Ok(calls)
+}

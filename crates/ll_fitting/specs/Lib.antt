@@ -1,0 +1,4 @@
+pub mod Written
+pub mod Fitting
+pub mod Shown
+pub mod Taken

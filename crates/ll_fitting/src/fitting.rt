@@ -1,0 +1,126 @@
+//! What a version of the interface leaves of layers.
+
+ghost use Rattle.std.specs.Prelude.{◌≡◌, IfOk, map};
+ghost use Rattle.ll_fitting.specs.Written.{written};
+ghost use Rattle.ll_fitting.specs.Fitting.{fitted, fitted_layer, fitted_path_rules, fitted_port_rules, handled_files, handled_network};
+ghost use Rattle.ll_fitting.specs.Shown.{shown};
+
+use crate::rights::{listed, listed_on_ports, rights_on, rights_on_port};
+use crate::written::{Layer, Parent};
+use ll_rights::{Abi, Fs, Net};
+use std::alloc::{AllocError, Global};
+
+/// A rule with the rights that are asked for on its parent. The rule is named by its index in its layer.
+#[derive(Clone, Copy, Debug, PartialEq, Eq)]
+pub struct FittedPathRule {
+    pub rule: usize,
+    pub parent: Parent,
+    pub rights: Fs,
+}
+
+/// A rule with the rights that are asked for on its port.
+#[derive(Clone, Copy, Debug, PartialEq, Eq)]
+pub struct FittedPortRule {
+    pub rule: usize,
+    pub port: u64,
+    pub rights: Net,
+}
+
+/// A layer with only rights that the version knows, and rules that grant some of these. It is named by its index in
+/// the policy.
+#[derive(Drop)]
+pub struct FittedLayer {
+    pub layer: usize,
+    pub files: Fs,
+    pub network: Net,
+    pub path_rules: Vec<FittedPathRule>,
+    pub port_rules: Vec<FittedPortRule>,
+}
+
+/// The rights for files that a layer handles at a version.
+#[tactic(auto, unfolding(crate::specs::Fitting::handled_files))]
+fn handled_files(layer: &Layer, abi: Abi) -> Fs
+    ensures { result ≡ handled_files abi (written layer.now) }
+{
+    listed(layer.handled_files).supported(abi)
+}
+
+/// The rights for the network that a layer handles at a version.
+#[tactic(auto, unfolding(crate::specs::Fitting::handled_network))]
+fn handled_network(layer: &Layer, abi: Abi) -> Net
+    ensures { result ≡ handled_network abi (written layer.now) }
+{
+    listed_on_ports(layer.handled_network).supported(abi)
+}
+
+/// The rules for files of a layer that are left at a version.
+#[tactic(auto, unfolding(crate::specs::Fitting::fitted_path_rules, crate::specs::Fitting::fitted_path_rule))]
+fn fit_path_rules(alloc: Global, layer: &Layer, abi: Abi) -> Result<Vec<FittedPathRule>, AllocError>
+    ensures { IfOk result (λ left. left.items ≡ fitted_path_rules abi (written layer.now)) }
+{
+    let mut left = Vec::new(alloc);
+    for (index, rule) in layer.path_rules.iter().enumerate() {
+        let rights = rights_on(layer, abi, *rule);
+        if !rights.is_empty() {
+            left.push(FittedPathRule {
+                rule: index,
+                parent: rule.parent,
+                rights,
+            })?;
+        }
+    }
+    Ok(left)
+}
+
+/// The rules for ports of a layer that are left at a version.
+#[tactic(auto, unfolding(crate::specs::Fitting::fitted_port_rules, crate::specs::Fitting::fitted_port_rule))]
+fn fit_port_rules(alloc: Global, layer: &Layer, abi: Abi) -> Result<Vec<FittedPortRule>, AllocError>
+    ensures { IfOk result (λ left. left.items ≡ fitted_port_rules abi (written layer.now)) }
+{
+    let mut left = Vec::new(alloc);
+    for (index, rule) in layer.port_rules.iter().enumerate() {
+        let rights = rights_on_port(layer, abi, *rule);
+        if !rights.is_empty() {
+            left.push(FittedPortRule {
+                rule: index,
+                port: rule.port,
+                rights,
+            })?;
+        }
+    }
+    Ok(left)
+}
+
+/// A layer as it is at a version, where it has an index in its policy.
+fn fit_layer(
+    alloc: Global,
+    index: usize,
+    layer: &Layer,
+    abi: Abi,
+) -> Result<FittedLayer, AllocError>
+    ensures { IfOk result (λ left. shown left ≡ fitted_layer abi index (written layer.now)) }
+{
+    Ok(FittedLayer {
+        layer: index,
+        files: handled_files(layer, abi),
+        network: handled_network(layer, abi),
+        path_rules: fit_path_rules(alloc, layer, abi)?,
+        port_rules: fit_port_rules(alloc, layer, abi)?,
+    })
+}
+
+/// What a version leaves of layers, the oldest first: those that still handle a right.
+#[tactic(auto, unfolding(crate::specs::Fitting::fitted, crate::specs::Fitting::fitted_if_any))]
+pub fn fit_layers(alloc: Global, layers: &[Layer], abi: Abi) -> Result<Vec<FittedLayer>, AllocError>
+    ensures { IfOk result (λ left. map shown left.items ≡ fitted abi (map written layers.now)) }
+{
+    let mut left = Vec::new(alloc);
+    for (index, layer) in layers.iter().enumerate() {
+        let files = handled_files(layer, abi);
+        let network = handled_network(layer, abi);
+        if !files.is_empty() || !network.is_empty() {
+            left.push(fit_layer(alloc, index, layer, abi)?)?;
+        }
+    }
+    Ok(left)
+}
