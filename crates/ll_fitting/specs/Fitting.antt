@@ -1,6 +1,6 @@
 -- What a version of the interface leaves of a policy: the rights that it knows, the rules that still grant something, and the layers that still handle something.
 -- Source: the kernel's userspace document on Landlock, "Defining and enforcing a security policy", which advises "a best-effort security approach"; landlock_add_rule(2), "ERRORS".
-use Rattle.std.specs.Prelude.{ℕ, Bool, true, false, not, ◌&&◌, ◌||◌, List, [], ◌∷◌, if◌then◌else◌}
+use Rattle.std.specs.Prelude.{ℕ, Bool, not, ◌&&◌, List, [], ◌∷◌, if◌then◌else◌}
 use Rattle.std.specs.List.{flat_map, enumerate_from}
 use Rattle.ll_rights.specs.declared.abi.Abi.{Abi}
 use Rattle.ll_rights.specs.declared.fs.Fs.{Fs}

@@ -2,3 +2,5 @@ pub mod Written
 pub mod Fitting
 pub mod Shown
 pub mod Taken
+pub mod Misfits
+pub mod ByRight

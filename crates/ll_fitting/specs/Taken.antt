@@ -1,12 +1,15 @@
 -- The rules that the kernel takes, and the layers that a version makes of a policy.
 -- Source: landlock_add_rule(2), "ERRORS"; landlock(7), "Filesystem actions".
-use Rattle.std.specs.Prelude.{ℕ, Bool, false, not, ◌&&◌, List, [], ◌∷◌, map, Option, Some, None, option_map, find, reverse, if◌then◌else◌}
+use Rattle.std.specs.Prelude.{◌≡◌, ℕ, nat_lt, Bool, true, false, not, ◌&&◌, List, [], ◌∷◌, map, Option, Some, None, option_map, find, reverse, All, if◌then◌else◌}
 use Rattle.std.specs.List.{flat_map}
 use Rattle.ll_rights.specs.declared.abi.Abi.{Abi}
 use Rattle.ll_rights.specs.declared.fs.Fs.{Fs}
+use Rattle.ll_rights.specs.declared.net.TheConstants.{LARGEST_PORT}
+use Rattle.ll_rights.specs.Rights as files
+use Rattle.ll_rights.specs.NetRights as network
 use Rattle.ll_tree.specs.Trees.{is_dir}
 use Rattle.ll_rules.specs.Layers.{RulesOn}
-use Rattle.ll_rules.specs.Rulesets.{are_file_rights}
+use Rattle.ll_rules.specs.Rulesets.{are_file_rights, create_fault, has_ports}
 use Rattle.ll_fitting.specs.declared.written.Parent.{Parent}
 use Rattle.ll_fitting.specs.declared.written.Parent.TheVariants.{There, Missing}
 use Rattle.ll_fitting.specs.declared.fitting.FittedPathRule.{FittedPathRule}
@@ -55,3 +58,12 @@ or_else (Some first) later = Some first
 unfoldable pub first_refused : List Fitted → Option RefusedRule
 first_refused [] = None
 first_refused (left ∷ others) = or_else (refused_in left) (first_refused others)
+
+-- ---- what the kernel takes
+
+-- The kernel creates a ruleset of what is left of a layer, and the ruleset handles all rights of each rule that is left, which
+-- are some; a rule for a port is left only at a version that has rules for ports, and its number is a TCP port.
+pub record IsValid (abi : Abi) (left : Fitted) : Type 0 where
+  pub created : create_fault abi left.files left.network ≡ None
+  pub paths : All (λ rule. (files.is_empty rule.rights ≡ false) × (files.is_within rule.rights left.files ≡ true)) left.path_rules
+  pub ports : All (λ rule. (has_ports abi ≡ true) × (network.is_empty rule.rights ≡ false) × (network.is_within rule.rights left.network ≡ true) × (nat_lt LARGEST_PORT rule.port ≡ false)) left.port_rules

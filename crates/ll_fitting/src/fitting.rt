@@ -111,7 +111,11 @@ fn fit_layer(
 
 /// What a version leaves of layers, the oldest first: those that still handle a right.
 #[tactic(auto, unfolding(crate::specs::Fitting::fitted, crate::specs::Fitting::fitted_if_any))]
-pub fn fit_layers(alloc: Global, layers: &[Layer], abi: Abi) -> Result<Vec<FittedLayer>, AllocError>
+pub(crate) fn fit_layers(
+    alloc: Global,
+    layers: &[Layer],
+    abi: Abi,
+) -> Result<Vec<FittedLayer>, AllocError>
     ensures { IfOk result (λ left. map shown left.items ≡ fitted abi (map written layers.now)) }
 {
     let mut left = Vec::new(alloc);

@@ -2,11 +2,15 @@
 #![tactic(auto)]
 
 mod fitting;
+mod laws;
+mod policy;
 mod refusing;
 mod rights;
 mod written;
 
-pub use fitting::{FittedLayer, FittedPathRule, FittedPortRule, fit_layers};
+pub use fitting::{FittedLayer, FittedPathRule, FittedPortRule};
+pub use laws::{rules_ask_right_by_right, what_is_left_is_valid};
+pub use policy::{MOST_LAYERS, Misfit, Policy, RuleMisfit};
 pub use refusing::{RefusedRule, first_refused, is_refused};
 pub use rights::{rights_on, rights_on_port};
 pub use written::{FileAccess, Layer, Parent, PathRule, PortAccess, PortRule, Scopes};

@@ -13,14 +13,14 @@ use bitflags::Flags;
 use ll_rights::{Abi, Fs, Kind, Net};
 
 /// The rights that both of two sets have.
-fn common(a: Fs, b: Fs) -> Fs
+pub(crate) fn common(a: Fs, b: Fs) -> Fs
     ensures { result ≡ common a b }
 {
     Fs::from_bits_retain(a.bits() & b.bits())
 }
 
 /// The rights for the network that both of two sets have.
-fn common_on_ports(a: Net, b: Net) -> Net
+pub(crate) fn common_on_ports(a: Net, b: Net) -> Net
     ensures { result ≡ common_on_ports a b }
 {
     Net::from_bits_retain(a.bits() & b.bits())

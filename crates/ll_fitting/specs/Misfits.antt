@@ -1,0 +1,69 @@
+-- What is wrong with the layers of a policy, so that the kernel could not make of them what they say.
+-- Source: landlock_create_ruleset(2), landlock_add_rule(2), landlock_restrict_self(2), "ERRORS"; docs/FORMATS.md, "The policy file".
+use Rattle.std.specs.Prelude.{ℕ, Bool, not, ◌&&◌, ◌||◌, nat_lt, List, [], ◌∷◌, length, ◌==◌, Option, Some, None, option_map, if◌then◌else◌}
+use Rattle.std.specs.List.{enumerate_from}
+use Rattle.std.specs.Option.{option_or}
+use Rattle.ll_rights.specs.declared.net.TheConstants.{LARGEST_PORT}
+use Rattle.ll_rights.specs.Rights as files
+use Rattle.ll_rights.specs.NetRights as network
+use Rattle.ll_fitting.specs.declared.written.PathRule.{PathRule}
+use Rattle.ll_fitting.specs.declared.written.PortRule.{PortRule}
+use Rattle.ll_fitting.specs.declared.written.Scopes.{Scopes}
+use Rattle.ll_fitting.specs.declared.policy.TheConstants.{MOST_LAYERS}
+use Rattle.ll_fitting.specs.declared.policy.RuleMisfit.{RuleMisfit}
+use Rattle.ll_fitting.specs.declared.policy.RuleMisfit.TheVariants.{NotHandled, GrantsNothing, NoPort}
+use Rattle.ll_fitting.specs.declared.policy.Misfit.{Misfit}
+use Rattle.ll_fitting.specs.declared.policy.Misfit.TheVariants as wrong
+use Rattle.ll_fitting.specs.Written.{Layer, listed, listed_on_ports, common, common_on_ports}
+
+-- the first of some values of which something is told, and what is told of it
+unfoldable pub first_of : {X M : Type 0} → (X → Option M) → List X → Option M
+first_of tell [] = None
+first_of tell (x ∷ xs) = option_or (tell x) (first_of tell xs)
+
+-- all rights that a layer handles have a name
+abbrev pub knows_all : Layer → Bool
+knows_all layer = not (files.has (listed layer.handled_files) files.other) && not (network.has (listed_on_ports layer.handled_network) network.other)
+
+abbrev pub has_scope : Scopes → Bool
+has_scope scopes = scopes.abstract_unix_socket || scopes.signal
+
+abbrev pub handles_nothing : Layer → Bool
+handles_nothing layer = files.is_empty (listed layer.handled_files) && network.is_empty (listed_on_ports layer.handled_network) && not (has_scope layer.scopes)
+
+-- a rule names only what its layer handles, and grants something of it
+unfoldable pub path_rule_misfit : Layer → PathRule → Option RuleMisfit
+path_rule_misfit layer rule =
+    if not (files.is_within rule.allowed.named (listed layer.handled_files)) then Some NotHandled
+    else (if files.is_empty (common (listed rule.allowed) (listed layer.handled_files)) then Some GrantsNothing else None)
+
+unfoldable pub port_rule_misfit : Layer → PortRule → Option RuleMisfit
+port_rule_misfit layer rule =
+    if not (network.is_within rule.allowed.named (listed_on_ports layer.handled_network)) then Some NotHandled
+    else (if network.is_empty (common_on_ports (listed_on_ports rule.allowed) (listed_on_ports layer.handled_network)) then Some GrantsNothing
+    else (if nat_lt LARGEST_PORT rule.port then Some NoPort else None))
+
+abbrev pub misfit_on_paths : ℕ → Layer → Option Misfit
+misfit_on_paths index layer =
+    first_of (λ numbered. option_map (λ misfit. wrong.PathRule index numbered.0 misfit) (path_rule_misfit layer numbered.1)) (enumerate_from 0 layer.path_rules)
+
+abbrev pub misfit_on_ports : ℕ → Layer → Option Misfit
+misfit_on_ports index layer =
+    first_of (λ numbered. option_map (λ misfit. wrong.PortRule index numbered.0 misfit) (port_rule_misfit layer numbered.1)) (enumerate_from 0 layer.port_rules)
+
+-- what is wrong with a layer: its rules come last, those for files first
+unfoldable pub layer_misfit : ℕ × Layer → Option Misfit
+layer_misfit numbered =
+    if not (knows_all numbered.1) then Some (wrong.UnknownRight numbered.0)
+    else (if handles_nothing numbered.1 then Some (wrong.HandlesNothing numbered.0)
+    else option_or (misfit_on_paths numbered.0 numbered.1) (misfit_on_ports numbered.0 numbered.1))
+
+abbrev pub misfit_in : List Layer → Option Misfit
+misfit_in layers = first_of layer_misfit (enumerate_from 0 layers)
+
+-- what is wrong with a policy: it has 1 to 16 layers, and none of them is wrong
+unfoldable pub misfit : List Layer → Option Misfit
+misfit layers =
+    if length layers == 0 then Some wrong.NoLayer
+    else (if nat_lt MOST_LAYERS (length layers) then Some wrong.TooManyLayers
+    else misfit_in layers)
