@@ -1,3 +1,5 @@
 pub mod Runs
 pub mod OneLayer
 pub mod AllLayers
+pub mod InForce
+pub mod Refusing

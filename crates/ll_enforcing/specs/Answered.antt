@@ -1,6 +1,6 @@
 -- What the calls that put a policy in force are answered, and what they make of a process.
 -- Source: landlock_add_rule(2), landlock_restrict_self(2), "ERRORS"; the kernel's userspace document on Landlock, "Ruleset layers".
-use Rattle.std.specs.Prelude.{◌≡◌, ◌≢◌, ℕ, ◌+◌, ◌<◌, ◌≤◌, true, List, [], ◌++◌, map, length, All, Option, None, if◌then◌else◌}
+use Rattle.std.specs.Prelude.{◌≡◌, ◌≢◌, ℕ, ◌+◌, ◌<◌, ◌≤◌, Bool, true, false, List, [], ◌++◌, map, length, All, Option, None, if◌then◌else◌}
 use Rattle.ll_rights.specs.declared.abi.Abi.{Abi}
 use Rattle.ll_rights.specs.declared.fs.Fs.{Fs}
 use Rattle.ll_tree.specs.declared.place.Place.{Place}
@@ -13,8 +13,8 @@ use Rattle.ll_rules.specs.InTree.{node, all_in_tree}
 use Rattle.ll_trace.specs.declared.op.Op.{Op}
 use Rattle.ll_trace.specs.declared.op.Record.{Record}
 use Rattle.ll_semantics.specs.declared.answer.Answer.{Answer}
-use Rattle.ll_semantics.specs.declared.answer.Answer.TheVariants.{Allowed, Moot}
-use Rattle.ll_semantics.specs.States.{State}
+use Rattle.ll_semantics.specs.declared.answer.Answer.TheVariants.{Allowed, Moot, Refused}
+use Rattle.ll_semantics.specs.States.{State, Layer}
 use Rattle.ll_semantics.specs.Answers.{fails}
 use Rattle.ll_semantics.specs.Worlds.{World, judged_from}
 use Rattle.ll_semantics.specs.CallContexts.{world_after}
@@ -35,6 +35,11 @@ answer_on Missing rights = Moot
 unfoldable pub answer_of : Call → Answer
 answer_of (calls.AddPath layer rule) = answer_on rule.parent rule.rights
 answer_of call = Allowed
+
+abbrev pub is_refusal : Answer → Bool
+is_refusal Allowed = false
+is_refusal Moot = false
+is_refusal (Refused error numbers) = true
 
 -- ---- where the calls are made
 
@@ -69,7 +74,7 @@ abbrev pub operations_of : List Entry → List ℕ → ℕ → List Fitted → L
 operations_of tree missing rs layers = map (operation_of tree missing rs) (calls_of layers)
 
 -- A process has layers on top of those that it had, and can't gain privileges. Nothing else of it has changed.
-pub record HasGained (layers : List (Rattle.ll_semantics.specs.States.Layer)) (before after : State) : Type 0 where
+pub record HasGained (layers : List Layer) (before after : State) : Type 0 where
   pub domain : after.domain ≡ before.domain ++ layers
   pub no_new_privs : after.no_new_privs ≡ true
   pub admin : after.admin ≡ before.admin

@@ -1,11 +1,15 @@
 //! The calls that put a policy in force.
 
-ghost use Rattle.std.specs.Prelude.{◌≡◌, ◌++◌, IfOk, OnOk, map};
+ghost use Rattle.std.specs.Prelude.{◌≡◌, ℕ, List, ◌++◌, IfOk, OnOk, map};
+ghost use Rattle.ll_tree.specs.Trees.{Entry};
+ghost use Rattle.ll_semantics.specs.Worlds.{World};
+ghost use Rattle.ll_fitting.specs.Fitting.{fitted};
+ghost use Rattle.ll_enforcing.specs.Answered.{MayEnforce, IsEnforced};
 ghost use Rattle.ll_fitting.specs.Shown.{shown};
 ghost use Rattle.ll_enforcing.specs.Calls.{calls_of, calls_of_layer, of_path_rules, of_port_rules};
 
-use ll_fitting::{FittedLayer, FittedPathRule, FittedPortRule};
-use ll_rights::{Fs, Net};
+use ll_fitting::{FittedLayer, FittedPathRule, FittedPortRule, Policy};
+use ll_rights::{Abi, Fs, Net};
 use std::alloc::{AllocError, Global};
 
 /// A call by which a process restricts itself. A call on a ruleset names the layer that this becomes, by its index in
@@ -98,4 +102,17 @@ pub fn calls_of(alloc: Global, layers: &[FittedLayer]) -> Result<Vec<Call>, Allo
         add_layer(&mut calls, left)?;
     }
     Ok(calls)
+}
+
+/// The calls that put a policy in force at a version of the interface. If the process that makes them has room for the
+/// layers, each call is answered as `answer_of` says, and then the process has the layers that the version leaves of
+/// the policy, rule for rule, on top of its own.
+pub fn enforce(alloc: Global, policy: &Policy, abi: Abi) -> Result<Vec<Call>, AllocError>
+    ensures calls { IfOk result (λ calls. calls.items ≡ calls_of (fitted abi policy.now)) }
+    ensures in_force { (tree : List Entry) (missing : List ℕ) (rs process : ℕ) (world : World)
+        → MayEnforce tree missing rs process (fitted abi policy.now) world
+        → IsEnforced tree missing rs abi process (fitted abi policy.now) world }
+{
+    let layers = policy.fit(alloc, abi)?;
+    calls_of(alloc, &layers)
 }

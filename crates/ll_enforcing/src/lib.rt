@@ -2,5 +2,7 @@
 #![tactic(auto)]
 
 mod calls;
+mod laws;
 
-pub use calls::{Call, calls_of};
+pub use calls::{Call, calls_of, enforce};
+pub use laws::the_first_refused_rule_is_named;
