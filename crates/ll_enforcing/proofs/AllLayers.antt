@@ -1,5 +1,5 @@
 -- What the calls for all layers do.
-use Rattle.std.proofs.Common.{◌≡◌, ◌≢◌, ℕ, ◌+◌, ◌<◌, ◌≤◌, Bool, true, false, eqb, List, [], ◌∷◌, ◌++◌, map, reverse, length, Option, Some, None, refl, sym, ap, ◌∙◌, arith, cond, nat_le, nat_eq, All, subst, inl, inr}
+use Rattle.std.proofs.Common.{◌≡◌, ℕ, ◌+◌, ◌<◌, ◌≤◌, true, false, List, [], ◌∷◌, ◌++◌, map, reverse, length, Option, Some, None, refl, sym, ap, ◌∙◌, arith, nat_le, nat_eq, All, subst, inl, inr}
 use Rattle.std.specs.Map.{update}
 use Rattle.std.specs.List.{flat_map}
 use Rattle.std.proofs.lemmas.List.{append_assoc, append-nil, length-append, map-append, reverse-append}
@@ -13,7 +13,7 @@ use Rattle.ll_tree.specs.Trees.{Entry, path_at, place}
 use Rattle.ll_tree.specs.TreeFacts.{IsTree}
 use Rattle.ll_rules.specs.declared.domain.TheConstants.{MOST_LAYERS}
 use Rattle.ll_rules.specs.InTree.{node, rule_on_path, in_tree, all_in_tree}
-use Rattle.ll_rules.specs.Layers.{RulesOn, without_rules, with_file_rule, with_port_rule}
+use Rattle.ll_rules.specs.Layers.{without_rules, with_file_rule, with_port_rule}
 use Rattle.ll_trace.specs.declared.op.Op.{Op}
 use Rattle.ll_trace.specs.declared.op.Op.TheVariants.{Nnp, Create, Restrict, CloseRs}
 use Rattle.ll_trace.specs.Processes.{is_starting}
@@ -24,14 +24,13 @@ use Rattle.ll_semantics.specs.Answers.{answer}
 use Rattle.ll_semantics.specs.Effects.{effect, with_held, with_layer}
 use Rattle.ll_semantics.specs.CallContexts.{change, rules, state_by, rulesets_by}
 use Rattle.ll_semantics.specs.Worlds.{World}
-use Rattle.ll_fitting.specs.declared.fitting.FittedPathRule.{FittedPathRule}
 use Rattle.ll_fitting.specs.declared.fitting.FittedPortRule.{FittedPortRule}
 use Rattle.ll_fitting.specs.Fitting.{Fitted}
 use Rattle.ll_fitting.specs.Taken.{granted_by, rules_of}
 use Rattle.ll_enforcing.specs.declared.calls.Call.{Call}
 use Rattle.ll_enforcing.specs.declared.calls.Call.TheVariants as calls
 use Rattle.ll_enforcing.specs.Calls.{calls_of_layer, calls_of, operation_of, of_path_rules, of_port_rules}
-use Rattle.ll_enforcing.specs.Answered.{answer_of, answer_on, IsNoObject, HasGained, MayEnforce, IsEnforced, records_of, operations_of}
+use Rattle.ll_enforcing.specs.Answered.{answer_of, answer_on, IsNoObject, HasGained, MayEnforce, IsEnforced}
 use Rattle.ll_enforcing.proofs.Runs.{Leads, leads_none, leads_on, leads_allowed, answers_on, state_on, NoneStarts, judged_on, state_then_on, others_kept}
 use Rattle.ll_enforcing.proofs.OneLayer.{with_granted, with_ports, IsSound, IsAskedOfPort, network_same, leads_create, leads_paths, leads_ports, leads_restrict, leads_close, path_operation, port_operation}
 

@@ -1,6 +1,5 @@
 -- A policy's calls put it in force.
 use Rattle.std.proofs.Common.{◌≡◌, ℕ, List, None, All}
-use Rattle.std.proofs.lemmas.List.Elements.{All-head}
 use Rattle.ll_rights.specs.declared.abi.Abi.{Abi}
 use Rattle.ll_tree.specs.Trees.{Entry}
 use Rattle.ll_semantics.specs.Worlds.{World}

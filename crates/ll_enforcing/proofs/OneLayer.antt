@@ -1,10 +1,9 @@
 -- What the calls for one layer do.
-use Rattle.std.proofs.Common.{◌≡◌, ◌≢◌, ℕ, ◌+◌, ◌<◌, ◌≤◌, Bool, true, false, not, ◌&&◌, ◌||◌, eqb, List, [], ◌∷◌, ◌++◌, map, reverse, length, set, Option, Some, None, refl, sym, ap, ◌∙◌, arith, cond, if◌then◌else◌, nat_le, nat_lt, slice_get, All, subst}
-use Rattle.std.specs.Prelude.{slice_set, unwrap_or, option_map, option_to_list}
-use Rattle.std.specs.Map.{update}
+use Rattle.std.proofs.Common.{◌≡◌, ℕ, Bool, true, false, not, ◌&&◌, ◌||◌, List, [], ◌∷◌, ◌++◌, map, length, Option, Some, None, refl, sym, ap, ◌∙◌, if◌then◌else◌, nat_le, nat_lt, All, subst}
+use Rattle.std.specs.Prelude.{slice_set, unwrap_or, option_map}
 use Rattle.std.specs.List.{flat_map}
-use Rattle.std.proofs.lemmas.List.{append_assoc, set_at, map-append}
-use Rattle.std.proofs.lemmas.Bool.{eq-eqb, cases_Bool}
+use Rattle.std.proofs.lemmas.List.{set_at}
+use Rattle.std.proofs.lemmas.Bool.{eq-eqb}
 use Rattle.ll_rights.specs.declared.abi.Abi.{Abi}
 use Rattle.ll_rights.specs.declared.fs.Fs.{Fs}
 use Rattle.ll_rights.specs.declared.net.Net.{Net}
@@ -14,7 +13,7 @@ use Rattle.ll_rights.specs.NetRights as network
 use Rattle.ll_rights.specs.declared.kind.Kind.{Kind}
 use Rattle.ll_lines.specs.Paths.{text_of}
 use Rattle.ll_lines.proofs.PathLaws.{path_of-text_of}
-use Rattle.ll_tree.specs.Trees.{Entry, IsNode, path_at, kind_at, is_dir, place, place_of, place_or_gap}
+use Rattle.ll_tree.specs.Trees.{Entry, IsNode, path_at, is_dir, place, place_of, place_or_gap}
 use Rattle.ll_tree.specs.TreeFacts.{IsTree}
 use Rattle.ll_tree.proofs.Positions.{guessed_is}
 use Rattle.std.proofs.lemmas.List.Elements.{All-head, All-tail}
@@ -23,14 +22,14 @@ use Rattle.ll_tree.specs.declared.place.Place.{Place}
 use Rattle.ll_tree.specs.declared.place.Place.TheVariants as places
 use Rattle.ll_rules.specs.declared.errno.Errno.TheVariants.{Inval, NoMsg, TooBig, Perm}
 use Rattle.ll_rules.specs.declared.domain.TheConstants.{MOST_LAYERS}
-use Rattle.ll_rules.specs.InTree.{node, rule_on_path, in_tree}
-use Rattle.ll_rules.specs.Layers.{RulesOn, without_rules, with_file_rule, with_port_rule}
-use Rattle.ll_rules.specs.Rulesets.{RuleRefusal, with_error, without_object, create_fault, are_file_rights, place_refusal, add_path_refusal, add_port_refusal, with_rule_at, has_ports}
+use Rattle.ll_rules.specs.InTree.{node}
+use Rattle.ll_rules.specs.Layers.{without_rules, with_file_rule, with_port_rule}
+use Rattle.ll_rules.specs.Rulesets.{RuleRefusal, with_error, without_object, create_fault, are_file_rights, place_refusal, with_rule_at, has_ports}
 use Rattle.ll_trace.specs.declared.op.Op.{Op}
 use Rattle.ll_trace.specs.declared.op.Op.TheVariants.{Create, AddPath, AddPort, Restrict, CloseRs}
 use Rattle.ll_trace.proofs.Numbers.{slice_get-push}
 use Rattle.ll_semantics.specs.declared.answer.Answer.{Answer}
-use Rattle.ll_semantics.specs.declared.answer.Answer.TheVariants.{Allowed, Moot, Refused}
+use Rattle.ll_semantics.specs.declared.answer.Answer.TheVariants.{Allowed}
 use Rattle.ll_semantics.specs.States.{State, Layer}
 use Rattle.ll_semantics.specs.Answers.{answer, named, unless, of_rule_refusal, create_answer, add_path_answer, add_port_answer, restrict_answer, if_there, fails, fails_by, may_restrict}
 use Rattle.ll_semantics.specs.Effects.{effect, changed_at, with_held, with_layer}
@@ -40,7 +39,7 @@ use Rattle.ll_fitting.specs.declared.written.Parent.TheVariants.{There, Missing}
 use Rattle.ll_fitting.specs.declared.fitting.FittedPathRule.{FittedPathRule}
 use Rattle.ll_fitting.specs.declared.fitting.FittedPortRule.{FittedPortRule}
 use Rattle.ll_fitting.specs.Fitting.{Fitted}
-use Rattle.ll_fitting.specs.Taken.{is_refused_on, granted_on, granted_by, rules_of}
+use Rattle.ll_fitting.specs.Taken.{is_refused_on, granted_on, granted_by}
 use Rattle.ll_enforcing.specs.Calls.{path_to}
 use Rattle.ll_enforcing.specs.Answered.{answer_on, IsListed, IsNoObject}
 use Rattle.ll_enforcing.proofs.Runs.{Leads, leads_none, leads_on, leads_allowed, leads_moot, leads_refused}

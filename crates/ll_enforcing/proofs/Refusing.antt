@@ -1,5 +1,5 @@
 -- The first call that is refused adds the rule that is named.
-use Rattle.std.proofs.Common.{◌≡◌, ℕ, Bool, true, false, not, ◌&&◌, List, [], ◌∷◌, ◌++◌, map, find, Option, Some, None, refl, sym, ap, ◌∙◌, arith, cond, if◌then◌else◌, All, subst, inl, inr}
+use Rattle.std.proofs.Common.{◌≡◌, ℕ, Bool, true, false, not, List, [], ◌∷◌, ◌++◌, map, find, Option, Some, None, refl, sym, ap, ◌∙◌, arith, if◌then◌else◌, All, subst, inl, inr}
 use Rattle.std.specs.Prelude.{option_map}
 use Rattle.std.specs.List.{flat_map}
 use Rattle.std.proofs.lemmas.Bool.{cases_Bool}
@@ -8,8 +8,7 @@ use Rattle.std.proofs.lemmas.Option.{none-some}
 use Rattle.std.proofs.lemmas.List.Folds.{find-append}
 use Rattle.std.proofs.lemmas.List.Elements.{All-cons}
 use Rattle.ll_rights.specs.declared.fs.Fs.{Fs}
-use Rattle.ll_semantics.specs.declared.answer.Answer.{Answer}
-use Rattle.ll_semantics.specs.declared.answer.Answer.TheVariants.{Allowed, Moot, Refused}
+use Rattle.ll_semantics.specs.declared.answer.Answer.TheVariants.{Allowed}
 use Rattle.ll_semantics.specs.Answers.{fails}
 use Rattle.ll_rules.specs.declared.errno.Errno.TheVariants.{Inval}
 use Rattle.ll_fitting.specs.declared.written.Parent.{Parent}
@@ -18,7 +17,7 @@ use Rattle.ll_fitting.specs.declared.fitting.FittedPathRule.{FittedPathRule}
 use Rattle.ll_fitting.specs.declared.fitting.FittedPortRule.{FittedPortRule}
 use Rattle.ll_fitting.specs.declared.refusing.RefusedRule.{RefusedRule}
 use Rattle.ll_fitting.specs.Fitting.{Fitted}
-use Rattle.ll_fitting.specs.Taken.{is_refused_on, is_refused, refused_in, or_else, first_refused}
+use Rattle.ll_fitting.specs.Taken.{is_refused_on, is_refused, first_refused}
 use Rattle.ll_enforcing.specs.declared.calls.Call.{Call}
 use Rattle.ll_enforcing.specs.declared.calls.Call.TheVariants as calls
 use Rattle.ll_enforcing.specs.Calls.{of_path_rules, of_port_rules, calls_of_layer, calls_of}
@@ -74,8 +73,8 @@ Names None (Some call) = ⊥
 Names (Some refused) None = ⊥
 
 names_in : (left : Fitted) (found : Option FittedPathRule) (later : Option RefusedRule) (call : Option Call) → Names later call
-    → Names (or_else (option_map (λ rule. record { layer = left.layer; rule = rule.rule }) found) later)
-        (option_or (option_map (λ rule. calls.AddPath left.layer rule) found) call)
+    → Names (option_or (option_map (λ rule. record { layer = left.layer; rule = rule.rule }) found) later)
+    (option_or (option_map (λ rule. calls.AddPath left.layer rule) found) call)
 names_in left None later call names = names
 names_in left (Some rule) later call names = (rule, refl, refl)
 

@@ -1,5 +1,5 @@
 -- What operations of one process make of the rulesets and of its own state, one after another.
-use Rattle.std.proofs.Common.{◌≡◌, ◌≢◌, ℕ, ◌<◌, false, List, [], ◌∷◌, ◌++◌, map, refl, sym, ap, ◌∙◌, arith}
+use Rattle.std.proofs.Common.{◌≡◌, ◌≢◌, ℕ, ◌<◌, false, List, [], ◌∷◌, ◌++◌, refl, sym, ap, ◌∙◌, arith}
 use Rattle.std.proofs.lemmas.List.{append_assoc}
 use Rattle.ll_rights.specs.declared.abi.Abi.{Abi}
 use Rattle.ll_tree.specs.Trees.{Entry}
@@ -12,7 +12,7 @@ use Rattle.ll_semantics.specs.States.{State, Layer}
 use Rattle.ll_semantics.specs.Answers.{answer}
 use Rattle.ll_semantics.specs.CallContexts.{change, rules, state_after, rulesets_after, world_after}
 use Rattle.ll_semantics.specs.Worlds.{World, if_allowed, answer_in, step, judged_from}
-use Rattle.ll_semantics.proofs.Steps.{step-own, step-other, step-rulesets, count-step, if_allowed-same}
+use Rattle.ll_semantics.proofs.Steps.{step-own, step-other, step-rulesets, count-step}
 use Rattle.ll_enforcing.specs.Answered.{records_of}
 
 module _ (tree : List Entry) (abi : Abi) where

@@ -1,6 +1,6 @@
 -- What the calls that put a policy in force are answered, and what they make of a process.
 -- Source: landlock_add_rule(2), landlock_restrict_self(2), "ERRORS"; the kernel's userspace document on Landlock, "Ruleset layers".
-use Rattle.std.specs.Prelude.{◌≡◌, ◌≢◌, ℕ, ◌+◌, ◌<◌, ◌≤◌, Bool, true, false, List, [], ◌++◌, map, length, All, Option, None, if◌then◌else◌}
+use Rattle.std.specs.Prelude.{◌≡◌, ◌≢◌, ℕ, ◌+◌, ◌<◌, ◌≤◌, Bool, true, false, List, ◌++◌, map, length, All, None, if◌then◌else◌}
 use Rattle.ll_rights.specs.declared.abi.Abi.{Abi}
 use Rattle.ll_rights.specs.declared.fs.Fs.{Fs}
 use Rattle.ll_tree.specs.declared.place.Place.{Place}

@@ -3,6 +3,8 @@
 
 mod calls;
 mod laws;
+mod worked;
 
 pub use calls::{Call, calls_of, enforce};
 pub use laws::the_first_refused_rule_is_named;
+pub use worked::worked_calls;

@@ -4,3 +4,4 @@ pub mod Shown
 pub mod Taken
 pub mod Misfits
 pub mod ByRight
+pub mod WorkedPolicies

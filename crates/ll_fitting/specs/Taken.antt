@@ -1,7 +1,8 @@
 -- The rules that the kernel takes, and the layers that a version makes of a policy.
 -- Source: landlock_add_rule(2), "ERRORS"; landlock(7), "Filesystem actions".
-use Rattle.std.specs.Prelude.{◌≡◌, ℕ, nat_lt, Bool, true, false, not, ◌&&◌, List, [], ◌∷◌, map, Option, Some, None, option_map, find, reverse, All, if◌then◌else◌}
+use Rattle.std.specs.Prelude.{◌≡◌, ℕ, nat_lt, Bool, true, false, not, ◌&&◌, List, [], ◌∷◌, map, Option, None, option_map, find, reverse, All, if◌then◌else◌}
 use Rattle.std.specs.List.{flat_map}
+use Rattle.std.specs.Option.{option_or}
 use Rattle.ll_rights.specs.declared.abi.Abi.{Abi}
 use Rattle.ll_rights.specs.declared.fs.Fs.{Fs}
 use Rattle.ll_rights.specs.declared.net.TheConstants.{LARGEST_PORT}
@@ -51,13 +52,9 @@ layers_of abi layers = map rules_of (fitted abi layers)
 abbrev pub refused_in : Fitted → Option RefusedRule
 refused_in left = option_map (λ rule. record { layer = left.layer; rule = rule.rule }) (find is_refused left.path_rules)
 
-abbrev pub or_else : Option RefusedRule → Option RefusedRule → Option RefusedRule
-or_else None later = later
-or_else (Some first) later = Some first
-
 unfoldable pub first_refused : List Fitted → Option RefusedRule
 first_refused [] = None
-first_refused (left ∷ others) = or_else (refused_in left) (first_refused others)
+first_refused (left ∷ others) = option_or (refused_in left) (first_refused others)
 
 -- ---- what the kernel takes
 

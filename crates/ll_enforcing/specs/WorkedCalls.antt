@@ -1,0 +1,56 @@
+-- A small policy over the small tree, as operations of a process.
+-- Source: the tree is that of docs/FORMATS.md, "The tree file".
+use Rattle.std.specs.Prelude.{ℕ, List, [], ◌∷◌, codes, false}
+use Rattle.ll_rights.specs.declared.abi.Abi.TheVariants.{V4}
+use Rattle.ll_rights.specs.Rights.{read_file, read_dir, write_file}
+use Rattle.ll_rights.specs.NetRights.{connect_tcp}
+use Rattle.ll_rules.specs.WorkedRules.{these, these_on_ports}
+use Rattle.ll_tree.specs.WorkedTree.{worked_tree}
+use Rattle.ll_trace.specs.declared.op.Op.{Op}
+use Rattle.ll_trace.specs.declared.op.Op.TheVariants as operations
+use Rattle.ll_trace.specs.declared.op.Record.{Record}
+use Rattle.ll_fitting.specs.declared.written.Parent.TheVariants.{Missing}
+use Rattle.ll_fitting.specs.Written.{Layer}
+use Rattle.ll_fitting.specs.Fitting.{fitted}
+use Rattle.ll_fitting.specs.WorkedPolicies.{layer, lists, lists_on_ports, on, directory, file}
+use Rattle.ll_enforcing.specs.Answered.{records_of, operations_of}
+
+-- The first layer has rules on a directory, on a file, on an object that is missing, and one that the kernel refuses on a file;
+-- the second has a rule on a port.
+abbrev pub small : List Layer
+small =
+    layer (lists (read_file ∷ read_dir ∷ []) []) (lists_on_ports [])
+    (on (lists [] (read_file ∷ read_dir ∷ [])) (directory 1)
+    ∷ on (lists [] (read_file ∷ read_dir ∷ [])) (file 6)
+    ∷ on (lists (read_file ∷ []) []) Missing
+    ∷ on (lists (read_dir ∷ []) []) (file 6)
+    ∷ []) []
+    ∷ layer (lists (write_file ∷ []) []) (lists_on_ports (connect_tcp ∷ [])) []
+    (record { allowed = lists_on_ports (connect_tcp ∷ []); port = 443 } ∷ [])
+    ∷ []
+
+-- a path that the tree doesn't list
+abbrev pub nowhere : List ℕ
+nowhere = codes "/none"
+
+-- its operations, by a process that holds its rulesets under number 3
+abbrev pub small_operations : List Op
+small_operations =
+    operations.Nnp
+    ∷ operations.Create 3 (these (read_file ∷ read_dir ∷ [])) (these_on_ports [])
+    ∷ operations.AddPath 3 (codes "/a") (these (read_file ∷ read_dir ∷ []))
+    ∷ operations.AddPath 3 (codes "/b/g") (these (read_file ∷ []))
+    ∷ operations.AddPath 3 nowhere (these (read_file ∷ []))
+    ∷ operations.AddPath 3 (codes "/b/g") (these (read_dir ∷ []))
+    ∷ operations.Restrict 3
+    ∷ operations.CloseRs 3
+    ∷ operations.Create 3 (these (write_file ∷ [])) (these_on_ports (connect_tcp ∷ []))
+    ∷ operations.AddPort 3 443 (these_on_ports (connect_tcp ∷ []))
+    ∷ operations.Restrict 3
+    ∷ operations.CloseRs 3
+    ∷ []
+
+-- a process that starts, enforces the policy, and then opens two files
+abbrev pub confined : List Record
+confined =
+    records_of 0 (operations.Start false false ∷ operations_of worked_tree nowhere 3 (fitted V4 small))

@@ -1,0 +1,21 @@
+//! What the calls for a small policy are, and what they are answered.
+#![tactic(auto, unfolding(ll_semantics::specs::WorkedWords::judging, ll_fitting::specs::WorkedPolicies::fitting, crate::specs::Calls::calls_of, crate::specs::Calls::calls_of_layer, crate::specs::Calls::operation_of, crate::specs::Answered::answer_of, ll_lines::specs::Paths::text_of))]
+
+ghost use Rattle.std.specs.Prelude.{◌≡◌, [], ◌∷◌};
+ghost use Rattle.ll_rights.specs.declared.abi.Abi.TheVariants.{V4};
+ghost use Rattle.ll_tree.specs.WorkedTree.{worked_tree};
+ghost use Rattle.ll_rules.specs.declared.errno.Errno.TheVariants.{Inval};
+ghost use Rattle.ll_semantics.specs.declared.answer.Answer.TheVariants.{Allowed, Moot, Refused};
+ghost use Rattle.ll_semantics.specs.Worlds.{judged};
+ghost use Rattle.ll_fitting.specs.Fitting.{fitted};
+ghost use Rattle.ll_enforcing.specs.Answered.{operations_of};
+ghost use Rattle.ll_enforcing.specs.WorkedCalls.{small, small_operations, nowhere, confined};
+
+/// Two layers: a group on a file is masked, a rule on a missing object is moot, and a rule that only a directory can
+/// have is refused on a file.
+pub fn worked_calls()
+    ensures operations { operations_of worked_tree nowhere 3 (fitted V4 small) ≡ small_operations }
+    ensures answers { judged worked_tree V4 confined ≡ Allowed ∷ Allowed ∷ Allowed ∷ Allowed
+        ∷ Allowed ∷ Moot ∷ Refused Inval [] ∷ Allowed ∷ Allowed ∷ Allowed ∷ Allowed ∷ Allowed
+        ∷ Allowed ∷ [] }
+{}
