@@ -64,10 +64,10 @@ ports_are layer (rule ∷ others) =
     ∙ ap (λ zs. zs ++ layer.port_rules) (sym (reverse-append (on_port rule ∷ []) (map on_port others))))
 
 -- the layer that a ruleset becomes with all its rules
-abbrev filled : List Entry → Fitted → Layer
+abbrev pub filled : List Entry → Fitted → Layer
 filled tree left = with_ports (with_granted tree (without_rules left.files left.network) (flat_map granted_by left.path_rules)) left.port_rules
 
-filled_is : (tree : List Entry) (left : Fitted) → filled tree left ≡ in_tree tree (rules_of left)
+pub filled_is : (tree : List Entry) (left : Fitted) → filled tree left ≡ in_tree tree (rules_of left)
 unfolding rules_of
 filled_is tree left =
     let empty : Layer = without_rules left.files left.network in
@@ -79,12 +79,12 @@ filled_is tree left =
 
 -- ---- one layer
 
-map_twice : {X Y Z : Type 0} (f : Y → Z) (g : X → Y) (xs : List X) → map f (map g xs) ≡ map (λ x. f (g x)) xs
+pub map_twice : {X Y Z : Type 0} (f : Y → Z) (g : X → Y) (xs : List X) → map f (map g xs) ≡ map (λ x. f (g x)) xs
 map_twice f g [] = refl
 map_twice f g (x ∷ xs) = ap (λ zs. f (g x) ∷ zs) (map_twice f g xs)
 
 -- what is made of the calls of a layer, one after another
-mapped : {Z : Type 0} (f : Call → Z) (left : Fitted) → map f (calls_of_layer left)
+pub mapped : {Z : Type 0} (f : Call → Z) (left : Fitted) → map f (calls_of_layer left)
     ≡ f (calls.CreateRuleset left.layer left.files left.network) ∷ (map (λ rule. f (calls.AddPath left.layer rule)) left.path_rules
     ++ map (λ rule. f (calls.AddPort left.layer rule)) left.port_rules ++ f (calls.RestrictSelf left.layer) ∷ f (calls.CloseRuleset left.layer) ∷ [])
 unfolding calls_of_layer
@@ -99,7 +99,7 @@ mapped f left =
 
 module _ (tree : List Entry) (abi : Abi) (missing : List ℕ) (rs : ℕ) where
   -- the state of a process that has a layer more
-  abbrev after_layer : State → ℕ → Layer → State
+  abbrev pub after_layer : State → ℕ → Layer → State
   after_layer s index layer = with_held (with_layer (with_held s rs (Some index)) (Some layer)) rs None
 
   leads_layer : (r : List Layer) (s : State) (left : Fitted) → IsTree tree → IsNoObject (place tree missing) → IsSound tree abi missing rs left →
@@ -147,7 +147,7 @@ module _ (tree : List Entry) (abi : Abi) (missing : List ℕ) (rs : ℕ) where
     | inr other ↦ rw (ne_eqb rs q other) refl
   ]
 
-  gained_more : (before s : State) (added : List Layer) (index : ℕ) (layer : Layer) → HasGained added before s → before.held rs ≡ None
+  pub gained_more : (before s : State) (added : List Layer) (index : ℕ) (layer : Layer) → HasGained added before s → before.held rs ≡ None
       → HasGained (added ++ layer ∷ []) before (after_layer s index layer)
   gained_more before s added index layer gained free = record {
     domain = ap (λ (d : List Layer). d ++ layer ∷ []) gained.domain ∙ append_assoc before.domain added (layer ∷ []);
@@ -157,7 +157,7 @@ module _ (tree : List Entry) (abi : Abi) (missing : List ℕ) (rs : ℕ) where
     descriptors = gained.descriptors;
   }
 
-  has_room : (domain most : ℕ) → domain < most → nat_le most domain ≡ false
+  pub has_room : (domain most : ℕ) → domain < most → nat_le most domain ≡ false
   has_room domain most less = grind (arith, nat_tests)
 
   abbrev LeadsToAll : List Layer → State → State → List Layer → List Fitted → State → Type 0
@@ -213,17 +213,17 @@ module _ (tree : List Entry) (abi : Abi) (missing : List ℕ) (rs : ℕ) where
   starts_none (calls.RestrictSelf layer ∷ made) = (refl, starts_none made)
   starts_none (calls.CloseRuleset layer ∷ made) = (refl, starts_none made)
 
-  ends : (r r' : List Layer) (s s' : State) (ops : List Op) (answers : List Answer) → Leads tree abi r s ops answers r' s'
+  pub ends : (r r' : List Layer) (s s' : State) (ops : List Op) (answers : List Answer) → Leads tree abi r s ops answers r' s'
       → (answers_on tree abi r s ops ≡ answers) × (state_on tree abi r s ops ≡ s')
   ends r r' s s' ops answers leads = (
     ap (answers_on tree abi r s) (sym (append-nil ops)) ∙ leads.answered [] ∙ append-nil answers,
     ap (state_on tree abi r s) (sym (append-nil ops)) ∙ leads.leaves_state [],
   )
 
-  abbrev unprivileged : State → State
+  abbrev pub unprivileged : State → State
   unprivileged s = record s { no_new_privs = true }
 
-  leads_nnp : (r : List Layer) (s : State) → Leads tree abi r s (Nnp ∷ []) (Allowed ∷ []) r (unprivileged s)
+  pub leads_nnp : (r : List Layer) (s : State) → Leads tree abi r s (Nnp ∷ []) (Allowed ∷ []) r (unprivileged s)
   unfolding answer rules change effect state_by rulesets_by
   leads_nnp r s = leads_allowed tree abi r r s _ Nnp refl refl refl
 

@@ -3,3 +3,7 @@ pub mod OneLayer
 pub mod AllLayers
 pub mod InForce
 pub mod Refusing
+pub mod OlderRights
+pub mod OlderRules
+pub mod OlderLayer
+pub mod OlderPolicy

@@ -68,7 +68,7 @@ abbrev pub with_ports : Layer → List FittedPortRule → Layer
 with_ports layer [] = layer
 with_ports layer (rule ∷ others) = with_ports (with_port_rule layer rule.port rule.rights) others
 
-with_granted-append : (tree : List Entry) (layer : Layer) (a b : List (ℕ × Fs)) → with_granted tree (with_granted tree layer a) b ≡ with_granted tree layer (a ++ b)
+pub with_granted-append : (tree : List Entry) (layer : Layer) (a b : List (ℕ × Fs)) → with_granted tree (with_granted tree layer a) b ≡ with_granted tree layer (a ++ b)
 with_granted-append tree layer [] b = refl
 with_granted-append tree layer (rule ∷ a) b = with_granted-append tree (with_file_rule layer (path_at tree (node rule.0)) rule.1) a b
 
@@ -158,7 +158,7 @@ module _ (tree : List Entry) (abi : Abi) (missing : List ℕ) (rs : ℕ) where
   abbrev pub path_operation : FittedPathRule → Op
   path_operation rule = AddPath rs (path_to tree missing rule.parent) rule.rights
 
-  handles_same : (layer : Layer) (granted : List (ℕ × Fs)) → (with_granted tree layer granted).handled_files ≡ layer.handled_files
+  pub handles_same : (layer : Layer) (granted : List (ℕ × Fs)) → (with_granted tree layer granted).handled_files ≡ layer.handled_files
   handles_same layer [] = refl
   handles_same layer (rule ∷ others) = handles_same (with_file_rule layer (path_at tree (node rule.0)) rule.1) others
 
@@ -208,7 +208,7 @@ module _ (tree : List Entry) (abi : Abi) (missing : List ℕ) (rs : ℕ) where
   taken true true within large a b c d = absurd (cc)
   taken false empty within large a b c d = absurd (cc)
 
-  leads_port : (before : List Layer) (layer : Layer) (s : State) (rule : FittedPortRule) → s.held rs ≡ Some (length before) →
+  pub leads_port : (before : List Layer) (layer : Layer) (s : State) (rule : FittedPortRule) → s.held rs ≡ Some (length before) →
       IsAskedOfPort layer.handled_network rule
       → Leads tree abi (before ++ layer ∷ []) s (port_operation rule ∷ []) (Allowed ∷ []) (before ++ with_port_rule layer rule.port rule.rights ∷ []) s
   unfolding answer add_port_answer rules change effect state_by rulesets_by

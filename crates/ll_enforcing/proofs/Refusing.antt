@@ -30,7 +30,7 @@ by_test : (b : Bool) → is_refusal (if b then fails Inval else Allowed) ≡ b
 by_test true = refl
 by_test false = refl
 
-refused_on : (parent : Parent) (rights : Fs) → is_refusal (answer_on parent rights) ≡ is_refused_on parent rights
+pub refused_on : (parent : Parent) (rights : Fs) → is_refusal (answer_on parent rights) ≡ is_refused_on parent rights
 refused_on (There object kind) rights = by_test (is_refused_on (There object kind) rights)
 refused_on Missing rights = refl
 

@@ -1,3 +1,4 @@
 pub mod Calls
 pub mod Answered
 pub mod WorkedCalls
+pub mod AtBestEffort

@@ -1,12 +1,18 @@
 //! What holds of the calls that put a policy in force.
 
-ghost use Rattle.std.specs.Prelude.{◌≡◌, false, List, Some, None, All, find};
-ghost use Rattle.ll_fitting.specs.Fitting.{Fitted};
+ghost use Rattle.std.specs.Prelude.{◌≡◌, ◌≤◌, ℕ, false, List, Some, None, All, find};
+ghost use Rattle.ll_rights.specs.{declared.abi.Abi.Abi, Abis.number_of};
+ghost use Rattle.ll_tree.specs.Trees.{Entry};
+ghost use Rattle.ll_semantics.specs.Worlds.{World};
+ghost use Rattle.ll_fitting.specs.Written.{Layer};
+ghost use Rattle.ll_fitting.specs.Misfits.{misfit};
+ghost use Rattle.ll_fitting.specs.Fitting.{Fitted, fitted};
 ghost use Rattle.ll_fitting.specs.Taken.{first_refused};
 ghost use Rattle.ll_fitting.specs.declared.fitting.FittedPathRule.{FittedPathRule as Rule};
 ghost use Rattle.ll_fitting.specs.declared.refusing.RefusedRule.{RefusedRule};
 ghost use Rattle.ll_enforcing.specs.Calls.{calls_of};
-ghost use Rattle.ll_enforcing.specs.Answered.{answer_of, is_refusal};
+ghost use Rattle.ll_enforcing.specs.Answered.{answer_of, is_refusal, MayEnforce};
+ghost use Rattle.ll_enforcing.specs.AtBestEffort.{IsTheSame};
 
 use crate::calls::Call;
 
@@ -20,4 +26,15 @@ pub fn the_first_refused_rule_is_named()
         → (rule : Rule) × (rule.rule ≡ refused.rule)
         × (find (λ call. is_refusal (answer_of call)) (calls_of layers)
         ≡ Some (Call.AddPath refused.layer rule)) }
+{}
+
+/// The calls for a newer version, made at best effort at an older one, give a process the layers that the older version
+/// leaves of the policy, and besides only layers that handle nothing, if the older version refuses no rule of the
+/// policy. None of these calls is refused.
+pub fn best_effort_gives_the_same_layers()
+    ensures { (older newer : Abi) → number_of older ≤ number_of newer → (policy : List Layer)
+        → misfit policy ≡ None → first_refused (fitted older policy) ≡ None
+        → (tree : List Entry) (missing : List ℕ) (rs process : ℕ) (world : World)
+        → MayEnforce tree missing rs process (fitted newer policy) world
+        → IsTheSame tree missing rs older newer process policy world }
 {}

@@ -68,7 +68,7 @@ within_on_ports abi a b known =
     (λ right. rw (net_has-supported abi (common_on_ports a b) right, net_has-supported abi b right, has_common_on_ports a b right known)
     (kept_within (network.has a right) (network.has b right) (knows_net abi right || network.is_right right network.other))) network.all_rights
 
-nothing_within : (whole : Fs) → files.is_within files.no_right whole ≡ true
+pub nothing_within : (whole : Fs) → files.is_within files.no_right whole ≡ true
 unfolding files.every_right files.has
 nothing_within whole =
     all_each (λ right. not (files.has files.no_right right) || files.has whole right)
@@ -118,11 +118,11 @@ knows_supported_on_ports abi set known =
 
 -- ---- versions without rules for ports
 
-and_false : (a b : Bool) → b ≡ false → (a && b) ≡ false
+pub and_false : (a b : Bool) → b ≡ false → (a && b) ≡ false
 and_false true b is = is
 and_false false b is = refl
 
-false_and : (a b : Bool) → a ≡ false → (a && b) ≡ false
+pub false_and : (a b : Bool) → a ≡ false → (a && b) ≡ false
 false_and false b is = refl
 false_and true b is = absurd (cc)
 
@@ -169,7 +169,7 @@ both : (a b : Bool) → a ≡ true → b ≡ true → (a && b) ≡ true
 both true b is other = other
 both false b is other = absurd (cc)
 
-created : (abi : Abi) (layer : Layer) → files.has (listed layer.handled_files) files.other ≡ false →
+pub created : (abi : Abi) (layer : Layer) → files.has (listed layer.handled_files) files.other ≡ false →
     network.has (listed_on_ports layer.handled_network) network.other ≡ false →
     (files.is_empty (handled_files abi layer) && network.is_empty (handled_network abi layer)) ≡ false
     → create_fault abi (handled_files abi layer) (handled_network abi layer) ≡ None
@@ -183,23 +183,23 @@ created abi layer known known_on_ports some =
 
 -- ---- lists
 
-all_none : {X : Type 0} (P : X → Type 0) → All P []
+pub all_none : {X : Type 0} (P : X → Type 0) → All P []
 all_none P = λ k d less. absurd (omega arith)
 
-all_if : {X : Type 0} (P : X → Type 0) (b : Bool) (x : X) → (b ≡ false → P x) → All P (if b then [] else x ∷ [])
+pub all_if : {X : Type 0} (P : X → Type 0) (b : Bool) (x : X) → (b ≡ false → P x) → All P (if b then [] else x ∷ [])
 all_if P true x holds = all_none P
 all_if P false x holds = All-cons P x [] (holds refl) (all_none P)
 
-all_flat : {X A : Type 0} (Q : X → Type 0) (P : A → Type 0) (f : X → List A) → ((x : X) → Q x → All P (f x)) → (xs : List X) → All Q xs → All P (flat_map f xs)
+pub all_flat : {X A : Type 0} (Q : X → Type 0) (P : A → Type 0) (f : X → List A) → ((x : X) → Q x → All P (f x)) → (xs : List X) → All Q xs → All P (flat_map f xs)
 all_flat Q P f each [] all = all_none P
 all_flat Q P f each (x ∷ xs) all =
     All-append P (f x) (flat_map f xs) (each x (All-head Q x xs all)) (all_flat Q P f each xs (All-tail Q x xs all))
 
-none_or : {M : Type 0} (a b : Option M) → option_or a b ≡ None → (a ≡ None) × (b ≡ None)
+pub none_or : {M : Type 0} (a b : Option M) → option_or a b ≡ None → (a ≡ None) × (b ≡ None)
 none_or None b is = (refl, is)
 none_or (Some m) b is = absurd (cc)
 
-none_told : {X M : Type 0} (tell : X → Option M) (xs : List X) → misfits.first_of tell xs ≡ None → All (λ x. tell x ≡ None) xs
+pub none_told : {X M : Type 0} (tell : X → Option M) (xs : List X) → misfits.first_of tell xs ≡ None → All (λ x. tell x ≡ None) xs
 unfolding misfits.first_of
 none_told tell [] is = all_none (λ x. tell x ≡ None)
 none_told tell (x ∷ xs) is =
@@ -209,10 +209,10 @@ none_told tell (x ∷ xs) is =
 -- ---- rules for files
 
 module _ (abi : Abi) (layer : Layer) (known : files.has (listed layer.handled_files) files.other ≡ false) where
-  abbrev IsHandled : Fs → Type 0
+  abbrev pub IsHandled : Fs → Type 0
   IsHandled rights = files.is_within rights (handled_files abi layer) ≡ true
 
-  left_within : (rights : Fs) → IsHandled (left_of abi layer rights)
+  pub left_within : (rights : Fs) → IsHandled (left_of abi layer rights)
   unfolding left_of handled_files
   left_within rights = within abi rights (listed layer.handled_files) known
 
@@ -220,7 +220,7 @@ module _ (abi : Abi) (layer : Layer) (known : files.has (listed layer.handled_fi
   either true x y first second = first
   either false x y first second = second
 
-  on_within : (rule : PathRule) (parent : Parent) → IsHandled (rights_at abi layer rule parent)
+  pub on_within : (rule : PathRule) (parent : Parent) → IsHandled (rights_at abi layer rule parent)
   unfolding rights_on_kind
   on_within rule (There object kind) =
       either _ _ _ (left_within (listed rule.allowed))
@@ -246,20 +246,20 @@ port_fits true false true is = absurd (cc)
 port_fits true true large is = absurd (cc)
 port_fits false nothing large is = absurd (cc)
 
-told_none : {X Y : Type 0} (f : X → Y) (told : Option X) → option_map f told ≡ None → told ≡ None
+pub told_none : {X Y : Type 0} (f : X → Y) (told : Option X) → option_map f told ≡ None → told ≡ None
 told_none f None is = refl
 told_none f (Some x) is = absurd (cc)
 
 module _ (abi : Abi) (layer : Layer) (known : network.has (listed_on_ports layer.handled_network) network.other ≡ false) where
-  abbrev IsAskedOnPort : FittedPortRule → Type 0
+  abbrev pub IsAskedOnPort : FittedPortRule → Type 0
   IsAskedOnPort rule =
       (has_ports abi ≡ true) × (network.is_empty rule.rights ≡ false) × (network.is_within rule.rights (handled_network abi layer) ≡ true)
       × (nat_lt LARGEST_PORT rule.port ≡ false)
 
-  abbrev AreFit : ℕ × PortRule → Type 0
+  abbrev pub AreFit : ℕ × PortRule → Type 0
   AreFit numbered = misfits.port_rule_misfit layer numbered.1 ≡ None
 
-  port_valid : (numbered : ℕ × PortRule) → AreFit numbered → All IsAskedOnPort (fitted_port_rule abi layer numbered)
+  pub port_valid : (numbered : ℕ × PortRule) → AreFit numbered → All IsAskedOnPort (fitted_port_rule abi layer numbered)
   unfolding fitted_port_rule rights_on_port handled_network misfits.port_rule_misfit
   port_valid numbered fits =
       let rule : PortRule = numbered.1 in
@@ -285,13 +285,13 @@ module _ (abi : Abi) (layer : Layer) (known : network.has (listed_on_ports layer
 
 -- ---- a layer, and all layers
 
-fits_if : (knows nothing : Bool) (unknown empty : Misfit) (rest : Option Misfit)
+pub fits_if : (knows nothing : Bool) (unknown empty : Misfit) (rest : Option Misfit)
     → (if not knows then Some unknown else (if nothing then Some empty else rest)) ≡ None → (knows ≡ true) × (rest ≡ None)
 fits_if true false unknown empty rest is = (refl, is)
 fits_if true true unknown empty rest is = absurd (cc)
 fits_if false nothing unknown empty rest is = absurd (cc)
 
-named_alone : (a b : Bool) → (not a && not b) ≡ true → (a ≡ false) × (b ≡ false)
+pub named_alone : (a b : Bool) → (not a && not b) ≡ true → (a ≡ false) × (b ≡ false)
 named_alone false false is = (refl, refl)
 named_alone false true is = absurd (cc)
 named_alone true b is = absurd (cc)
@@ -310,7 +310,7 @@ layer_valid abi numbered fits =
       ports = ports_valid abi layer names.1 numbered.0 rules.1;
     })
 
-fits_in : (none many : Bool) (a b : Misfit) (rest : Option Misfit) → (if none then Some a else (if many then Some b else rest)) ≡ None → rest ≡ None
+pub fits_in : (none many : Bool) (a b : Misfit) (rest : Option Misfit) → (if none then Some a else (if many then Some b else rest)) ≡ None → rest ≡ None
 fits_in false false a b rest is = is
 fits_in false true a b rest is = absurd (cc)
 fits_in true many a b rest is = absurd (cc)

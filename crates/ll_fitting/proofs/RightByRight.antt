@@ -20,7 +20,7 @@ use Rattle.ll_fitting.specs.Fitting.{left_of, or_whole, rights_on_kind, rights_a
 use Rattle.ll_fitting.specs.ByRight.{lists, lists_on_ports, lists_for_files, is_left, is_left_on_ports}
 use Rattle.ll_fitting.proofs.Left.{has_common, has_common_on_ports, other_or_not, other_or_not_on_ports}
 
-of_files : (right : files.FsRight) → files.has file_rights right ≡ files.is_file_right right
+pub of_files : (right : files.FsRight) → files.has file_rights right ≡ files.is_file_right right
 unfolding files.has files.named_rights
 of_files files.other = refl
 of_files right = refl
@@ -40,11 +40,11 @@ grouped : (a b k : Bool) → ((a && b) && k) ≡ (a && (b && k))
 grouped true b k = refl
 grouped false b k = refl
 
-chosen : (empty own : Bool) (whole part : Fs) → empty ≡ false → (if empty && own then whole else part) ≡ part
+pub chosen : (empty own : Bool) (whole part : Fs) → empty ≡ false → (if empty && own then whole else part) ≡ part
 chosen false own whole part is = refl
 chosen true own whole part is = absurd (cc)
 
-chosen_whole : (empty included : Bool) (whole part : Fs) → empty ≡ true → included ≡ false → (if empty && not included then whole else part) ≡ whole
+pub chosen_whole : (empty included : Bool) (whole part : Fs) → empty ≡ true → included ≡ false → (if empty && not included then whole else part) ≡ whole
 chosen_whole true false whole part is own = refl
 chosen_whole true true whole part is own = absurd (cc)
 chosen_whole false included whole part is own = absurd (cc)
@@ -100,7 +100,7 @@ unfolding rights_on_kind
 on_directories abi layer rule object right known =
     left_by_right abi layer (listed rule.allowed) right known ∙ ap (λ (b : Bool). b && is_left abi layer right) (listed_by_right rule.allowed right)
 
-other_kind : (abi : Abi) (layer : Layer) (rule : PathRule) (object : ℕ) (kind : Kind) → is_dir kind ≡ false
+pub other_kind : (abi : Abi) (layer : Layer) (rule : PathRule) (object : ℕ) (kind : Kind) → is_dir kind ≡ false
     → rights_at abi layer rule (There object kind)
     ≡ or_whole rule.included (left_of abi layer (listed_for_files rule.allowed)) (left_of abi layer (listed rule.allowed))
 unfolding rights_on_kind
