@@ -1,7 +1,7 @@
 -- What the calls do for a layer that was left at a newer version and is made at best effort at an older one.
-use Rattle.std.proofs.Common.{◌≡◌, ℕ, ◌+◌, ◌<◌, ◌≤◌, Bool, true, false, not, ◌&&◌, List, [], ◌∷◌, ◌++◌, map, length, Option, Some, None, refl, sym, ap, ◌∙◌, arith, if◌then◌else◌, subst, inl, inr, All, nat_le}
+use Rattle.std.proofs.Common.{◌≡◌, ℕ, ◌≤◌, Bool, true, false, not, ◌&&◌, List, [], ◌∷◌, ◌++◌, map, length, Option, Some, None, refl, sym, ap, ◌∙◌, if◌then◌else◌, subst, All, nat_le}
 use Rattle.std.specs.List.{flat_map, enumerate_from}
-use Rattle.std.proofs.lemmas.Bool.{true≢false, false≢true, eq-eqb}
+use Rattle.std.proofs.lemmas.Bool.{true≢false, eq-eqb}
 use Rattle.std.proofs.lemmas.List.{map-append}
 use Rattle.std.proofs.lemmas.List.Concat.{flat_map-append}
 use Rattle.std.proofs.lemmas.List.Elements.{All-head, All-tail}
@@ -37,13 +37,12 @@ use Rattle.ll_fitting.specs.Fitting.{rights_at, rights_on, rights_on_port, fitte
 use Rattle.ll_fitting.specs.Taken.{is_refused_on, is_refused, granted_by, rules_of}
 use Rattle.ll_fitting.proofs.Left.{on_within, port_valid, AreFit, IsAskedOnPort, created}
 use Rattle.ll_enforcing.specs.declared.calls.Call.{Call}
-use Rattle.ll_enforcing.specs.declared.calls.Call.TheVariants as calls
 use Rattle.ll_enforcing.specs.Calls.{operation_of, calls_of_layer}
 use Rattle.ll_enforcing.specs.Answered.{IsListed, IsNoObject}
-use Rattle.ll_enforcing.proofs.Runs.{Leads, leads_allowed}
+use Rattle.ll_enforcing.proofs.Runs.{leads_allowed}
 use Rattle.ll_enforcing.proofs.OneLayer.{with_granted, with_granted-append, handles_same, network_same, with_ports, IsAskedOfPort, leads_create, leads_restrict, leads_close}
 use Rattle.ll_enforcing.proofs.AllLayers.{filled, filled_is, mapped, after_layer}
-use Rattle.ll_enforcing.proofs.OlderRights.{Keeps, keeps, net_supported_nothing, is_zero, net_is_zero}
+use Rattle.ll_enforcing.proofs.OlderRights.{keeps, net_supported_nothing, is_zero, net_is_zero}
 use Rattle.ll_enforcing.proofs.OlderRules.{Goes, goes_none, goes_one, goes_on, all_left, all_right, nothing_refused, best_path, best_port, IsSame, goes_rule, goes_port_by}
 
 -- ---- a rule that is left, or isn't
@@ -100,7 +99,7 @@ module _ (tree : List Entry) (older newer : Abi) (le : number_of older ≤ numbe
         All (λ (rule : FittedPathRule). IsListed tree rule.parent) (flat_map (fitted_path_rule newer layer) xs) →
         All (λ rule. is_refused rule ≡ false) (flat_map (fitted_path_rule older layer) xs)
         → Goes tree older (before ++ own ∷ []) s (map (best_path tree older missing rs) (flat_map (fitted_path_rule newer layer) xs))
-            (before ++ with_granted tree own (flat_map granted_by (flat_map (fitted_path_rule older layer) xs)) ∷ []) s
+        (before ++ with_granted tree own (flat_map granted_by (flat_map (fitted_path_rule older layer) xs)) ∷ []) s
     unfolding fitted_path_rule
     goes_paths before own s [] is_tree not_listed held handles listed unrefused = goes_none tree older (before ++ own ∷ []) s
     goes_paths before own s (numbered ∷ xs) is_tree not_listed held handles listed unrefused =
@@ -110,10 +109,10 @@ module _ (tree : List Entry) (older newer : Abi) (le : number_of older ≤ numbe
         let others : List FittedPathRule = flat_map (fitted_path_rule older layer) xs in
         let next : Layer = with_granted tree own (flat_map granted_by here) in
         let first = goes_rule tree older missing rs before own s numbered.0 numbered.1.parent (rights_on newer layer numbered.1) (rights_on older layer numbered.1)
-                is_tree not_listed held (same_rule own numbered handles (all_left (λ (rule : FittedPathRule). IsListed tree rule.parent) newest later listed)
-                (all_left (λ rule. is_refused rule ≡ false) here others unrefused)) in
+        is_tree not_listed held (same_rule own numbered handles (all_left (λ (rule : FittedPathRule). IsListed tree rule.parent) newest later listed)
+        (all_left (λ rule. is_refused rule ≡ false) here others unrefused)) in
         let last = goes_paths before next s xs is_tree not_listed held (handles_same tree older missing rs own (flat_map granted_by here) ∙ handles)
-                (all_right (λ (rule : FittedPathRule). IsListed tree rule.parent) newest later listed) (all_right (λ rule. is_refused rule ≡ false) here others unrefused) in
+        (all_right (λ (rule : FittedPathRule). IsListed tree rule.parent) newest later listed) (all_right (λ rule. is_refused rule ≡ false) here others unrefused) in
         subst (λ (ops : List Op). Goes tree older (before ++ own ∷ []) s ops (before ++ with_granted tree own (flat_map granted_by (here ++ others)) ∷ []) s)
         (sym (map-append (best_path tree older missing rs) newest later))
         (subst (λ (after : Layer). Goes tree older (before ++ own ∷ []) s (map (best_path tree older missing rs) newest ++ map (best_path tree older missing rs) later)
@@ -128,7 +127,7 @@ module _ (tree : List Entry) (older newer : Abi) (le : number_of older ≤ numbe
     goes_port : (before : List Layer) (own : Layer) (s : State) (numbered : ℕ × PortRule) → s.held rs ≡ Some (length before) →
         own.handled_network ≡ handled_network older layer → AreFit older layer known numbered
         → Goes tree older (before ++ own ∷ []) s (map (best_port tree older missing rs) (fitted_port_rule newer layer numbered))
-            (before ++ with_ports own (fitted_port_rule older layer numbered) ∷ []) s
+        (before ++ with_ports own (fitted_port_rule older layer numbered) ∷ []) s
     unfolding fitted_port_rule rights_on_port
     goes_port before own s numbered held handles fits =
         let rule : PortRule = numbered.1 in
@@ -142,7 +141,7 @@ module _ (tree : List Entry) (older newer : Abi) (le : number_of older ≤ numbe
     goes_ports : (before : List Layer) (own : Layer) (s : State) (xs : List (ℕ × PortRule)) → s.held rs ≡ Some (length before) →
         own.handled_network ≡ handled_network older layer → All (AreFit older layer known) xs
         → Goes tree older (before ++ own ∷ []) s (map (best_port tree older missing rs) (flat_map (fitted_port_rule newer layer) xs))
-            (before ++ with_ports own (flat_map (fitted_port_rule older layer) xs) ∷ []) s
+        (before ++ with_ports own (flat_map (fitted_port_rule older layer) xs) ∷ []) s
     goes_ports before own s [] held handles fits = goes_none tree older (before ++ own ∷ []) s
     goes_ports before own s (numbered ∷ xs) held handles fits =
         let newest : List FittedPortRule = fitted_port_rule newer layer numbered in
@@ -247,7 +246,7 @@ module _ (tree : List Entry) (older newer : Abi) (le : number_of older ≤ numbe
       (files.is_empty (handled_files newer layer) && network.is_empty (handled_network newer layer)) ≡ false →
       s.held rs ≡ None → s.no_new_privs ≡ true → nat_le MOST_LAYERS (length s.domain) ≡ false
       → Goes tree older r s (map best (calls_of_layer (fitted_layer newer index layer))) (r ++ in_tree tree (rules_of (fitted_layer older index layer)) ∷ [])
-          (after_layer tree older missing rs s (length r) (in_tree tree (rules_of (fitted_layer older index layer))))
+      (after_layer tree older missing rs s (length r) (in_tree tree (rules_of (fitted_layer older index layer))))
   unfolding operation_of fitted_path_rules fitted_port_rules at_best_effort
   goes_layer r s index known known_on_ports fits is_tree not_listed listed unrefused some free unprivileged room =
       let empty : Layer = without_rules (handled_files older layer) (handled_network older layer) in
@@ -258,18 +257,18 @@ module _ (tree : List Entry) (older newer : Abi) (le : number_of older ≤ numbe
       let path_ops : List Op = map (best_path tree older missing rs) (fitted_path_rules newer layer) in
       let port_ops : List Op = map (best_port tree older missing rs) (fitted_port_rules newer layer) in
       let whole : Goes tree older r s (best_create ∷ (path_ops ++ port_ops ++ Restrict rs ∷ CloseRs rs ∷ [])) (r ++ full ∷ [])
-              (after_layer tree older missing rs s (length r) full) =
-          goes_on tree older _ _ _ s holding _ (best_create ∷ []) (path_ops ++ port_ops ++ Restrict rs ∷ CloseRs rs ∷ [])
-          (goes_create _ r s free known known_on_ports some refl)
-          (goes_on tree older _ _ _ holding holding _ (path_ops ++ port_ops) (Restrict rs ∷ CloseRs rs ∷ [])
-          (goes_on tree older _ _ _ holding holding holding path_ops port_ops
-          (goes_paths known r empty holding (enumerate_from 0 layer.path_rules) is_tree not_listed held refl listed unrefused)
-          (goes_ports known_on_ports r granted holding (enumerate_from 0 layer.port_rules) held
-          (network_same tree older missing rs empty (flat_map granted_by (fitted_path_rules older layer))) fits))
-          (goes_on tree older _ _ _ holding (with_layer holding (Some full)) _ (Restrict rs ∷ []) (CloseRs rs ∷ [])
-          (goes_one tree older _ _ holding _ (Restrict rs) Allowed (leads_restrict tree older missing rs r full holding held unprivileged room) refl)
-          (goes_one tree older _ _ _ _ (CloseRs rs) Allowed
-          (leads_close tree older missing rs (r ++ full ∷ []) (with_layer holding (Some full)) (length r) held) refl))) in
+      (after_layer tree older missing rs s (length r) full) =
+      goes_on tree older _ _ _ s holding _ (best_create ∷ []) (path_ops ++ port_ops ++ Restrict rs ∷ CloseRs rs ∷ [])
+      (goes_create _ r s free known known_on_ports some refl)
+      (goes_on tree older _ _ _ holding holding _ (path_ops ++ port_ops) (Restrict rs ∷ CloseRs rs ∷ [])
+      (goes_on tree older _ _ _ holding holding holding path_ops port_ops
+      (goes_paths known r empty holding (enumerate_from 0 layer.path_rules) is_tree not_listed held refl listed unrefused)
+      (goes_ports known_on_ports r granted holding (enumerate_from 0 layer.port_rules) held
+      (network_same tree older missing rs empty (flat_map granted_by (fitted_path_rules older layer))) fits))
+      (goes_on tree older _ _ _ holding (with_layer holding (Some full)) _ (Restrict rs ∷ []) (CloseRs rs ∷ [])
+      (goes_one tree older _ _ holding _ (Restrict rs) Allowed (leads_restrict tree older missing rs r full holding held unprivileged room) refl)
+      (goes_one tree older _ _ _ _ (CloseRs rs) Allowed
+      (leads_close tree older missing rs (r ++ full ∷ []) (with_layer holding (Some full)) (length r) held) refl))) in
       subst (λ (own : Layer). Goes tree older r s (map best (calls_of_layer (fitted_layer newer index layer))) (r ++ own ∷ [])
       (after_layer tree older missing rs s (length r) own)) (filled_is tree (fitted_layer older index layer))
       (subst (λ (ops : List Op). Goes tree older r s ops (r ++ full ∷ []) (after_layer tree older missing rs s (length r) full))

@@ -1,6 +1,6 @@
 -- A policy's calls for a newer version, made at best effort at an older one, give the layers of the older version.
 use Rattle.std.specs.Prelude.{option_map, get_or, find, nat_lt, ◌==◌}
-use Rattle.std.proofs.Common.{◌≡◌, ◌≢◌, ℕ, ◌+◌, ◌<◌, ◌≤◌, Bool, true, false, not, ◌&&◌, List, [], ◌∷◌, ◌++◌, map, filter, length, Option, Some, None, refl, sym, ap, ◌∙◌, arith, if◌then◌else◌, subst, inl, inr, All, nat_le}
+use Rattle.std.proofs.Common.{◌≡◌, ℕ, ◌+◌, ◌≤◌, Bool, true, false, not, ◌&&◌, List, [], ◌∷◌, ◌++◌, map, filter, length, Option, None, refl, sym, ap, ◌∙◌, arith, if◌then◌else◌, subst, inl, inr, All}
 use Rattle.std.specs.List.{flat_map, enumerate_from}
 use Rattle.std.proofs.lemmas.Bool.{cases_Bool, true≢false, false≢true}
 use Rattle.std.proofs.lemmas.List.{append-nil, append_assoc, map-append, length-append}
@@ -8,8 +8,6 @@ use Rattle.std.proofs.lemmas.List.Concat.{flat_map-append}
 use Rattle.std.proofs.lemmas.Option.{none-some}
 use Rattle.std.proofs.lemmas.List.Elements.{All-head, All-tail, All-cons, filter-append}
 use Rattle.ll_rights.specs.declared.abi.Abi.{Abi}
-use Rattle.ll_rights.specs.declared.fs.Fs.{Fs}
-use Rattle.ll_rights.specs.declared.net.Net.{Net}
 use Rattle.ll_rights.specs.Abis.{number_of}
 use Rattle.ll_rights.specs.Supported.{supported_fs, supported_net}
 use Rattle.ll_rights.specs.Rights as files
@@ -41,9 +39,9 @@ use Rattle.ll_fitting.proofs.Left.{all_none, all_if, all_flat, none_or, none_tol
 use Rattle.ll_enforcing.specs.declared.calls.Call.{Call}
 use Rattle.ll_enforcing.specs.declared.calls.Call.TheVariants as calls
 use Rattle.ll_enforcing.specs.Calls.{path_to, operation_of, calls_of_layer, calls_of}
-use Rattle.ll_enforcing.specs.Answered.{is_refusal, IsListed, IsNoObject, HasGained, MayEnforce, records_of, operations_of}
+use Rattle.ll_enforcing.specs.Answered.{is_refusal, IsListed, IsNoObject, HasGained, MayEnforce, records_of}
 use Rattle.ll_enforcing.specs.AtBestEffort.{taken_at, IsTheSame}
-use Rattle.ll_enforcing.proofs.Runs.{NoneStarts, judged_on, state_then_on, answers_on, state_on}
+use Rattle.ll_enforcing.proofs.Runs.{NoneStarts, judged_on, state_then_on}
 use Rattle.ll_enforcing.proofs.AllLayers.{after_layer, unprivileged, gained_more, has_room, ends, leads_nnp, map_twice}
 use Rattle.ll_enforcing.proofs.OlderRights.{within_nothing, supported_nothing, net_supported_nothing}
 use Rattle.ll_enforcing.proofs.OlderRules.{Goes, goes_none, goes_one, goes_on, all_left, all_right}
@@ -102,12 +100,16 @@ module _ (tree : List Entry) (older newer : Abi) (le : number_of older ≤ numbe
       length before.domain + length added + length (if none then [] else fitted_layer newer numbered.0 numbered.1 ∷ []) ≤ MOST_LAYERS → Fit numbered →
       All ListedIn (if none then [] else fitted_layer newer numbered.0 numbered.1 ∷ []) → All UnrefusedIn (fitted_if_any older numbered)
       → (end : State) × (Goes tree older r s (map (best_call) (flat_map calls_of_layer (if none then [] else fitted_layer newer numbered.0 numbered.1 ∷ [])))
-          (r ++ all_in_tree tree (map rules_of (if none then [] else fitted_layer older numbered.0 numbered.1 ∷ []))) end
-        × HasGained (added ++ all_in_tree tree (map rules_of (if none then [] else fitted_layer older numbered.0 numbered.1 ∷ []))) before end)
+      (r ++ all_in_tree tree (map rules_of (if none then [] else fitted_layer older numbered.0 numbered.1 ∷ []))) end
+      × HasGained (added ++ all_in_tree tree (map rules_of (if none then [] else fitted_layer older numbered.0 numbered.1 ∷ []))) before end)
   unfolding misfits.layer_misfit fitted_if_any
-  goes_if true r before s added numbered is_tree not_listed free gained is room fit there unrefused =
-      (s, (subst (λ (x : List Layer). Goes tree older r s [] x s) (sym (append-nil r)) (goes_none tree older r s),
-      subst (λ (x : List Layer). HasGained x before s) (sym (append-nil added)) gained))
+  goes_if true r before s added numbered is_tree not_listed free gained is room fit there unrefused = (
+    s,
+    (
+      subst (λ (x : List Layer). Goes tree older r s [] x s) (sym (append-nil r)) (goes_none tree older r s),
+      subst (λ (x : List Layer). HasGained x before s) (sym (append-nil added)) gained,
+    ),
+  )
   goes_if false r before s added numbered is_tree not_listed free gained is room fit there unrefused =
       let index : ℕ = numbered.0 in
       let layer : policies.Layer = numbered.1 in
@@ -115,20 +117,23 @@ module _ (tree : List Entry) (older newer : Abi) (le : number_of older ≤ numbe
       let parts = fits_if (misfits.knows_all layer) (misfits.handles_nothing layer) (wrong.UnknownRight index) (wrong.HandlesNothing index) _ fit in
       let names = named_alone (files.has (listed layer.handled_files) files.other) (network.has (listed_on_ports layer.handled_network) network.other) parts.0 in
       let tell : ℕ × Rattle.ll_fitting.specs.declared.written.PortRule.PortRule → Option Misfit =
-          λ one. option_map (λ misfit. wrong.PortRule index one.0 misfit) (misfits.port_rule_misfit layer one.1) in
+      λ one. option_map (λ misfit. wrong.PortRule index one.0 misfit) (misfits.port_rule_misfit layer one.1) in
       let rules = none_or (misfits.misfit_on_paths index layer) (misfits.misfit_on_ports index layer) parts.1 in
       let told = none_told tell (enumerate_from 0 layer.port_rules) rules.1 in
       let fits : All (AreFit older layer names.1) (enumerate_from 0 layer.port_rules) =
-          λ k d less. told_none (λ misfit. wrong.PortRule index (get_or (enumerate_from 0 layer.port_rules) k d).0 misfit) _ (told k d less) in
+      λ k d less. told_none (λ misfit. wrong.PortRule index (get_or (enumerate_from 0 layer.port_rules) k d).0 misfit) _ (told k d less) in
       let long : length s.domain ≡ length before.domain + length added = ap length gained.domain ∙ length-append before.domain added in
       let goes = goes_layer tree older newer le missing rs layer r s index names.0 names.1 fits is_tree not_listed
-              (All-head ListedIn (fitted_layer newer index layer) [] there)
-              (unrefused_by _ index layer names.0 refl unrefused) is (gained.held rs ∙ free) gained.no_new_privs
-              (has_room tree older missing rs (length s.domain) MOST_LAYERS (omega arith)) in
-      (after_layer tree older missing rs s (length r) own, (
-      subst (λ (cs : List Call). Goes tree older r s (map (best_call) cs) (r ++ own ∷ []) (after_layer tree older missing rs s (length r) own))
-      (sym (append-nil (calls_of_layer (fitted_layer newer index layer)))) goes,
-      gained_more tree older missing rs before s added (length r) own gained free))
+      (All-head ListedIn (fitted_layer newer index layer) [] there)
+      (unrefused_by _ index layer names.0 refl unrefused) is (gained.held rs ∙ free) gained.no_new_privs
+      (has_room tree older missing rs (length s.domain) MOST_LAYERS (omega arith)) in (
+        after_layer tree older missing rs s (length r) own,
+        (
+          subst (λ (cs : List Call). Goes tree older r s (map (best_call) cs) (r ++ own ∷ []) (after_layer tree older missing rs s (length r) own))
+              (sym (append-nil (calls_of_layer (fitted_layer newer index layer)))) goes,
+          gained_more tree older missing rs before s added (length r) own gained free,
+        ),
+      )
 
   -- ---- all layers
 
@@ -140,8 +145,8 @@ module _ (tree : List Entry) (older newer : Abi) (le : number_of older ≤ numbe
       length before.domain + length added + length (fitted_if_any newer numbered) ≤ MOST_LAYERS → Fit numbered →
       All ListedIn (fitted_if_any newer numbered) → All UnrefusedIn (fitted_if_any older numbered)
       → (end : State) × (Goes tree older r s (map best_call (flat_map calls_of_layer (fitted_if_any newer numbered)))
-          (r ++ all_in_tree tree (map rules_of (kept_if numbered))) end
-        × HasGained (added ++ all_in_tree tree (map rules_of (kept_if numbered))) before end)
+      (r ++ all_in_tree tree (map rules_of (kept_if numbered))) end
+      × HasGained (added ++ all_in_tree tree (map rules_of (kept_if numbered))) before end)
   unfolding fitted_if_any kept_if
   goes_head r before s added numbered is_tree not_listed free gained room fit there unrefused =
       goes_if (is_nothing newer numbered.1) r before s added numbered is_tree not_listed free gained refl room fit there unrefused
@@ -160,11 +165,15 @@ module _ (tree : List Entry) (older newer : Abi) (le : number_of older ≤ numbe
       length before.domain + length added + length (flat_map (fitted_if_any newer) xs) ≤ MOST_LAYERS → All Fit xs →
       All ListedIn (flat_map (fitted_if_any newer) xs) → All UnrefusedIn (flat_map (fitted_if_any older) xs)
       → (end : State) × (Goes tree older r s (map best_call (flat_map calls_of_layer (flat_map (fitted_if_any newer) xs)))
-          (r ++ all_in_tree tree (map rules_of (kept xs))) end
-        × HasGained (added ++ all_in_tree tree (map rules_of (kept xs))) before end)
-  goes_layers r before s added [] is_tree not_listed free gained room fit there unrefused =
-      (s, (subst (λ (x : List Layer). Goes tree older r s [] x s) (sym (append-nil r)) (goes_none tree older r s),
-      subst (λ (x : List Layer). HasGained x before s) (sym (append-nil added)) gained))
+      (r ++ all_in_tree tree (map rules_of (kept xs))) end
+      × HasGained (added ++ all_in_tree tree (map rules_of (kept xs))) before end)
+  goes_layers r before s added [] is_tree not_listed free gained room fit there unrefused = (
+    s,
+    (
+      subst (λ (x : List Layer). Goes tree older r s [] x s) (sym (append-nil r)) (goes_none tree older r s),
+      subst (λ (x : List Layer). HasGained x before s) (sym (append-nil added)) gained,
+    ),
+  )
   goes_layers r before s added (numbered ∷ xs) is_tree not_listed free gained room fit there unrefused =
       let newest : List Fitted = fitted_if_any newer numbered in
       let later : List Fitted = flat_map (fitted_if_any newer) xs in
@@ -174,18 +183,21 @@ module _ (tree : List Entry) (older newer : Abi) (le : number_of older ≤ numbe
       let own_size : length here ≡ length newest = length-kept numbered in
       let more : length (added ++ here) ≡ length added + length here = length-append added here in
       let first = goes_head r before s added numbered is_tree not_listed free gained (omega arith) (All-head Fit numbered xs fit)
-              (all_left ListedIn newest later there) (all_left UnrefusedIn (fitted_if_any older numbered) (flat_map (fitted_if_any older) xs) unrefused) in
+      (all_left ListedIn newest later there) (all_left UnrefusedIn (fitted_if_any older numbered) (flat_map (fitted_if_any older) xs) unrefused) in
       let last = goes_layers (r ++ here) before first.0 (added ++ here) xs is_tree not_listed free first.1.1 (omega arith) (All-tail Fit numbered xs fit)
-              (all_right ListedIn newest later there) (all_right UnrefusedIn (fitted_if_any older numbered) (flat_map (fitted_if_any older) xs) unrefused) in
+      (all_right ListedIn newest later there) (all_right UnrefusedIn (fitted_if_any older numbered) (flat_map (fitted_if_any older) xs) unrefused) in
       let whole = goes_on tree older _ _ _ s first.0 last.0 (map best_call (flat_map calls_of_layer newest)) (map best_call (flat_map calls_of_layer later)) first.1.0 last.1.0 in
       let joined : here ++ above ≡ all_in_tree tree (map rules_of (kept_if numbered ++ kept xs)) =
-          sym (ap (all_in_tree tree) (map-append rules_of (kept_if numbered) (kept xs)) ∙ map-append (in_tree tree) (map rules_of (kept_if numbered)) (map rules_of (kept xs))) in
-      (last.0,
-      (subst (λ (ops : List Op). Goes tree older r s ops (r ++ all_in_tree tree (map rules_of (kept_if numbered ++ kept xs))) last.0)
-      (sym (ap (map best_call) (flat_map-append calls_of_layer newest later) ∙ map-append best_call (flat_map calls_of_layer newest) (flat_map calls_of_layer later)))
-      (subst (λ (x : List Layer). Goes tree older r s (map best_call (flat_map calls_of_layer newest) ++ map best_call (flat_map calls_of_layer later)) x last.0)
-      (append_assoc r here above ∙ ap (λ (x : List Layer). r ++ x) joined) whole),
-      subst (λ (x : List Layer). HasGained x before last.0) (append_assoc added here above ∙ ap (λ (x : List Layer). added ++ x) joined) last.1.1))
+      sym (ap (all_in_tree tree) (map-append rules_of (kept_if numbered) (kept xs)) ∙ map-append (in_tree tree) (map rules_of (kept_if numbered)) (map rules_of (kept xs))) in (
+        last.0,
+        (
+          subst (λ (ops : List Op). Goes tree older r s ops (r ++ all_in_tree tree (map rules_of (kept_if numbered ++ kept xs))) last.0)
+              (sym (ap (map best_call) (flat_map-append calls_of_layer newest later) ∙ map-append best_call (flat_map calls_of_layer newest) (flat_map calls_of_layer later)))
+              (subst (λ (x : List Layer). Goes tree older r s (map best_call (flat_map calls_of_layer newest) ++ map best_call (flat_map calls_of_layer later)) x last.0)
+              (append_assoc r here above ∙ ap (λ (x : List Layer). r ++ x) joined) whole),
+          subst (λ (x : List Layer). HasGained x before last.0) (append_assoc added here above ∙ ap (λ (x : List Layer). added ++ x) joined) last.1.1,
+        ),
+      )
 
   -- ---- the layers that handle something
 
@@ -212,6 +224,7 @@ module _ (tree : List Entry) (older newer : Abi) (le : number_of older ≤ numbe
       both_parts : (a b : Bool) → (a && b) ≡ true → (a ≡ true) × (b ≡ true)
       both_parts true b is = (refl, is)
       both_parts false b is = absurd (cc)
+
       both : (a b : Bool) → a ≡ true → b ≡ true → (a && b) ≡ true
       both true b is other = other
       both false b is other = absurd (cc)
@@ -273,17 +286,17 @@ module _ (tree : List Entry) (older newer : Abi) (le : number_of older ≤ numbe
       let s : State = w.processes process in
       let numbered : List (ℕ × policies.Layer) = enumerate_from 0 policy in
       let fit : All Fit numbered =
-          none_told misfits.layer_misfit numbered (fits_in (length policy == 0) (nat_lt MOST_OF_POLICY (length policy)) wrong.NoLayer wrong.TooManyLayers _ fits) in
+      none_told misfits.layer_misfit numbered (fits_in (length policy == 0) (nat_lt MOST_OF_POLICY (length policy)) wrong.NoLayer wrong.TooManyLayers _ fits) in
       let gained : HasGained [] s (unprivileged tree older missing rs s) =
-          record { domain = sym (append-nil s.domain); no_new_privs = refl; admin = refl; held = λ q. refl; descriptors = refl } in
+      record { domain = sym (append-nil s.domain); no_new_privs = refl; admin = refl; held = λ q. refl; descriptors = refl } in
       let all = goes_layers w.rulesets s (unprivileged tree older missing rs s) [] numbered may.is_tree may.not_listed may.free gained
-              (let room : length s.domain + length (fitted newer policy) ≤ MOST_LAYERS = may.room in omega arith) fit may.listed
-              (all_unrefused (fitted older policy) taken) in
+      (let room : length s.domain + length (fitted newer policy) ≤ MOST_LAYERS = may.room in omega arith) fit may.listed
+      (all_unrefused (fitted older policy) taken) in
       let made : List Call = calls.NoNewPrivs ∷ flat_map calls_of_layer (fitted newer policy) in
       let ops : List Op = map best_call made in
       let whole : Goes tree older w.rulesets s ops _ all.0 =
-          goes_on tree older _ _ _ s (unprivileged tree older missing rs s) all.0 (Nnp ∷ []) (map best_call (flat_map calls_of_layer (fitted newer policy)))
-          (goes_one tree older _ _ s _ Nnp Allowed (leads_nnp tree older missing rs w.rulesets s) refl) all.1.0 in
+      goes_on tree older _ _ _ s (unprivileged tree older missing rs s) all.0 (Nnp ∷ []) (map best_call (flat_map calls_of_layer (fitted newer policy)))
+      (goes_one tree older _ _ s _ Nnp Allowed (leads_nnp tree older missing rs w.rulesets s) refl) all.1.0 in
       let end = ends tree older missing rs _ _ s all.0 ops whole.answers whole.leads in
       let same : ops ≡ taken_at tree missing rs older newer policy = sym (map_twice (at_best_effort older) (operation_of tree missing rs) made) in
       record {

@@ -1,31 +1,29 @@
 -- The rights that an older version leaves of a rule, and what best effort takes out of those that a newer one left.
-use Rattle.std.proofs.Common.{◌≡◌, ◌≢◌, ℕ, ◌<◌, ◌≤◌, Bool, true, false, not, ◌&&◌, ◌||◌, List, [], ◌∷◌, length, get_or, refl, sym, ap, ◌∙◌, arith, if◌then◌else◌, suc, zero, subst, inl, inr, ◌⊎◌, lit≤, eqb, bit_and}
-use Rattle.std.specs.List.{list_all, list_any}
+use Rattle.std.proofs.Common.{◌≡◌, ℕ, ◌<◌, ◌≤◌, Bool, true, false, not, ◌&&◌, ◌||◌, List, [], ◌∷◌, length, get_or, refl, sym, ap, ◌∙◌, arith, if◌then◌else◌, suc, zero, subst, inl, inr, ◌⊎◌, lit≤, bit_and}
+use Rattle.std.specs.List.{list_all}
 use Rattle.std.specs.Int.Bits.{and_zero_r}
-use Rattle.std.proofs.lemmas.Bool.{cases_Bool, eqb-true, eq-eqb, true≢false, false≢true}
+use Rattle.std.proofs.lemmas.Bool.{eqb-true, eq-eqb, true≢false}
 use Rattle.ll_rights.specs.declared.abi.Abi.{Abi}
 use Rattle.ll_rights.specs.declared.fs.Fs.{Fs}
 use Rattle.ll_rights.specs.declared.net.Net.{Net}
-use Rattle.ll_rights.specs.declared.kind.Kind.{Kind}
 use Rattle.ll_rights.specs.Abis.{number_of}
 use Rattle.ll_rights.specs.Supported.{supported_fs, supported_net}
 use Rattle.ll_rights.specs.Rights as files
 use Rattle.ll_rights.specs.NetRights as network
 use Rattle.ll_rights.proofs.Bitwise.{any_none, zero_bit}
 use Rattle.ll_rights.proofs.Sets.{fs_table, fs_is_empty, net_is_empty, fs_is_within}
-use Rattle.ll_rights.proofs.Supported.{fs_has-supported, net_has-supported, fs_supported-older, net_supported-older}
+use Rattle.ll_rights.proofs.Supported.{fs_has-supported, net_has-supported, fs_supported-older}
 use Rattle.ll_tree.specs.Trees.{is_dir}
 use Rattle.ll_rules.specs.Rulesets.{are_file_rights}
 use Rattle.ll_fitting.specs.declared.written.PathRule.{PathRule}
-use Rattle.ll_fitting.specs.declared.written.PortRule.{PortRule}
 use Rattle.ll_fitting.specs.declared.written.Parent.{Parent}
 use Rattle.ll_fitting.specs.declared.written.Parent.TheVariants.{There, Missing}
 use Rattle.ll_fitting.specs.Written.{Layer, listed, listed_for_files, common}
-use Rattle.ll_fitting.specs.Fitting.{left_of, or_whole, rights_on_kind, rights_at, rights_on_port, handled_files, handled_network}
+use Rattle.ll_fitting.specs.Fitting.{left_of, or_whole, rights_on_kind, rights_at}
 use Rattle.ll_fitting.specs.Taken.{is_refused_on}
 use Rattle.ll_fitting.specs.ByRight.{lists, lists_for_files, is_left}
 use Rattle.ll_fitting.proofs.Left.{false_and}
-use Rattle.ll_fitting.proofs.RightByRight.{left_by_right, listed_by_right, listed_for_files_by_right, other_kind}
+use Rattle.ll_fitting.proofs.RightByRight.{left_by_right, listed_by_right, listed_for_files_by_right}
 
 -- ---- sets, right by right
 
@@ -99,15 +97,15 @@ module _ (older newer : Abi) (le : number_of older ≤ number_of newer) (layer :
   whole_empty rule none all =
       let whole : Fs = left_of older layer (listed rule.allowed) in
       no_right_has whole (λ right.
-        let is : files.has whole right ≡ (lists rule.allowed right && is_left older layer right) =
-                left_by_right older layer (listed rule.allowed) right known ∙ ap (λ (b : Bool). b && is_left older layer right) (listed_by_right rule.allowed right) in
-        let for_files : files.has (left_of older layer (listed_for_files rule.allowed)) right ≡ (lists_for_files rule.allowed right && is_left older layer right) =
-                left_by_right older layer (listed_for_files rule.allowed) right known
-                ∙ ap (λ (b : Bool). b && is_left older layer right) (listed_for_files_by_right rule.allowed right) in
-        let applies = each_right (λ r. not (files.has whole r) || files.is_file_right r) all right in
-        is ∙ no_such_right (files.has rule.allowed.named right) (files.has rule.allowed.grouped right) (files.is_file_right right) (is_left older layer right)
-        (ap (λ (b : Bool). not b || files.is_file_right right) (sym is) ∙ applies)
-        (sym for_files ∙ has_none (left_of older layer (listed_for_files rule.allowed)) right none))
+      let is : files.has whole right ≡ (lists rule.allowed right && is_left older layer right) =
+      left_by_right older layer (listed rule.allowed) right known ∙ ap (λ (b : Bool). b && is_left older layer right) (listed_by_right rule.allowed right) in
+      let for_files : files.has (left_of older layer (listed_for_files rule.allowed)) right ≡ (lists_for_files rule.allowed right && is_left older layer right) =
+      left_by_right older layer (listed_for_files rule.allowed) right known
+      ∙ ap (λ (b : Bool). b && is_left older layer right) (listed_for_files_by_right rule.allowed right) in
+      let applies = each_right (λ r. not (files.has whole r) || files.is_file_right r) all right in
+      is ∙ no_such_right (files.has rule.allowed.named right) (files.has rule.allowed.grouped right) (files.is_file_right right) (is_left older layer right)
+      (ap (λ (b : Bool). not b || files.is_file_right right) (sym is) ∙ applies)
+      (sym for_files ∙ has_none (left_of older layer (listed_for_files rule.allowed)) right none))
 
   all_of_files : (b : Bool) → not b ≡ false → b ≡ true
   all_of_files true is = refl
@@ -132,18 +130,18 @@ module _ (older newer : Abi) (le : number_of older ≤ number_of newer) (layer :
 
   keeps_file : (rule : PathRule) → not (are_file_rights (or_whole rule.included (left_of older layer (listed_for_files rule.allowed)) (left_of older layer (listed rule.allowed)))) ≡ false
       → Keeps older (or_whole rule.included (left_of newer layer (listed_for_files rule.allowed)) (left_of newer layer (listed rule.allowed)))
-          (or_whole rule.included (left_of older layer (listed_for_files rule.allowed)) (left_of older layer (listed rule.allowed)))
+      (or_whole rule.included (left_of older layer (listed_for_files rule.allowed)) (left_of older layer (listed rule.allowed)))
   keeps_file rule taken =
       keeps_if rule.included _ _ (left_of newer layer (listed_for_files rule.allowed)) (left_of newer layer (listed rule.allowed))
       (left_of older layer (listed_for_files rule.allowed)) (left_of older layer (listed rule.allowed)) refl refl
       (older_left (listed_for_files rule.allowed)) (older_left (listed rule.allowed)) (whole_empty rule) taken
 
   keeps_kind : (b : Bool) (rule : PathRule) → (not b && not (are_file_rights (if b then left_of older layer (listed rule.allowed)
-          else or_whole rule.included (left_of older layer (listed_for_files rule.allowed)) (left_of older layer (listed rule.allowed))))) ≡ false
+      else or_whole rule.included (left_of older layer (listed_for_files rule.allowed)) (left_of older layer (listed rule.allowed))))) ≡ false
       → Keeps older (if b then left_of newer layer (listed rule.allowed)
-          else or_whole rule.included (left_of newer layer (listed_for_files rule.allowed)) (left_of newer layer (listed rule.allowed)))
-          (if b then left_of older layer (listed rule.allowed)
-          else or_whole rule.included (left_of older layer (listed_for_files rule.allowed)) (left_of older layer (listed rule.allowed)))
+      else or_whole rule.included (left_of newer layer (listed_for_files rule.allowed)) (left_of newer layer (listed rule.allowed)))
+      (if b then left_of older layer (listed rule.allowed)
+      else or_whole rule.included (left_of older layer (listed_for_files rule.allowed)) (left_of older layer (listed rule.allowed)))
   keeps_kind true rule taken = inl (older_left (listed rule.allowed))
   keeps_kind false rule taken = keeps_file rule taken
 

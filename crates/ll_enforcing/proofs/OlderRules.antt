@@ -1,46 +1,37 @@
 -- What the rules of a layer do that were left at a newer version and are made at best effort at an older one.
-use Rattle.std.proofs.Common.{◌≡◌, ℕ, ◌+◌, ◌<◌, ◌≤◌, Bool, true, false, not, ◌&&◌, ◌||◌, List, [], ◌∷◌, ◌++◌, map, length, get_or, Option, Some, None, refl, sym, ap, ◌∙◌, arith, if◌then◌else◌, subst, inl, inr, ◌⊎◌, All}
-use Rattle.std.specs.List.{flat_map, list_all}
-use Rattle.std.proofs.lemmas.Bool.{cases_Bool, true≢false, false≢true}
-use Rattle.std.proofs.lemmas.List.{append-nil, map-append, length-append, get_or_append_left, get_or-append-add}
-use Rattle.std.proofs.lemmas.List.Concat.{flat_map-append}
-use Rattle.std.proofs.lemmas.List.Elements.{All-head, All-tail, All-cons, All-append}
+use Rattle.std.proofs.Common.{◌≡◌, ℕ, ◌+◌, Bool, true, false, not, ◌&&◌, ◌||◌, List, [], ◌∷◌, ◌++◌, map, length, Some, refl, sym, ap, ◌∙◌, arith, if◌then◌else◌, subst, inl, inr, All}
+use Rattle.std.specs.List.{flat_map}
+use Rattle.std.proofs.lemmas.Bool.{true≢false, false≢true}
+use Rattle.std.proofs.lemmas.List.{append-nil, length-append, get_or_append_left, get_or-append-add}
+use Rattle.std.proofs.lemmas.List.Elements.{All-cons, All-append}
 use Rattle.ll_rights.specs.declared.abi.Abi.{Abi}
 use Rattle.ll_rights.specs.declared.fs.Fs.{Fs}
 use Rattle.ll_rights.specs.declared.net.Net.{Net}
-use Rattle.ll_rights.specs.Abis.{number_of}
 use Rattle.ll_rights.specs.Supported.{supported_fs, supported_net}
 use Rattle.ll_rights.specs.Rights as files
 use Rattle.ll_rights.specs.NetRights as network
 use Rattle.ll_rights.proofs.Bitwise.{all_each}
-use Rattle.ll_rights.proofs.Supported.{net_supported-older}
 use Rattle.ll_tree.specs.Trees.{Entry, place, is_dir}
 use Rattle.ll_tree.specs.TreeFacts.{IsTree}
-use Rattle.ll_rules.specs.Rulesets.{are_file_rights}
 use Rattle.ll_trace.specs.declared.op.Op.{Op}
 use Rattle.ll_trace.specs.declared.op.Op.TheVariants.{AddPath, AddPort, LeaveOutPath, LeaveOutPort}
 use Rattle.ll_trace.specs.BestEffort.{at_best_effort}
 use Rattle.ll_semantics.specs.declared.answer.Answer.{Answer}
-use Rattle.ll_semantics.specs.declared.answer.Answer.TheVariants.{Allowed, Moot, Refused}
+use Rattle.ll_semantics.specs.declared.answer.Answer.TheVariants.{Allowed, Moot}
 use Rattle.ll_semantics.specs.States.{State, Layer}
-use Rattle.ll_semantics.specs.Answers.{answer, fails}
-use Rattle.ll_fitting.specs.declared.written.PathRule.{PathRule}
-use Rattle.ll_fitting.specs.declared.written.PortRule.{PortRule}
+use Rattle.ll_semantics.specs.Answers.{answer}
 use Rattle.ll_fitting.specs.declared.written.Parent.{Parent}
 use Rattle.ll_fitting.specs.declared.written.Parent.TheVariants.{There, Missing}
 use Rattle.ll_fitting.specs.declared.fitting.FittedPathRule.{FittedPathRule}
 use Rattle.ll_fitting.specs.declared.fitting.FittedPortRule.{FittedPortRule}
-use Rattle.ll_fitting.specs.Written as policies
-use Rattle.ll_fitting.specs.Written.{listed, listed_on_ports, common_on_ports}
-use Rattle.ll_fitting.specs.Fitting.{left_rule, left_port_rule, rights_at, rights_on, rights_on_port, fitted_path_rule, fitted_port_rule, handled_files, handled_network}
-use Rattle.ll_fitting.specs.Taken.{is_refused_on, is_refused, granted_by}
-use Rattle.ll_fitting.proofs.Left.{on_within, port_valid, AreFit}
+use Rattle.ll_fitting.specs.Fitting.{left_rule}
+use Rattle.ll_fitting.specs.Taken.{is_refused_on, granted_by}
 use Rattle.ll_enforcing.specs.Calls.{path_to}
 use Rattle.ll_enforcing.specs.Answered.{answer_on, is_refusal, IsListed, IsNoObject}
 use Rattle.ll_enforcing.proofs.Runs.{Leads, leads_none, leads_on, leads_moot}
-use Rattle.ll_enforcing.proofs.OneLayer.{with_granted, with_granted-append, with_ports, path_operation, port_operation, IsAskedOfPort, leads_path, leads_port}
+use Rattle.ll_enforcing.proofs.OneLayer.{with_granted, with_ports, path_operation, port_operation, IsAskedOfPort, leads_path, leads_port}
 use Rattle.ll_enforcing.proofs.Refusing.{refused_on}
-use Rattle.ll_enforcing.proofs.OlderRights.{Keeps, keeps, has_none, supported_nothing}
+use Rattle.ll_enforcing.proofs.OlderRights.{Keeps, has_none, supported_nothing}
 
 -- ---- operations of which none is refused
 
@@ -145,8 +136,8 @@ module _ (tree : List Entry) (older : Abi) (missing : List ℕ) (rs : ℕ) where
       → IsTree tree → IsNoObject (place tree missing) → s.held rs ≡ Some (length before) → IsSame layer parent newer_rights rights →
       files.is_empty newer_rights ≡ none_newer → files.is_empty (supported_fs older newer_rights) ≡ none_supported → files.is_empty rights ≡ none
       → Goes tree older (before ++ layer ∷ []) s
-          (map best_path (if none_newer then [] else record { rule = index; parent = parent; rights = newer_rights } ∷ []))
-          (before ++ with_granted tree layer (flat_map granted_by (if none then [] else record { rule = index; parent = parent; rights = rights } ∷ [])) ∷ []) s
+      (map best_path (if none_newer then [] else record { rule = index; parent = parent; rights = newer_rights } ∷ []))
+      (before ++ with_granted tree layer (flat_map granted_by (if none then [] else record { rule = index; parent = parent; rights = rights } ∷ [])) ∷ []) s
   unfolding granted_by
   goes_by true b true before layer s index parent p q is_tree not_listed held same is_newer is_supported is = goes_none tree older (before ++ layer ∷ []) s
   goes_by true b false before layer s index parent p q is_tree not_listed held same is_newer is_supported is =
@@ -171,7 +162,7 @@ module _ (tree : List Entry) (older : Abi) (missing : List ℕ) (rs : ℕ) where
   pub goes_rule : (before : List Layer) (layer : Layer) (s : State) (index : ℕ) (parent : Parent) (newer_rights rights : Fs) → IsTree tree →
       IsNoObject (place tree missing) → s.held rs ≡ Some (length before) → IsSame layer parent newer_rights rights
       → Goes tree older (before ++ layer ∷ []) s (map best_path (left_rule index parent newer_rights))
-          (before ++ with_granted tree layer (flat_map granted_by (left_rule index parent rights)) ∷ []) s
+      (before ++ with_granted tree layer (flat_map granted_by (left_rule index parent rights)) ∷ []) s
   goes_rule before layer s index parent p q is_tree not_listed held same =
       goes_by _ _ _ before layer s index parent p q is_tree not_listed held same refl refl refl
 
@@ -199,7 +190,7 @@ module _ (tree : List Entry) (older : Abi) (missing : List ℕ) (rs : ℕ) where
       (none ≡ false → IsAskedOfPort tree older missing rs layer.handled_network (record { rule = index; port = port; rights = rights })) →
       network.is_empty newer_rights ≡ none_newer → network.is_empty rights ≡ none → (none_newer ≡ true → none ≡ true)
       → Goes tree older (before ++ layer ∷ []) s (map best_port (if none_newer then [] else record { rule = index; port = port; rights = newer_rights } ∷ []))
-          (before ++ with_ports layer (if none then [] else record { rule = index; port = port; rights = rights } ∷ []) ∷ []) s
+      (before ++ with_ports layer (if none then [] else record { rule = index; port = port; rights = rights } ∷ []) ∷ []) s
   goes_port_by true true before layer s index port p q held same asked is_newer is empty = goes_none tree older (before ++ layer ∷ []) s
   goes_port_by true false before layer s index port p q held same asked is_newer is empty = absurd (false≢true (empty refl))
   goes_port_by false true before layer s index port p q held same asked is_newer is empty =

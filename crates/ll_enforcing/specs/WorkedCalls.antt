@@ -2,7 +2,7 @@
 -- Source: the tree is that of docs/FORMATS.md, "The tree file".
 use Rattle.std.specs.Prelude.{ℕ, List, [], ◌∷◌, codes, false}
 use Rattle.ll_rights.specs.declared.abi.Abi.TheVariants.{V4}
-use Rattle.ll_rights.specs.Rights.{read_file, read_dir, write_file}
+use Rattle.ll_rights.specs.Rights.{read_file, read_dir, write_file, make_reg, truncate}
 use Rattle.ll_rights.specs.NetRights.{connect_tcp}
 use Rattle.ll_rules.specs.WorkedRules.{these, these_on_ports}
 use Rattle.ll_tree.specs.WorkedTree.{worked_tree}
@@ -54,3 +54,13 @@ small_operations =
 abbrev pub confined : List Record
 confined =
     records_of 0 (operations.Start false false ∷ operations_of worked_tree nowhere 3 (fitted V4 small))
+
+-- ---- a rule that best effort leaves out at version 1, and that the kernel refuses if it is fitted to this version: all that the
+-- rule names is newer, and all else that it lists is for directories
+
+abbrev pub newer_on_a_file : List Layer
+newer_on_a_file = layer (lists (truncate ∷ make_reg ∷ []) []) (lists_on_ports []) (on (lists (truncate ∷ []) (make_reg ∷ [])) (file 6) ∷ []) [] ∷ []
+
+abbrev pub left_out : List Op
+left_out =
+    operations.Nnp ∷ operations.Create 3 (these (make_reg ∷ [])) (these_on_ports []) ∷ operations.LeaveOutPath (codes "/b/g") ∷ operations.Restrict 3 ∷ operations.CloseRs 3 ∷ []

@@ -1,15 +1,17 @@
 //! What the calls for a small policy are, and what they are answered.
-#![tactic(auto, unfolding(ll_semantics::specs::WorkedWords::judging, ll_fitting::specs::WorkedPolicies::fitting, crate::specs::Calls::calls_of, crate::specs::Calls::calls_of_layer, crate::specs::Calls::operation_of, crate::specs::Answered::answer_of, ll_lines::specs::Paths::text_of))]
+#![tactic(auto, unfolding(ll_semantics::specs::WorkedWords::judging, ll_fitting::specs::WorkedPolicies::fitting, crate::specs::Calls::calls_of, crate::specs::Calls::calls_of_layer, crate::specs::Calls::operation_of, crate::specs::Answered::answer_of, ll_trace::specs::BestEffort::at_best_effort, ll_lines::specs::Paths::text_of))]
 
-ghost use Rattle.std.specs.Prelude.{◌≡◌, [], ◌∷◌};
-ghost use Rattle.ll_rights.specs.declared.abi.Abi.TheVariants.{V4};
+ghost use Rattle.std.specs.Prelude.{◌≡◌, [], ◌∷◌, Some, None};
+ghost use Rattle.ll_rights.specs.declared.abi.Abi.TheVariants.{V1, V4, V5};
 ghost use Rattle.ll_tree.specs.WorkedTree.{worked_tree};
 ghost use Rattle.ll_rules.specs.declared.errno.Errno.TheVariants.{Inval};
 ghost use Rattle.ll_semantics.specs.declared.answer.Answer.TheVariants.{Allowed, Moot, Refused};
 ghost use Rattle.ll_semantics.specs.Worlds.{judged};
 ghost use Rattle.ll_fitting.specs.Fitting.{fitted};
 ghost use Rattle.ll_enforcing.specs.Answered.{operations_of};
-ghost use Rattle.ll_enforcing.specs.WorkedCalls.{small, small_operations, nowhere, confined};
+ghost use Rattle.ll_enforcing.specs.AtBestEffort.{taken_at};
+ghost use Rattle.ll_fitting.specs.Taken.{first_refused};
+ghost use Rattle.ll_enforcing.specs.WorkedCalls.{small, small_operations, nowhere, confined, newer_on_a_file, left_out};
 
 /// Two layers: a group on a file is masked, a rule on a missing object is moot, and a rule that only a directory can
 /// have is refused on a file.
@@ -18,4 +20,14 @@ pub fn worked_calls()
     ensures answers { judged worked_tree V4 confined ≡ Allowed ∷ Allowed ∷ Allowed ∷ Allowed
         ∷ Allowed ∷ Moot ∷ Refused Inval [] ∷ Allowed ∷ Allowed ∷ Allowed ∷ Allowed ∷ Allowed
         ∷ Allowed ∷ [] }
+{}
+
+/// A rule that names only rights that an older version doesn't know, and lists others that only directories can have:
+/// on a file, best effort leaves it out there, and the kernel refuses what is fitted to that version. So the law of
+/// best effort asks that no rule is refused.
+pub fn worked_difference()
+    ensures left_out { taken_at worked_tree nowhere 3 V1 V5 newer_on_a_file ≡ left_out }
+    ensures refused { first_refused (fitted V1 newer_on_a_file)
+        ≡ Some (record { layer = 0; rule = 0 }) }
+    ensures newer { first_refused (fitted V5 newer_on_a_file) ≡ None }
 {}
