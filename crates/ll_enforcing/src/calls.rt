@@ -93,7 +93,7 @@ fn add_layer(calls: &mut Vec<Call>, left: &FittedLayer) -> Result<(), AllocError
 
 /// The calls that put layers in force, the oldest layer first.
 #[tactic(auto, unfolding(crate::specs::Calls::calls_of))]
-pub fn calls_of(alloc: Global, layers: &[FittedLayer]) -> Result<Vec<Call>, AllocError>
+fn calls_of(alloc: Global, layers: &[FittedLayer]) -> Result<Vec<Call>, AllocError>
     ensures { IfOk result (λ calls. calls.items ≡ calls_of (map shown layers.now)) }
 {
     let mut calls = Vec::new(alloc);

@@ -5,6 +5,6 @@ mod calls;
 mod laws;
 mod worked;
 
-pub use calls::{Call, calls_of, enforce};
+pub use calls::{Call, enforce};
 pub use laws::{best_effort_gives_the_same_layers, the_first_refused_rule_is_named};
 pub use worked::{worked_calls, worked_difference};

@@ -12,7 +12,6 @@ mod written;
 pub use fitting::{FittedLayer, FittedPathRule, FittedPortRule};
 pub use laws::{rules_ask_right_by_right, what_is_left_is_valid};
 pub use policy::{MOST_LAYERS, Misfit, Policy, RuleMisfit};
-pub use refusing::{RefusedRule, first_refused, is_refused};
-pub use rights::{rights_on, rights_on_port};
+pub use refusing::{RefusedRule, first_refused};
 pub use worked::{worked_misfits, worked_rules, worked_versions};
 pub use written::{FileAccess, Layer, Parent, PathRule, PortAccess, PortRule, Scopes};

@@ -27,7 +27,7 @@ fn are_for_files(rights: Fs) -> bool
 
 /// Whether the kernel refuses a rule (landlock_add_rule(2), `EINVAL`).
 #[tactic(auto, unfolding(crate::specs::Taken::is_refused))]
-pub fn is_refused(rule: FittedPathRule) -> bool
+fn is_refused(rule: FittedPathRule) -> bool
     ensures { result ≡ is_refused rule }
 {
     match rule.parent {

@@ -81,7 +81,7 @@ fn rights_on_kind(layer: &Layer, abi: Abi, rule: PathRule, kind: Kind) -> Fs
 
 /// The rights that a rule asks for on its parent at a version: none if it is left out.
 #[tactic(auto, unfolding(crate::specs::Fitting::rights_on))]
-pub fn rights_on(layer: &Layer, abi: Abi, rule: PathRule) -> Fs
+pub(crate) fn rights_on(layer: &Layer, abi: Abi, rule: PathRule) -> Fs
     ensures { result ≡ fitted.rights_on abi (written layer.now) rule }
 {
     match rule.parent {
@@ -93,7 +93,7 @@ pub fn rights_on(layer: &Layer, abi: Abi, rule: PathRule) -> Fs
 
 /// The rights that a rule asks for on its port at a version: none if it is left out.
 #[tactic(auto, unfolding(crate::specs::Fitting::rights_on_port))]
-pub fn rights_on_port(layer: &Layer, abi: Abi, rule: PortRule) -> Net
+pub(crate) fn rights_on_port(layer: &Layer, abi: Abi, rule: PortRule) -> Net
     ensures { result ≡ fitted.rights_on_port abi (written layer.now) rule }
 {
     let handled = listed_on_ports(layer.handled_network);
