@@ -3,6 +3,7 @@
 mod examples;
 mod gates;
 mod judging;
+mod policies;
 mod reading;
 mod rules;
 mod runs;
