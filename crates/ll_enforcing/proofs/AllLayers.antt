@@ -1,5 +1,6 @@
 -- What the calls for all layers do.
-use Rattle.std.proofs.Common.{◌≡◌, ℕ, ◌+◌, ◌<◌, ◌≤◌, true, false, List, [], ◌∷◌, ◌++◌, map, reverse, length, Option, Some, None, refl, sym, ap, ◌∙◌, arith, nat_le, nat_eq, All, subst, inl, inr}
+use Rattle.std.proofs.Common.{◌≡◌, ℕ, ◌+◌, ◌<◌, ◌≤◌, true, false, List, [], ◌∷◌, ◌++◌, map, reverse, length, Option, Some, None, refl, sym, ap, ◌∙◌, arith}
+use Rattle.std.proofs.Common.{nat_le, nat_eq, All, subst, inl, inr}
 use Rattle.std.specs.Map.{update}
 use Rattle.std.specs.List.{flat_map}
 use Rattle.std.proofs.lemmas.List.{append_assoc, append-nil, length-append, map-append, reverse-append}
@@ -32,7 +33,8 @@ use Rattle.ll_enforcing.specs.declared.calls.Call.TheVariants as calls
 use Rattle.ll_enforcing.specs.Calls.{calls_of_layer, calls_of, operation_of, of_path_rules, of_port_rules}
 use Rattle.ll_enforcing.specs.Answered.{answer_of, answer_on, IsNoObject, HasGained, MayEnforce, IsEnforced}
 use Rattle.ll_enforcing.proofs.Runs.{Leads, leads_none, leads_on, leads_allowed, answers_on, state_on, NoneStarts, judged_on, state_then_on, others_kept}
-use Rattle.ll_enforcing.proofs.OneLayer.{with_granted, with_ports, IsSound, IsAskedOfPort, network_same, leads_create, leads_paths, leads_ports, leads_restrict, leads_close, path_operation, port_operation}
+use Rattle.ll_enforcing.proofs.OneLayer.{with_granted, with_ports, IsSound, IsAskedOfPort, network_same, leads_create, leads_paths, leads_ports}
+use Rattle.ll_enforcing.proofs.OneLayer.{leads_restrict, leads_close, path_operation, port_operation}
 
 -- ---- a layer's rules, all at once
 
@@ -104,7 +106,8 @@ module _ (tree : List Entry) (abi : Abi) (missing : List ℕ) (rs : ℕ) where
 
   leads_layer : (r : List Layer) (s : State) (left : Fitted) → IsTree tree → IsNoObject (place tree missing) → IsSound tree abi missing rs left →
       s.held rs ≡ None → s.no_new_privs ≡ true → nat_le MOST_LAYERS (length s.domain) ≡ false
-      → Leads tree abi r s (map (operation_of tree missing rs) (calls_of_layer left)) (map answer_of (calls_of_layer left)) (r ++ in_tree tree (rules_of left) ∷ [])
+      → Leads tree abi r s (map (operation_of tree missing rs) (calls_of_layer left)) (map answer_of (calls_of_layer left))
+      (r ++ in_tree tree (rules_of left) ∷ [])
       (after_layer s (length r) (in_tree tree (rules_of left)))
   unfolding operation_of answer_of
   leads_layer r s left is_tree not_listed sound free unprivileged room =
@@ -135,7 +138,8 @@ module _ (tree : List Entry) (abi : Abi) (missing : List ℕ) (rs : ℕ) where
       (r ++ layer ∷ []) (after_layer s (length r) layer)) (filled_is tree left)
       (subst (λ (ops : List Op). Leads tree abi r s ops (map answer_of (calls_of_layer left)) (r ++ full ∷ []) (after_layer s (length r) full))
       (sym (mapped (operation_of tree missing rs) left))
-      (subst (λ (answers : List Answer). Leads tree abi r s (Create rs left.files left.network ∷ (path_ops ++ port_ops ++ Restrict rs ∷ CloseRs rs ∷ [])) answers
+      (subst (λ (answers : List Answer). Leads tree abi r s
+      (Create rs left.files left.network ∷ (path_ops ++ port_ops ++ Restrict rs ∷ CloseRs rs ∷ [])) answers
       (r ++ full ∷ []) (after_layer s (length r) full)) (sym (mapped answer_of left)) whole))
 
   -- ---- all layers

@@ -1,5 +1,6 @@
 -- What the calls do for a layer that was left at a newer version and is made at best effort at an older one.
-use Rattle.std.proofs.Common.{◌≡◌, ℕ, ◌≤◌, Bool, true, false, not, ◌&&◌, List, [], ◌∷◌, ◌++◌, map, length, Option, Some, None, refl, sym, ap, ◌∙◌, if◌then◌else◌, subst, All, nat_le}
+use Rattle.std.proofs.Common.{◌≡◌, ℕ, ◌≤◌, Bool, true, false, not, ◌&&◌, List, [], ◌∷◌, ◌++◌, map, length, Option, Some, None, refl, sym, ap, ◌∙◌}
+use Rattle.std.proofs.Common.{if◌then◌else◌, subst, All, nat_le}
 use Rattle.std.specs.List.{flat_map, enumerate_from}
 use Rattle.std.proofs.lemmas.Bool.{true≢false, eq-eqb}
 use Rattle.std.proofs.lemmas.List.{map-append}
@@ -33,28 +34,33 @@ use Rattle.ll_fitting.specs.declared.fitting.FittedPathRule.{FittedPathRule}
 use Rattle.ll_fitting.specs.declared.fitting.FittedPortRule.{FittedPortRule}
 use Rattle.ll_fitting.specs.Written as policies
 use Rattle.ll_fitting.specs.Written.{listed, listed_on_ports, common_on_ports}
-use Rattle.ll_fitting.specs.Fitting.{rights_at, rights_on, rights_on_port, fitted_path_rule, fitted_port_rule, fitted_path_rules, fitted_port_rules, handled_files, handled_network, fitted_layer}
+use Rattle.ll_fitting.specs.Fitting.{rights_at, rights_on, rights_on_port, fitted_path_rule, fitted_port_rule, fitted_path_rules, fitted_port_rules}
+use Rattle.ll_fitting.specs.Fitting.{handled_files, handled_network, fitted_layer}
 use Rattle.ll_fitting.specs.Taken.{is_refused_on, is_refused, granted_by, rules_of}
 use Rattle.ll_fitting.proofs.Left.{on_within, port_valid, AreFit, IsAskedOnPort, created}
 use Rattle.ll_enforcing.specs.declared.calls.Call.{Call}
 use Rattle.ll_enforcing.specs.Calls.{operation_of, calls_of_layer}
 use Rattle.ll_enforcing.specs.Answered.{IsListed, IsNoObject}
 use Rattle.ll_enforcing.proofs.Runs.{leads_allowed}
-use Rattle.ll_enforcing.proofs.OneLayer.{with_granted, with_granted-append, handles_same, network_same, with_ports, IsAskedOfPort, leads_create, leads_restrict, leads_close}
+use Rattle.ll_enforcing.proofs.OneLayer.{with_granted, with_granted-append, handles_same, network_same, with_ports, IsAskedOfPort, leads_create}
+use Rattle.ll_enforcing.proofs.OneLayer.{leads_restrict, leads_close}
 use Rattle.ll_enforcing.proofs.AllLayers.{filled, filled_is, mapped, after_layer}
 use Rattle.ll_enforcing.proofs.OlderRights.{keeps, net_supported_nothing, is_zero, net_is_zero}
-use Rattle.ll_enforcing.proofs.OlderRules.{Goes, goes_none, goes_one, goes_on, all_left, all_right, nothing_refused, best_path, best_port, IsSame, goes_rule, goes_port_by}
+use Rattle.ll_enforcing.proofs.OlderRules.{Goes, goes_none, goes_one, goes_on, all_left, all_right, nothing_refused, best_path, best_port, IsSame}
+use Rattle.ll_enforcing.proofs.OlderRules.{goes_rule, goes_port_by}
 
 -- ---- a rule that is left, or isn't
 
 taken_of : (b : Bool) (index : ℕ) (parent : Parent) (rights : Fs) → files.is_empty rights ≡ b
-    → All (λ (rule : FittedPathRule). is_refused rule ≡ false) (if b then [] else record { rule = index; parent = parent; rights = rights } ∷ []) → is_refused_on parent rights ≡ false
+    → All (λ (rule : FittedPathRule). is_refused rule ≡ false) (if b then [] else record { rule = index; parent = parent; rights = rights } ∷ [])
+    → is_refused_on parent rights ≡ false
 unfolding is_refused
 taken_of true index parent rights empty all = nothing_refused parent rights empty
 taken_of false index parent rights empty all = All-head (λ rule. is_refused rule ≡ false) (record { rule = index; parent = parent; rights = rights }) [] all
 
 listed_of : (tree : List Entry) (b : Bool) (index : ℕ) (parent : Parent) (rights : Fs)
-    → All (λ (rule : FittedPathRule). IsListed tree rule.parent) (if b then [] else record { rule = index; parent = parent; rights = rights } ∷ []) → b ≡ false → IsListed tree parent
+    → All (λ (rule : FittedPathRule). IsListed tree rule.parent) (if b then [] else record { rule = index; parent = parent; rights = rights } ∷ [])
+    → b ≡ false → IsListed tree parent
 listed_of tree true index parent rights all some = absurd (true≢false some)
 listed_of tree false index parent rights all some =
     All-head (λ (rule : FittedPathRule). IsListed tree rule.parent) (record { rule = index; parent = parent; rights = rights }) [] all
@@ -81,7 +87,8 @@ module _ (tree : List Entry) (older newer : Abi) (le : number_of older ≤ numbe
     -- ---- all rules for files
 
     same_rule : (own : Layer) (numbered : ℕ × PathRule) → own.handled_files ≡ handled_files older layer →
-        All (λ (rule : FittedPathRule). IsListed tree rule.parent) (fitted_path_rule newer layer numbered) → All (λ rule. is_refused rule ≡ false) (fitted_path_rule older layer numbered)
+        All (λ (rule : FittedPathRule). IsListed tree rule.parent) (fitted_path_rule newer layer numbered)
+        → All (λ rule. is_refused rule ≡ false) (fitted_path_rule older layer numbered)
         → IsSame tree older missing rs own numbered.1.parent (rights_on newer layer numbered.1) (rights_on older layer numbered.1)
     unfolding fitted_path_rule rights_on
     same_rule own numbered handles listed unrefused =
@@ -89,8 +96,10 @@ module _ (tree : List Entry) (older newer : Abi) (le : number_of older ≤ numbe
         let taken : is_refused_on rule.parent (rights_at older layer rule rule.parent) ≡ false = taken_of _ numbered.0 rule.parent _ refl unrefused in
         record {
           keeps = keeps older newer le layer known rule rule.parent taken;
-          listed = listed_of tree (files.is_empty (rights_at newer layer rule rule.parent)) numbered.0 rule.parent (rights_at newer layer rule rule.parent) listed;
-          within = ap (λ (handled : Fs). files.is_within (rights_at older layer rule rule.parent) handled) handles ∙ on_within older layer known rule rule.parent;
+          listed = listed_of tree (files.is_empty (rights_at newer layer rule rule.parent)) numbered.0 rule.parent
+              (rights_at newer layer rule rule.parent) listed;
+          within = ap (λ (handled : Fs). files.is_within (rights_at older layer rule rule.parent) handled) handles
+              ∙ on_within older layer known rule rule.parent;
           taken = taken;
         }
 
@@ -108,14 +117,17 @@ module _ (tree : List Entry) (older newer : Abi) (le : number_of older ≤ numbe
         let later : List FittedPathRule = flat_map (fitted_path_rule newer layer) xs in
         let others : List FittedPathRule = flat_map (fitted_path_rule older layer) xs in
         let next : Layer = with_granted tree own (flat_map granted_by here) in
-        let first = goes_rule tree older missing rs before own s numbered.0 numbered.1.parent (rights_on newer layer numbered.1) (rights_on older layer numbered.1)
+        let first = goes_rule tree older missing rs before own s numbered.0 numbered.1.parent (rights_on newer layer numbered.1)
+        (rights_on older layer numbered.1)
         is_tree not_listed held (same_rule own numbered handles (all_left (λ (rule : FittedPathRule). IsListed tree rule.parent) newest later listed)
         (all_left (λ rule. is_refused rule ≡ false) here others unrefused)) in
         let last = goes_paths before next s xs is_tree not_listed held (handles_same tree older missing rs own (flat_map granted_by here) ∙ handles)
-        (all_right (λ (rule : FittedPathRule). IsListed tree rule.parent) newest later listed) (all_right (λ rule. is_refused rule ≡ false) here others unrefused) in
+        (all_right (λ (rule : FittedPathRule). IsListed tree rule.parent) newest later listed)
+        (all_right (λ rule. is_refused rule ≡ false) here others unrefused) in
         subst (λ (ops : List Op). Goes tree older (before ++ own ∷ []) s ops (before ++ with_granted tree own (flat_map granted_by (here ++ others)) ∷ []) s)
         (sym (map-append (best_path tree older missing rs) newest later))
-        (subst (λ (after : Layer). Goes tree older (before ++ own ∷ []) s (map (best_path tree older missing rs) newest ++ map (best_path tree older missing rs) later)
+        (subst (λ (after : Layer). Goes tree older (before ++ own ∷ []) s
+        (map (best_path tree older missing rs) newest ++ map (best_path tree older missing rs) later)
         (before ++ after ∷ []) s)
         (with_granted-append tree own (flat_map granted_by here) (flat_map granted_by others)
         ∙ ap (with_granted tree own) (sym (flat_map-append granted_by here others)))
@@ -134,8 +146,10 @@ module _ (tree : List Entry) (older newer : Abi) (le : number_of older ≤ numbe
         let both : Net = common_on_ports (listed_on_ports rule.allowed) (listed_on_ports layer.handled_network) in
         let same : supported_net older (supported_net newer both) ≡ supported_net older both = net_supported-older older newer both le in
         goes_port_by tree older missing rs _ _ before own s numbered.0 rule.port (supported_net newer both) (supported_net older both) held same
-        (λ some. subst (λ (handled : Net). IsAskedOfPort tree older missing rs handled (record { rule = numbered.0; port = rule.port; rights = supported_net older both }))
-        (sym handles) (asked_of tree older missing rs layer known _ numbered.0 rule.port (supported_net older both) (port_valid older layer known numbered fits) some))
+        (λ some. subst (λ (handled : Net). IsAskedOfPort tree older missing rs handled
+        (record { rule = numbered.0; port = rule.port; rights = supported_net older both }))
+        (sym handles) (asked_of tree older missing rs layer known _ numbered.0 rule.port (supported_net older both)
+        (port_valid older layer known numbered fits) some))
         refl refl (λ empty. ap network.is_empty (sym same) ∙ net_supported_nothing older (supported_net newer both) empty)
 
     goes_ports : (before : List Layer) (own : Layer) (s : State) (xs : List (ℕ × PortRule)) → s.held rs ≡ Some (length before) →
@@ -153,7 +167,8 @@ module _ (tree : List Entry) (older newer : Abi) (le : number_of older ≤ numbe
         let last = goes_ports before next s xs held (ports_network own here ∙ handles) (All-tail (AreFit older layer known) numbered xs fits) in
         subst (λ (ops : List Op). Goes tree older (before ++ own ∷ []) s ops (before ++ with_ports own (here ++ others) ∷ []) s)
         (sym (map-append (best_port tree older missing rs) newest later))
-        (subst (λ (after : Layer). Goes tree older (before ++ own ∷ []) s (map (best_port tree older missing rs) newest ++ map (best_port tree older missing rs) later)
+        (subst (λ (after : Layer). Goes tree older (before ++ own ∷ []) s
+        (map (best_port tree older missing rs) newest ++ map (best_port tree older missing rs) later)
         (before ++ after ∷ []) s) (with_ports-append own here others)
         (goes_on tree older _ _ _ s s s (map (best_port tree older missing rs) newest) (map (best_port tree older missing rs) later) first last))
 
@@ -218,20 +233,24 @@ module _ (tree : List Entry) (older newer : Abi) (le : number_of older ≤ numbe
       network.has (listed_on_ports layer.handled_network) network.other ≡ false →
       (files.is_empty (handled_files newer layer) && network.is_empty (handled_network newer layer)) ≡ false →
       (files.is_empty (handled_files older layer) && network.is_empty (handled_network older layer)) ≡ none
-      → Goes tree older r s (best_create ∷ []) (r ++ without_rules (handled_files older layer) (handled_network older layer) ∷ []) (with_held s rs (Some (length r)))
+      → Goes tree older r s (best_create ∷ []) (r ++ without_rules (handled_files older layer) (handled_network older layer) ∷ [])
+      (with_held s rs (Some (length r)))
   goes_create true r s free known known_on_ports some none =
       let parts = both_parts (files.is_empty (handled_files older layer)) (network.is_empty (handled_network older layer)) none in
-      subst (λ (op : Op). Goes tree older r s (op ∷ []) (r ++ without_rules (handled_files older layer) (handled_network older layer) ∷ []) (with_held s rs (Some (length r))))
+      subst (λ (op : Op). Goes tree older r s (op ∷ []) (r ++ without_rules (handled_files older layer) (handled_network older layer) ∷ [])
+      (with_held s rs (Some (length r))))
       (sym (empty_op none some))
       (subst (λ (own : Layer). Goes tree older r s (CreateEmpty rs ∷ []) (r ++ own ∷ []) (with_held s rs (Some (length r))))
       (ap (λ (n : ℕ). without_rules (record { 0 = n }) network.no_right) (sym (is_zero (handled_files older layer) parts.0))
       ∙ ap (λ (n : ℕ). without_rules (handled_files older layer) (record { 0 = n })) (sym (net_is_zero (handled_network older layer) parts.1)))
       (goes_create_empty r s free))
   goes_create false r s free known known_on_ports some none =
-      subst (λ (op : Op). Goes tree older r s (op ∷ []) (r ++ without_rules (handled_files older layer) (handled_network older layer) ∷ []) (with_held s rs (Some (length r))))
+      subst (λ (op : Op). Goes tree older r s (op ∷ []) (r ++ without_rules (handled_files older layer) (handled_network older layer) ∷ [])
+      (with_held s rs (Some (length r))))
       (sym (some_op none))
       (goes_one tree older r _ s _ (Create rs (handled_files older layer) (handled_network older layer)) Allowed
-      (leads_create tree older missing rs r s (handled_files older layer) (handled_network older layer) free (created older layer known known_on_ports none)) refl)
+      (leads_create tree older missing rs r s (handled_files older layer) (handled_network older layer) free
+      (created older layer known known_on_ports none)) refl)
 
   -- ---- the whole layer
 

@@ -1,6 +1,7 @@
 -- A policy's calls for a newer version, made at best effort at an older one, give the layers of the older version.
 use Rattle.std.specs.Prelude.{option_map, get_or, find, nat_lt, ◌==◌}
-use Rattle.std.proofs.Common.{◌≡◌, ℕ, ◌+◌, ◌≤◌, Bool, true, false, not, ◌&&◌, List, [], ◌∷◌, ◌++◌, map, filter, length, Option, None, refl, sym, ap, ◌∙◌, arith, if◌then◌else◌, subst, inl, inr, All}
+use Rattle.std.proofs.Common.{◌≡◌, ℕ, ◌+◌, ◌≤◌, Bool, true, false, not, ◌&&◌, List, [], ◌∷◌, ◌++◌, map, filter, length, Option, None, refl, sym, ap, ◌∙◌}
+use Rattle.std.proofs.Common.{arith, if◌then◌else◌, subst, inl, inr, All}
 use Rattle.std.specs.List.{flat_map, enumerate_from}
 use Rattle.std.proofs.lemmas.Bool.{cases_Bool, true≢false, false≢true}
 use Rattle.std.proofs.lemmas.List.{append-nil, append_assoc, map-append, length-append}
@@ -33,7 +34,8 @@ use Rattle.ll_fitting.specs.declared.policy.Misfit.TheVariants as wrong
 use Rattle.ll_fitting.specs.Written as policies
 use Rattle.ll_fitting.specs.Written.{listed, listed_on_ports}
 use Rattle.ll_fitting.specs.Misfits as misfits
-use Rattle.ll_fitting.specs.Fitting.{Fitted, fitted, fitted_if_any, fitted_layer, fitted_path_rules, fitted_path_rule, rights_on, rights_at, handled_files, handled_network}
+use Rattle.ll_fitting.specs.Fitting.{Fitted, fitted, fitted_if_any, fitted_layer, fitted_path_rules, fitted_path_rule, rights_on, rights_at, handled_files}
+use Rattle.ll_fitting.specs.Fitting.{handled_network}
 use Rattle.ll_fitting.specs.Taken.{is_refused, rules_of, layers_of, refused_in, first_refused}
 use Rattle.ll_fitting.proofs.Left.{all_none, all_if, all_flat, none_or, none_told, told_none, fits_if, fits_in, named_alone, on_within, false_and, AreFit}
 use Rattle.ll_enforcing.specs.declared.calls.Call.{Call}
@@ -95,7 +97,8 @@ module _ (tree : List Entry) (older newer : Abi) (le : number_of older ≤ numbe
   unrefused_by false index layer known none all = All-head UnrefusedIn (fitted_layer older index layer) [] all
 
   -- what the calls for one layer do, if it was left
-  goes_if : (none : Bool) (r : List Layer) (before s : State) (added : List Layer) (numbered : ℕ × policies.Layer) → IsTree tree → IsNoObject (place tree missing) →
+  goes_if : (none : Bool) (r : List Layer) (before s : State) (added : List Layer) (numbered : ℕ × policies.Layer) → IsTree tree
+      → IsNoObject (place tree missing) →
       before.held rs ≡ None → HasGained added before s → is_nothing newer numbered.1 ≡ none →
       length before.domain + length added + length (if none then [] else fitted_layer newer numbered.0 numbered.1 ∷ []) ≤ MOST_LAYERS → Fit numbered →
       All ListedIn (if none then [] else fitted_layer newer numbered.0 numbered.1 ∷ []) → All UnrefusedIn (fitted_if_any older numbered)
@@ -115,7 +118,8 @@ module _ (tree : List Entry) (older newer : Abi) (le : number_of older ≤ numbe
       let layer : policies.Layer = numbered.1 in
       let own : Layer = in_tree tree (rules_of (fitted_layer older index layer)) in
       let parts = fits_if (misfits.knows_all layer) (misfits.handles_nothing layer) (wrong.UnknownRight index) (wrong.HandlesNothing index) _ fit in
-      let names = named_alone (files.has (listed layer.handled_files) files.other) (network.has (listed_on_ports layer.handled_network) network.other) parts.0 in
+      let names = named_alone (files.has (listed layer.handled_files) files.other)
+      (network.has (listed_on_ports layer.handled_network) network.other) parts.0 in
       let tell : ℕ × Rattle.ll_fitting.specs.declared.written.PortRule.PortRule → Option Misfit =
       λ one. option_map (λ misfit. wrong.PortRule index one.0 misfit) (misfits.port_rule_misfit layer one.1) in
       let rules = none_or (misfits.misfit_on_paths index layer) (misfits.misfit_on_ports index layer) parts.1 in
@@ -186,14 +190,18 @@ module _ (tree : List Entry) (older newer : Abi) (le : number_of older ≤ numbe
       (all_left ListedIn newest later there) (all_left UnrefusedIn (fitted_if_any older numbered) (flat_map (fitted_if_any older) xs) unrefused) in
       let last = goes_layers (r ++ here) before first.0 (added ++ here) xs is_tree not_listed free first.1.1 (omega arith) (All-tail Fit numbered xs fit)
       (all_right ListedIn newest later there) (all_right UnrefusedIn (fitted_if_any older numbered) (flat_map (fitted_if_any older) xs) unrefused) in
-      let whole = goes_on tree older _ _ _ s first.0 last.0 (map best_call (flat_map calls_of_layer newest)) (map best_call (flat_map calls_of_layer later)) first.1.0 last.1.0 in
+      let whole = goes_on tree older _ _ _ s first.0 last.0 (map best_call (flat_map calls_of_layer newest))
+      (map best_call (flat_map calls_of_layer later)) first.1.0 last.1.0 in
       let joined : here ++ above ≡ all_in_tree tree (map rules_of (kept_if numbered ++ kept xs)) =
-      sym (ap (all_in_tree tree) (map-append rules_of (kept_if numbered) (kept xs)) ∙ map-append (in_tree tree) (map rules_of (kept_if numbered)) (map rules_of (kept xs))) in (
+      sym (ap (all_in_tree tree) (map-append rules_of (kept_if numbered) (kept xs))
+      ∙ map-append (in_tree tree) (map rules_of (kept_if numbered)) (map rules_of (kept xs))) in (
         last.0,
         (
           subst (λ (ops : List Op). Goes tree older r s ops (r ++ all_in_tree tree (map rules_of (kept_if numbered ++ kept xs))) last.0)
-              (sym (ap (map best_call) (flat_map-append calls_of_layer newest later) ∙ map-append best_call (flat_map calls_of_layer newest) (flat_map calls_of_layer later)))
-              (subst (λ (x : List Layer). Goes tree older r s (map best_call (flat_map calls_of_layer newest) ++ map best_call (flat_map calls_of_layer later)) x last.0)
+              (sym (ap (map best_call) (flat_map-append calls_of_layer newest later)
+              ∙ map-append best_call (flat_map calls_of_layer newest) (flat_map calls_of_layer later)))
+              (subst (λ (x : List Layer). Goes tree older r s
+              (map best_call (flat_map calls_of_layer newest) ++ map best_call (flat_map calls_of_layer later)) x last.0)
               (append_assoc r here above ∙ ap (λ (x : List Layer). r ++ x) joined) whole),
           subst (λ (x : List Layer). HasGained x before last.0) (append_assoc added here above ∙ ap (λ (x : List Layer). added ++ x) joined) last.1.1,
         ),
@@ -205,7 +213,8 @@ module _ (tree : List Entry) (older newer : Abi) (le : number_of older ≤ numbe
   handles_some layer = not (handles_nothing layer)
 
   filter_one : (none_newer none : Bool) (left : Fitted) → (none_newer ≡ true → none ≡ true) → handles_nothing (in_tree tree (rules_of left)) ≡ none
-      → filter handles_some (all_in_tree tree (map rules_of (if none_newer then [] else left ∷ []))) ≡ all_in_tree tree (map rules_of (if none then [] else left ∷ []))
+      → filter handles_some (all_in_tree tree (map rules_of (if none_newer then [] else left ∷ []))) ≡ all_in_tree tree
+      (map rules_of (if none then [] else left ∷ []))
   filter_one true true left older_too is = refl
   filter_one true false left older_too is = absurd (false≢true (older_too refl))
   filter_one false true left older_too is = rw is refl
@@ -272,9 +281,13 @@ module _ (tree : List Entry) (older newer : Abi) (le : number_of older ≤ numbe
   unfolding operation_of is_starting at_best_effort
   starts_none [] = tt
   starts_none (calls.NoNewPrivs ∷ made) = (refl, starts_none made)
-  starts_none (calls.CreateRuleset layer handled on_ports ∷ made) = (one_of _ (CreateEmpty rs) (Create rs (supported_fs older handled) (supported_net older on_ports)) refl refl, starts_none made)
-  starts_none (calls.AddPath layer rule ∷ made) =
-      (one_of _ (LeaveOutPath (path_to tree missing rule.parent)) (AddPath rs (path_to tree missing rule.parent) (supported_fs older rule.rights)) refl refl, starts_none made)
+  starts_none (calls.CreateRuleset layer handled on_ports ∷ made) =
+      (one_of _ (CreateEmpty rs) (Create rs (supported_fs older handled) (supported_net older on_ports)) refl refl, starts_none made)
+  starts_none (calls.AddPath layer rule ∷ made) = (
+    one_of _ (LeaveOutPath (path_to tree missing rule.parent))
+        (AddPath rs (path_to tree missing rule.parent) (supported_fs older rule.rights)) refl refl,
+    starts_none made,
+  )
   starts_none (calls.AddPort layer rule ∷ made) = (one_of _ LeaveOutPort (AddPort rs rule.port (supported_net older rule.rights)) refl refl, starts_none made)
   starts_none (calls.RestrictSelf layer ∷ made) = (refl, starts_none made)
   starts_none (calls.CloseRuleset layer ∷ made) = (refl, starts_none made)
@@ -302,7 +315,8 @@ module _ (tree : List Entry) (older newer : Abi) (le : number_of older ≤ numbe
       record {
         layers = all_in_tree tree (map rules_of (kept numbered));
         handling = filter_all numbered;
-        own = subst (λ (xs : List Op). HasGained (all_in_tree tree (map rules_of (kept numbered))) s ((world_after tree older w (records_of process xs)).processes process)) same
+        own = subst (λ (xs : List Op). HasGained (all_in_tree tree (map rules_of (kept numbered))) s
+            ((world_after tree older w (records_of process xs)).processes process)) same
             (subst (λ (t : State). HasGained (all_in_tree tree (map rules_of (kept numbered))) s t)
             (sym (state_then_on tree older w process ops may.started (starts_none made) ∙ end.1)) all.1.1);
         unrefused = subst (λ (xs : List Op). All (λ answer. is_refusal answer ≡ false) (judged_from tree older w (records_of process xs))) same

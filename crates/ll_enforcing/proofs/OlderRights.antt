@@ -1,5 +1,6 @@
 -- The rights that an older version leaves of a rule, and what best effort takes out of those that a newer one left.
-use Rattle.std.proofs.Common.{◌≡◌, ℕ, ◌<◌, ◌≤◌, Bool, true, false, not, ◌&&◌, ◌||◌, List, [], ◌∷◌, length, get_or, refl, sym, ap, ◌∙◌, arith, if◌then◌else◌, suc, zero, subst, inl, inr, ◌⊎◌, lit≤, bit_and}
+use Rattle.std.proofs.Common.{◌≡◌, ℕ, ◌<◌, ◌≤◌, Bool, true, false, not, ◌&&◌, ◌||◌, List, [], ◌∷◌, length, get_or, refl, sym, ap, ◌∙◌, arith, if◌then◌else◌}
+use Rattle.std.proofs.Common.{suc, zero, subst, inl, inr, ◌⊎◌, lit≤, bit_and}
 use Rattle.std.specs.List.{list_all}
 use Rattle.std.specs.Int.Bits.{and_zero_r}
 use Rattle.std.proofs.lemmas.Bool.{eqb-true, eq-eqb, true≢false}
@@ -99,7 +100,8 @@ module _ (older newer : Abi) (le : number_of older ≤ number_of newer) (layer :
       no_right_has whole (λ right.
       let is : files.has whole right ≡ (lists rule.allowed right && is_left older layer right) =
       left_by_right older layer (listed rule.allowed) right known ∙ ap (λ (b : Bool). b && is_left older layer right) (listed_by_right rule.allowed right) in
-      let for_files : files.has (left_of older layer (listed_for_files rule.allowed)) right ≡ (lists_for_files rule.allowed right && is_left older layer right) =
+      let for_files : files.has (left_of older layer (listed_for_files rule.allowed)) right ≡
+      (lists_for_files rule.allowed right && is_left older layer right) =
       left_by_right older layer (listed_for_files rule.allowed) right known
       ∙ ap (λ (b : Bool). b && is_left older layer right) (listed_for_files_by_right rule.allowed right) in
       let applies = each_right (λ r. not (files.has whole r) || files.is_file_right r) all right in
@@ -128,7 +130,8 @@ module _ (older newer : Abi) (le : number_of older ≤ number_of newer) (layer :
   keeps_if false false true p q part whole is_newer is_older parts wholes empty taken =
       inr (ap files.is_empty parts ∙ is_older, empty is_older (all_of_files (are_file_rights whole) taken))
 
-  keeps_file : (rule : PathRule) → not (are_file_rights (or_whole rule.included (left_of older layer (listed_for_files rule.allowed)) (left_of older layer (listed rule.allowed)))) ≡ false
+  keeps_file : (rule : PathRule) → not (are_file_rights
+      (or_whole rule.included (left_of older layer (listed_for_files rule.allowed)) (left_of older layer (listed rule.allowed)))) ≡ false
       → Keeps older (or_whole rule.included (left_of newer layer (listed_for_files rule.allowed)) (left_of newer layer (listed rule.allowed)))
       (or_whole rule.included (left_of older layer (listed_for_files rule.allowed)) (left_of older layer (listed rule.allowed)))
   keeps_file rule taken =
@@ -150,7 +153,8 @@ module _ (older newer : Abi) (le : number_of older ≤ number_of newer) (layer :
   nothing_is = no_right_has files.no_right (λ right. zero_bit (files.bit_of files.other) (files.bit_of right))
 
   keeps_missing : (b : Bool) (rule : PathRule)
-      → Keeps older (if b then files.no_right else left_of newer layer (listed rule.allowed)) (if b then files.no_right else left_of older layer (listed rule.allowed))
+      → Keeps older (if b then files.no_right else left_of newer layer (listed rule.allowed))
+      (if b then files.no_right else left_of older layer (listed rule.allowed))
   keeps_missing true rule = inr (supported_nothing older files.no_right nothing_is, nothing_is)
   keeps_missing false rule = inl (older_left (listed rule.allowed))
 

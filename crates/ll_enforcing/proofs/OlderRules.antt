@@ -1,5 +1,6 @@
 -- What the rules of a layer do that were left at a newer version and are made at best effort at an older one.
-use Rattle.std.proofs.Common.{◌≡◌, ℕ, ◌+◌, Bool, true, false, not, ◌&&◌, ◌||◌, List, [], ◌∷◌, ◌++◌, map, length, Some, refl, sym, ap, ◌∙◌, arith, if◌then◌else◌, subst, inl, inr, All}
+use Rattle.std.proofs.Common.{◌≡◌, ℕ, ◌+◌, Bool, true, false, not, ◌&&◌, ◌||◌, List, [], ◌∷◌, ◌++◌, map, length, Some, refl, sym, ap, ◌∙◌, arith}
+use Rattle.std.proofs.Common.{if◌then◌else◌, subst, inl, inr, All}
 use Rattle.std.specs.List.{flat_map}
 use Rattle.std.proofs.lemmas.Bool.{true≢false, false≢true}
 use Rattle.std.proofs.lemmas.List.{append-nil, length-append, get_or_append_left, get_or-append-add}
@@ -157,7 +158,8 @@ module _ (tree : List Entry) (older : Abi) (missing : List ℕ) (rs : ℕ) where
       (subst (λ (all : List (ℕ × Fs)). Goes tree older (before ++ layer ∷ []) s (AddPath rs path q ∷ []) (before ++ with_granted tree layer all ∷ []) s)
       (sym (append-nil granted))
       (goes_one tree older (before ++ layer ∷ []) _ s s (AddPath rs path q) (answer_on parent q)
-      (leads_path tree older missing rs before layer s parent q is_tree not_listed held is same.within (same.listed is_newer)) (unrefused_on parent q same.taken)))
+      (leads_path tree older missing rs before layer s parent q is_tree not_listed held is same.within (same.listed is_newer))
+      (unrefused_on parent q same.taken)))
 
   pub goes_rule : (before : List Layer) (layer : Layer) (s : State) (index : ℕ) (parent : Parent) (newer_rights rights : Fs) → IsTree tree →
       IsNoObject (place tree missing) → s.held rs ≡ Some (length before) → IsSame layer parent newer_rights rights
@@ -197,7 +199,8 @@ module _ (tree : List Entry) (older : Abi) (missing : List ℕ) (rs : ℕ) where
       subst (λ (op : Op). Goes tree older (before ++ layer ∷ []) s (op ∷ []) (before ++ layer ∷ []) s)
       (sym (port_left_out port p (ap network.is_empty same ∙ is) is_newer)) (goes_port_left_out (before ++ layer ∷ []) s)
   goes_port_by false false before layer s index port p q held same asked is_newer is empty =
-      subst (λ (op : Op). Goes tree older (before ++ layer ∷ []) s (op ∷ []) (before ++ with_ports layer (record { rule = index; port = port; rights = q } ∷ []) ∷ []) s)
+      subst (λ (op : Op). Goes tree older (before ++ layer ∷ []) s (op ∷ [])
+      (before ++ with_ports layer (record { rule = index; port = port; rights = q } ∷ []) ∷ []) s)
       (sym (port_asked_for port p (ap network.is_empty same ∙ is) ∙ ap (λ (rights : Net). AddPort rs port rights) same))
       (goes_one tree older (before ++ layer ∷ []) _ s s (AddPort rs port q) Allowed
       (leads_port tree older missing rs before layer s (record { rule = index; port = port; rights = q }) held (asked refl)) refl)

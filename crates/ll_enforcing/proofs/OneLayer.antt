@@ -1,5 +1,6 @@
 -- What the calls for one layer do.
-use Rattle.std.proofs.Common.{◌≡◌, ℕ, Bool, true, false, not, ◌&&◌, ◌||◌, List, [], ◌∷◌, ◌++◌, map, length, Option, Some, None, refl, sym, ap, ◌∙◌, if◌then◌else◌, nat_le, nat_lt, All, subst}
+use Rattle.std.proofs.Common.{◌≡◌, ℕ, Bool, true, false, not, ◌&&◌, ◌||◌, List, [], ◌∷◌, ◌++◌, map, length, Option, Some, None, refl, sym, ap, ◌∙◌}
+use Rattle.std.proofs.Common.{if◌then◌else◌, nat_le, nat_lt, All, subst}
 use Rattle.std.specs.Prelude.{slice_set, unwrap_or, option_map}
 use Rattle.std.specs.List.{flat_map}
 use Rattle.std.proofs.lemmas.List.{set_at}
@@ -31,7 +32,8 @@ use Rattle.ll_trace.proofs.Numbers.{slice_get-push}
 use Rattle.ll_semantics.specs.declared.answer.Answer.{Answer}
 use Rattle.ll_semantics.specs.declared.answer.Answer.TheVariants.{Allowed}
 use Rattle.ll_semantics.specs.States.{State, Layer}
-use Rattle.ll_semantics.specs.Answers.{answer, named, unless, of_rule_refusal, create_answer, add_path_answer, add_port_answer, restrict_answer, if_there, fails, fails_by, may_restrict}
+use Rattle.ll_semantics.specs.Answers.{answer, named, unless, of_rule_refusal, create_answer, add_path_answer, add_port_answer, restrict_answer, if_there}
+use Rattle.ll_semantics.specs.Answers.{fails, fails_by, may_restrict}
 use Rattle.ll_semantics.specs.Effects.{effect, changed_at, with_held, with_layer}
 use Rattle.ll_semantics.specs.CallContexts.{change, rules, state_by, rulesets_by}
 use Rattle.ll_fitting.specs.declared.written.Parent.{Parent}
@@ -47,7 +49,8 @@ use Rattle.ll_enforcing.proofs.Runs.{Leads, leads_none, leads_on, leads_allowed,
 -- ---- the ruleset that is at the end of all
 
 last_is : (before : List Layer) (layer : Layer) (held : Option ℕ) → held ≡ Some (length before) → named (before ++ layer ∷ []) held ≡ Some layer
-last_is before layer held is = ap (named (before ++ layer ∷ [])) is ∙ slice_get-push before (length before) layer ∙ rw (eq-eqb (length before) (length before) refl) refl
+last_is before layer held is = ap (named (before ++ layer ∷ [])) is ∙ slice_get-push before (length before) layer
+    ∙ rw (eq-eqb (length before) (length before) refl) refl
 
 last_changed : (before : List Layer) (layer : Layer) (held : Option ℕ) (f : Layer → Layer) → held ≡ Some (length before)
     → changed_at (before ++ layer ∷ []) held f ≡ before ++ f layer ∷ []
@@ -68,7 +71,8 @@ abbrev pub with_ports : Layer → List FittedPortRule → Layer
 with_ports layer [] = layer
 with_ports layer (rule ∷ others) = with_ports (with_port_rule layer rule.port rule.rights) others
 
-pub with_granted-append : (tree : List Entry) (layer : Layer) (a b : List (ℕ × Fs)) → with_granted tree (with_granted tree layer a) b ≡ with_granted tree layer (a ++ b)
+pub with_granted-append : (tree : List Entry) (layer : Layer) (a b : List (ℕ × Fs))
+    → with_granted tree (with_granted tree layer a) b ≡ with_granted tree layer (a ++ b)
 with_granted-append tree layer [] b = refl
 with_granted-append tree layer (rule ∷ a) b = with_granted-append tree (with_file_rule layer (path_at tree (node rule.0)) rule.1) a b
 
@@ -129,7 +133,8 @@ module _ (tree : List Entry) (abi : Abi) (missing : List ℕ) (rs : ℕ) where
   unfolding answer add_path_answer
   answered_by before layer s path rights held some within =
       ap (add_path_answer tree path rights) (last_is before layer (s.held rs) held)
-      ∙ ap of_rule_refusal (refusal_of_place (files.is_empty rights) (files.is_within rights layer.handled_files) (place_refusal tree (place tree path) rights) some within)
+      ∙ ap of_rule_refusal (refusal_of_place (files.is_empty rights) (files.is_within rights layer.handled_files)
+      (place_refusal tree (place tree path) rights) some within)
 
   pub leads_path : (before : List Layer) (layer : Layer) (s : State) (parent : Parent) (rights : Fs) → IsTree tree → IsNoObject (place tree missing) →
       s.held rs ≡ Some (length before) → files.is_empty rights ≡ false → files.is_within rights layer.handled_files ≡ true → IsListed tree parent
@@ -179,7 +184,8 @@ module _ (tree : List Entry) (abi : Abi) (missing : List ℕ) (rs : ℕ) where
       let left : All (IsAskedOf next.handled_files) others =
       subst (λ (handled : Fs). All (IsAskedOf handled) others) (sym (handles_same layer granted)) (All-tail (IsAskedOf layer.handled_files) rule others all) in
       subst (λ (after : Layer). Leads tree abi (before ++ layer ∷ []) s (map path_operation (rule ∷ others))
-      (map (λ rule. answer_on rule.parent rule.rights) (rule ∷ others)) (before ++ after ∷ []) s) (with_granted-append tree layer granted (flat_map granted_by others))
+      (map (λ rule. answer_on rule.parent rule.rights) (rule ∷ others)) (before ++ after ∷ []) s)
+      (with_granted-append tree layer granted (flat_map granted_by others))
       (leads_on tree abi _ _ _ s s s (path_operation rule ∷ []) (map path_operation others) (answer_on rule.parent rule.rights ∷ [])
       (map (λ rule. answer_on rule.parent rule.rights) others)
       (leads_path before layer s rule.parent rule.rights is_tree not_listed held first.some first.within first.listed)
@@ -230,7 +236,8 @@ module _ (tree : List Entry) (abi : Abi) (missing : List ℕ) (rs : ℕ) where
 
   -- ---- the ruleset becomes a layer
 
-  restricted : (may full : Bool) (no_room no_leave : Answer) → may ≡ true → full ≡ false → (if may then (if full then no_room else Allowed) else no_leave) ≡ Allowed
+  restricted : (may full : Bool) (no_room no_leave : Answer) → may ≡ true → full ≡ false
+      → (if may then (if full then no_room else Allowed) else no_leave) ≡ Allowed
   restricted true false no_room no_leave a b = refl
   restricted true true no_room no_leave a b = absurd (cc)
   restricted false full no_room no_leave a b = absurd (cc)
@@ -247,7 +254,8 @@ module _ (tree : List Entry) (abi : Abi) (missing : List ℕ) (rs : ℕ) where
   leads_restrict before layer s held unprivileged room =
       leads_allowed tree abi (before ++ layer ∷ []) _ s _ (Restrict rs)
       (ap (restrict_answer s) (last_is before layer (s.held rs) held)
-      ∙ restricted (may_restrict s) (nat_le MOST_LAYERS (length s.domain)) (fails_by layer TooBig) (fails_by layer Perm) (may s.no_new_privs s.admin unprivileged) room)
+      ∙ restricted (may_restrict s) (nat_le MOST_LAYERS (length s.domain)) (fails_by layer TooBig) (fails_by layer Perm)
+      (may s.no_new_privs s.admin unprivileged) room)
       refl (ap (with_layer s) (last_is before layer (s.held rs) held))
 
   pub leads_close : (r : List Layer) (s : State) (index : ℕ) → s.held rs ≡ Some index

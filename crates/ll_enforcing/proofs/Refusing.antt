@@ -1,5 +1,6 @@
 -- The first call that is refused adds the rule that is named.
-use Rattle.std.proofs.Common.{◌≡◌, ℕ, Bool, true, false, not, List, [], ◌∷◌, ◌++◌, map, find, Option, Some, None, refl, sym, ap, ◌∙◌, arith, if◌then◌else◌, All, subst, inl, inr}
+use Rattle.std.proofs.Common.{◌≡◌, ℕ, Bool, true, false, not, List, [], ◌∷◌, ◌++◌, map, find, Option, Some, None, refl, sym, ap, ◌∙◌, arith, if◌then◌else◌}
+use Rattle.std.proofs.Common.{All, subst, inl, inr}
 use Rattle.std.specs.Prelude.{option_map}
 use Rattle.std.specs.List.{flat_map}
 use Rattle.std.proofs.lemmas.Bool.{cases_Bool}
@@ -62,7 +63,8 @@ unfolding calls_of_layer answer_of
 find_in_layer left =
     find-append refuses (of_path_rules left ++ of_port_rules left) (calls.RestrictSelf left.layer ∷ calls.CloseRuleset left.layer ∷ [])
     ∙ ap (λ x. option_or x None)
-    (find-append refuses (of_path_rules left) (of_port_rules left) ∙ ap (λ x. option_or (find refuses (of_path_rules left)) x) (find_ports left.layer left.port_rules))
+    (find-append refuses (of_path_rules left) (of_port_rules left)
+    ∙ ap (λ x. option_or (find refuses (of_path_rules left)) x) (find_ports left.layer left.port_rules))
     ∙ or_none (find refuses (of_path_rules left)) ∙ find_mapped left.layer left.path_rules
 
 -- a call that is found adds the rule that is named
@@ -104,14 +106,19 @@ some_named : (told : Option RefusedRule) (call : Option Call) (refused : Refused
 some_named None call refused names is = absurd (cc)
 some_named (Some other) None refused names is = absurd names
 some_named (Some other) (Some call) refused names is =
-    let same : other ≡ refused = cc in
-    (names.0, names.1 ∙ ap (λ (r : RefusedRule). r.rule) same, ap (λ (c : Call). Some c) (names.2 ∙ ap (λ (r : RefusedRule). calls.AddPath r.layer names.0) same))
+    let same : other ≡ refused = cc in (
+      names.0,
+      names.1 ∙ ap (λ (r : RefusedRule). r.rule) same,
+      ap (λ (c : Call). Some c)
+          (names.2 ∙ ap (λ (r : RefusedRule). calls.AddPath r.layer names.0) same),
+    )
 
 pub none_refused : (layers : List Fitted) → first_refused layers ≡ None → All (λ call. is_refusal (answer_of call) ≡ false) (calls_of layers)
 unfolding calls_of answer_of
 none_refused layers none = all_unless (calls.NoNewPrivs ∷ flat_map calls_of_layer layers) (none_named _ _ (names_first layers) none)
 
 pub refused_named : (layers : List Fitted) (refused : RefusedRule) → first_refused layers ≡ Some refused
-    → (rule : FittedPathRule) × (rule.rule ≡ refused.rule) × (find (λ call. is_refusal (answer_of call)) (calls_of layers) ≡ Some (calls.AddPath refused.layer rule))
+    → (rule : FittedPathRule) × (rule.rule ≡ refused.rule) ×
+    (find (λ call. is_refusal (answer_of call)) (calls_of layers) ≡ Some (calls.AddPath refused.layer rule))
 unfolding calls_of answer_of
 refused_named layers refused is = some_named (first_refused layers) (find refuses (flat_map calls_of_layer layers)) refused (names_first layers) is

@@ -53,7 +53,8 @@ module _ (tree : List Entry) (abi : Abi) where
     answered = λ rest. ap (λ (x : Answer). x ∷ answers_on (rulesets_after tree abi r op s) (state_after tree abi r op s) rest) answers
         ∙ ap (λ (x : List Layer). a ∷ answers_on x (state_after tree abi r op s) rest) rulesets
         ∙ ap (λ (x : State). a ∷ answers_on r' x rest) state;
-    leaves_rulesets = λ rest. ap (λ (x : List Layer). rulesets_on x (state_after tree abi r op s) rest) rulesets ∙ ap (λ (x : State). rulesets_on r' x rest) state;
+    leaves_rulesets = λ rest. ap (λ (x : List Layer). rulesets_on x (state_after tree abi r op s) rest) rulesets
+        ∙ ap (λ (x : State). rulesets_on r' x rest) state;
     leaves_state = λ rest. ap (λ (x : List Layer). state_on x (state_after tree abi r op s) rest) rulesets ∙ ap (λ (x : State). state_on r' x rest) state;
   }
 

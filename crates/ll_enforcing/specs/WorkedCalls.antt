@@ -50,7 +50,7 @@ small_operations =
     ∷ operations.CloseRs 3
     ∷ []
 
--- a process that starts, enforces the policy, and then opens two files
+-- a process that starts and enforces the policy
 abbrev pub confined : List Record
 confined =
     records_of 0 (operations.Start false false ∷ operations_of worked_tree nowhere 3 (fitted V4 small))
@@ -64,3 +64,11 @@ newer_on_a_file = layer (lists (truncate ∷ make_reg ∷ []) []) (lists_on_port
 abbrev pub left_out : List Op
 left_out =
     operations.Nnp ∷ operations.Create 3 (these (make_reg ∷ [])) (these_on_ports []) ∷ operations.LeaveOutPath (codes "/b/g") ∷ operations.Restrict 3 ∷ operations.CloseRs 3 ∷ []
+
+-- All that unfolds when the calls for a worked policy are made and answered.
+unfoldable pub enforcing : Unit {0}
+unfolding
+    Rattle.ll_semantics.specs.WorkedWords.judging Rattle.ll_fitting.specs.WorkedPolicies.fitting Rattle.ll_lines.specs.Paths.text_of
+    Rattle.ll_trace.specs.BestEffort.at_best_effort Rattle.ll_enforcing.specs.Calls.calls_of Rattle.ll_enforcing.specs.Calls.calls_of_layer
+    Rattle.ll_enforcing.specs.Calls.operation_of
+enforcing = tt

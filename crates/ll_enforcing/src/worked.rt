@@ -1,5 +1,5 @@
 //! What the calls for a small policy are, and what they are answered.
-#![tactic(auto, unfolding(ll_semantics::specs::WorkedWords::judging, ll_fitting::specs::WorkedPolicies::fitting, crate::specs::Calls::calls_of, crate::specs::Calls::calls_of_layer, crate::specs::Calls::operation_of, crate::specs::Answered::answer_of, ll_trace::specs::BestEffort::at_best_effort, ll_lines::specs::Paths::text_of))]
+#![tactic(auto, unfolding(crate::specs::WorkedCalls::enforcing))]
 
 ghost use Rattle.std.specs.Prelude.{◌≡◌, [], ◌∷◌, Some, None};
 ghost use Rattle.ll_rights.specs.declared.abi.Abi.TheVariants.{V1, V4, V5};

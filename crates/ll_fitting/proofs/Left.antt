@@ -1,5 +1,6 @@
 -- What a version leaves of a policy, the kernel takes.
-use Rattle.std.proofs.Common.{◌≡◌, ℕ, Bool, true, false, not, ◌&&◌, ◌||◌, List, [], ◌∷◌, length, Option, Some, None, refl, sym, ap, ◌∙◌, arith, if◌then◌else◌, nat_lt, All, inl, inr, ◌⊎◌}
+use Rattle.std.proofs.Common.{◌≡◌, ℕ, Bool, true, false, not, ◌&&◌, ◌||◌, List, [], ◌∷◌, length, Option, Some, None, refl, sym, ap, ◌∙◌, arith}
+use Rattle.std.proofs.Common.{if◌then◌else◌, nat_lt, All, inl, inr, ◌⊎◌}
 use Rattle.std.specs.Prelude.{option_map, ◌==◌}
 use Rattle.std.specs.List.{flat_map, enumerate_from}
 use Rattle.std.specs.Option.{option_or}
@@ -28,7 +29,8 @@ use Rattle.ll_fitting.specs.declared.policy.RuleMisfit.TheVariants as misfit
 use Rattle.ll_fitting.specs.declared.policy.Misfit.{Misfit}
 use Rattle.ll_fitting.specs.declared.policy.Misfit.TheVariants as wrong
 use Rattle.ll_fitting.specs.Written.{Layer, listed, listed_on_ports, listed_for_files, common, common_on_ports}
-use Rattle.ll_fitting.specs.Fitting.{left_of, rights_on_kind, rights_at, rights_on, rights_on_port, fitted_path_rule, fitted_port_rule, fitted_path_rules, fitted_port_rules, handled_files, handled_network, fitted_if_any, fitted}
+use Rattle.ll_fitting.specs.Fitting.{left_of, rights_on_kind, rights_at, rights_on, rights_on_port, fitted_path_rule, fitted_port_rule, fitted_path_rules}
+use Rattle.ll_fitting.specs.Fitting.{fitted_port_rules, handled_files, handled_network, fitted_if_any, fitted}
 use Rattle.ll_fitting.specs.Misfits as misfits
 use Rattle.ll_fitting.specs.Taken.{IsValid}
 
@@ -179,7 +181,8 @@ created abi layer known known_on_ports some =
     let on_ports : Net = supported_net abi (listed_on_ports layer.handled_network) in
     faultless (not (network.is_empty on_ports) && not (has_ports abi)) (knows_all abi on_files on_ports) (files.is_empty on_files && network.is_empty on_ports)
     (longer (network.is_empty on_ports) (has_ports abi) (ports_there abi (listed_on_ports layer.handled_network) known_on_ports))
-    (both _ _ (knows_supported abi (listed layer.handled_files) known) (knows_supported_on_ports abi (listed_on_ports layer.handled_network) known_on_ports)) some
+    (both _ _ (knows_supported abi (listed layer.handled_files) known)
+    (knows_supported_on_ports abi (listed_on_ports layer.handled_network) known_on_ports)) some
 
 -- ---- lists
 
@@ -190,7 +193,8 @@ pub all_if : {X : Type 0} (P : X → Type 0) (b : Bool) (x : X) → (b ≡ false
 all_if P true x holds = all_none P
 all_if P false x holds = All-cons P x [] (holds refl) (all_none P)
 
-pub all_flat : {X A : Type 0} (Q : X → Type 0) (P : A → Type 0) (f : X → List A) → ((x : X) → Q x → All P (f x)) → (xs : List X) → All Q xs → All P (flat_map f xs)
+pub all_flat : {X A : Type 0} (Q : X → Type 0) (P : A → Type 0) (f : X → List A) → ((x : X) → Q x → All P (f x)) → (xs : List X) → All Q xs
+    → All P (flat_map f xs)
 all_flat Q P f each [] all = all_none P
 all_flat Q P f each (x ∷ xs) all =
     All-append P (f x) (flat_map f xs) (each x (All-head Q x xs all)) (all_flat Q P f each xs (All-tail Q x xs all))
@@ -240,7 +244,8 @@ module _ (abi : Abi) (layer : Layer) (known : files.has (listed layer.handled_fi
 -- ---- rules for ports
 
 port_fits : (within nothing : Bool) (large : Bool)
-    → (if not within then Some misfit.NotHandled else (if nothing then Some misfit.GrantsNothing else (if large then Some misfit.NoPort else None))) ≡ None → large ≡ false
+    → (if not within then Some misfit.NotHandled else (if nothing then Some misfit.GrantsNothing else (if large then Some misfit.NoPort else None))) ≡ None
+    → large ≡ false
 port_fits true false false is = refl
 port_fits true false true is = absurd (cc)
 port_fits true true large is = absurd (cc)
@@ -272,13 +277,15 @@ module _ (abi : Abi) (layer : Layer) (known : network.has (listed_on_ports layer
         ports_there abi both_have unnamed some,
         some,
         within_on_ports abi (listed_on_ports rule.allowed) (listed_on_ports layer.handled_network) known,
-        port_fits (network.is_within rule.allowed.named (listed_on_ports layer.handled_network)) (network.is_empty both_have) (nat_lt LARGEST_PORT rule.port) fits,
+        port_fits (network.is_within rule.allowed.named (listed_on_ports layer.handled_network)) (network.is_empty both_have)
+            (nat_lt LARGEST_PORT rule.port) fits,
       ))
 
   ports_valid : (index : ℕ) → misfits.misfit_on_ports index layer ≡ None → All IsAskedOnPort (fitted_port_rules abi layer)
   unfolding fitted_port_rules
   ports_valid index fits =
-      let tell : ℕ × PortRule → Option Misfit = λ numbered. option_map (λ misfit. wrong.PortRule index numbered.0 misfit) (misfits.port_rule_misfit layer numbered.1) in
+      let tell : ℕ × PortRule → Option Misfit = λ numbered. option_map (λ misfit. wrong.PortRule index numbered.0 misfit)
+      (misfits.port_rule_misfit layer numbered.1) in
       all_flat (λ numbered. tell numbered ≡ None) IsAskedOnPort (fitted_port_rule abi layer)
       (λ numbered none. port_valid numbered (told_none (λ misfit. wrong.PortRule index numbered.0 misfit) (misfits.port_rule_misfit layer numbered.1) none))
       (enumerate_from 0 layer.port_rules) (none_told tell (enumerate_from 0 layer.port_rules) fits)
@@ -319,4 +326,5 @@ pub all_valid : (abi : Abi) (policy : List Layer) → misfits.misfit policy ≡ 
 unfolding fitted misfits.misfit
 all_valid abi policy fits =
     all_flat (λ numbered. misfits.layer_misfit numbered ≡ None) (IsValid abi) (fitted_if_any abi) (layer_valid abi) (enumerate_from 0 policy)
-    (none_told misfits.layer_misfit (enumerate_from 0 policy) (fits_in (length policy == 0) (nat_lt MOST_LAYERS (length policy)) wrong.NoLayer wrong.TooManyLayers _ fits))
+    (none_told misfits.layer_misfit (enumerate_from 0 policy)
+    (fits_in (length policy == 0) (nat_lt MOST_LAYERS (length policy)) wrong.NoLayer wrong.TooManyLayers _ fits))

@@ -94,7 +94,8 @@ on_port_by_right abi layer rule right known =
 
 -- ---- what a rule asks for
 
-pub on_directories : (abi : Abi) (layer : Layer) (rule : PathRule) (object : ℕ) (right : files.FsRight) → files.has (listed layer.handled_files) files.other ≡ false
+pub on_directories : (abi : Abi) (layer : Layer) (rule : PathRule) (object : ℕ) (right : files.FsRight)
+    → files.has (listed layer.handled_files) files.other ≡ false
     → files.has (rights_at abi layer rule (There object Dir)) right ≡ (lists rule.allowed right && is_left abi layer right)
 unfolding rights_on_kind
 on_directories abi layer rule object right known =

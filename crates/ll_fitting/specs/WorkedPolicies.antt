@@ -2,7 +2,8 @@
 -- Source: docs/FORMATS.md, "The policy file", and the policy of README.md.
 use Rattle.std.specs.Prelude.{ℕ, List, [], ◌∷◌, true, false}
 use Rattle.ll_rights.specs.declared.kind.Kind.TheVariants.{Dir, Reg}
-use Rattle.ll_rights.specs.Rights.{FsRight, execute, read_file, read_dir, named_rights}
+use Rattle.ll_rights.specs.Rights.{FsRight, execute, write_file, read_file, read_dir, remove_dir, remove_file, make_char, make_dir, make_reg, make_sock, make_fifo}
+use Rattle.ll_rights.specs.Rights.{make_block, make_sym, named_rights}
 use Rattle.ll_rights.specs.NetRights.{NetRight, connect_tcp}
 use Rattle.ll_rules.specs.WorkedRules.{these, these_on_ports}
 use Rattle.ll_fitting.specs.declared.written.FileAccess.{FileAccess}
@@ -48,6 +49,18 @@ layer handled handled_on_ports path_rules port_rules =
 abbrev pub handles_all : List PathRule → Layer
 handles_all path_rules = layer (lists [] named_rights) (lists_on_ports []) path_rules []
 
+-- a policy of one layer that handles some rights for files by their names
+abbrev pub handling : List FsRight → List PathRule → List Layer
+handling handled path_rules = layer (lists handled []) (lists_on_ports []) path_rules [] ∷ []
+
+-- a layer that handles connecting alone
+abbrev pub connecting : List PortRule → Layer
+connecting port_rules = layer (lists [] []) (lists_on_ports (connect_tcp ∷ [])) [] port_rules
+
+-- a layer that handles nothing and has a scope
+abbrev pub scope_alone : Layer
+scope_alone = record (layer (lists [] []) (lists_on_ports []) [] []) { scopes = record { abstract_unix_socket = false; signal = true } }
+
 abbrev pub directory : ℕ → Parent
 directory object = There object Dir
 
@@ -76,6 +89,15 @@ left index handled handled_on_ports path_rules port_rules = record {
   path_rules = path_rules;
   port_rules = port_rules;
 }
+
+-- a first layer that is left, without rules for ports
+abbrev pub left_handling : List FsRight → List FittedPathRule → List Fitted
+left_handling handled path_rules = left 0 handled [] path_rules [] ∷ []
+
+-- what version 1 knows of all rights
+abbrev pub first_rights : List FsRight
+first_rights =
+    execute ∷ write_file ∷ read_file ∷ read_dir ∷ remove_dir ∷ remove_file ∷ make_char ∷ make_dir ∷ make_reg ∷ make_sock ∷ make_fifo ∷ make_block ∷ make_sym ∷ []
 
 -- All that unfolds when worked policies are fitted.
 unfoldable pub fitting : Unit {0}

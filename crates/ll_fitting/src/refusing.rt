@@ -18,7 +18,7 @@ pub struct RefusedRule {
 }
 
 /// Whether each right of a set applies to what isn't a directory.
-#[tactic(auto, unfolding(ll_rights::specs::Rights::has, ll_rights::specs::Rights::every_right, ll_rights::specs::Rights::all_rights, ll_rights::specs::Rights::named_rights))]
+#[tactic(auto, using(ll_rules::proofs::RightSets::file_known, ll_rules::proofs::RightSets::file_rights_by_test))]
 fn are_for_files(rights: Fs) -> bool
     ensures { result ≡ are_file_rights rights }
 {

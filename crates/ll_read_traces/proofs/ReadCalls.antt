@@ -101,4 +101,5 @@ records_made (r ∷ records) all =
 
 pub all_made : (bytes : List ℕ) (records : List Record) → IsTrace bytes records → All (λ (r : Record). IsMade r.op) records
 all_made bytes records reads =
-    records_made records (subst (λ (entries : List Entry). All (λ (entry : Entry). IsMade entry.op) entries) (sym reads.reads.all) (entries_made (filled_lines bytes)))
+    records_made records (subst (λ (entries : List Entry). All (λ (entry : Entry). IsMade entry.op) entries) (sym reads.reads.all)
+    (entries_made (filled_lines bytes)))
