@@ -43,13 +43,19 @@ port_rule_misfit layer rule =
     else (if network.is_empty (common_on_ports (listed_on_ports rule.allowed) (listed_on_ports layer.handled_network)) then Some GrantsNothing
     else (if nat_lt LARGEST_PORT rule.port then Some NoPort else None))
 
+-- the same of a rule with its index
+abbrev pub told_of_path_rule : ℕ → Layer → ℕ × PathRule → Option Misfit
+told_of_path_rule index layer numbered = option_map (λ misfit. wrong.PathRule index numbered.0 misfit) (path_rule_misfit layer numbered.1)
+
+abbrev pub told_of_port_rule : ℕ → Layer → ℕ × PortRule → Option Misfit
+told_of_port_rule index layer numbered = option_map (λ misfit. wrong.PortRule index numbered.0 misfit) (port_rule_misfit layer numbered.1)
+
+-- the first rule of a layer that is wrong
 abbrev pub misfit_on_paths : ℕ → Layer → Option Misfit
-misfit_on_paths index layer =
-    first_of (λ numbered. option_map (λ misfit. wrong.PathRule index numbered.0 misfit) (path_rule_misfit layer numbered.1)) (enumerate_from 0 layer.path_rules)
+misfit_on_paths index layer = first_of (told_of_path_rule index layer) (enumerate_from 0 layer.path_rules)
 
 abbrev pub misfit_on_ports : ℕ → Layer → Option Misfit
-misfit_on_ports index layer =
-    first_of (λ numbered. option_map (λ misfit. wrong.PortRule index numbered.0 misfit) (port_rule_misfit layer numbered.1)) (enumerate_from 0 layer.port_rules)
+misfit_on_ports index layer = first_of (told_of_port_rule index layer) (enumerate_from 0 layer.port_rules)
 
 -- what is wrong with a layer: its rules come last, those for files first
 unfoldable pub layer_misfit : ℕ × Layer → Option Misfit

@@ -7,5 +7,6 @@ use Rattle.ll_fitting.proofs.fitting.fit_layers.Given as goal
 
 -- what is left so far, and what is left of the others, are all
 abbrev pub invariant-loop-index : goal.invariant-loop-index
-invariant-loop-index l = map shown l.left.items ++ flat_map (fitted_if_any l.abi) (enumerate_from l.index (map written (drop l.index l.layers))) ≡ flat_map
-    (fitted_if_any l.abi) (enumerate_from 0 (map written l.layers))
+invariant-loop-index l =
+    map shown l.left.items ++ flat_map (fitted_if_any l.abi) (enumerate_from l.index (map written (drop l.index l.layers)))
+    ≡ flat_map (fitted_if_any l.abi) (enumerate_from 0 (map written l.layers))

@@ -6,5 +6,6 @@ use Rattle.ll_fitting.proofs.fitting.fit_path_rules.Given as goal
 
 -- what is left so far, and what is left of the others, are all
 abbrev pub invariant-loop-index : goal.invariant-loop-index
-invariant-loop-index l = l.left.items ++ flat_map (fitted_path_rule l.abi (written l.layer))
-    (enumerate_from l.index (drop l.index l.rule-items)) ≡ flat_map (fitted_path_rule l.abi (written l.layer)) (enumerate_from 0 l.rule-items)
+invariant-loop-index l =
+    l.left.items ++ flat_map (fitted_path_rule l.abi (written l.layer)) (enumerate_from l.index (drop l.index l.rule-items))
+    ≡ flat_map (fitted_path_rule l.abi (written l.layer)) (enumerate_from 0 l.rule-items)
