@@ -1,18 +1,20 @@
 -- A small policy over the small tree, as operations of a process.
 -- Source: the tree is that of docs/FORMATS.md, "The tree file".
 use Rattle.std.specs.Prelude.{ℕ, List, [], ◌∷◌, codes, false}
-use Rattle.ll_rights.specs.declared.abi.Abi.TheVariants.{V4}
+use Rattle.ll_rights.specs.declared.abi.Abi.TheVariants.{V1, V4}
 use Rattle.ll_rights.specs.Rights.{read_file, read_dir, write_file, make_reg, truncate}
 use Rattle.ll_rights.specs.NetRights.{connect_tcp}
 use Rattle.ll_rules.specs.WorkedRules.{these, these_on_ports}
+use Rattle.ll_tree.specs.Trees.{root}
 use Rattle.ll_tree.specs.WorkedTree.{worked_tree}
 use Rattle.ll_trace.specs.declared.op.Op.{Op}
 use Rattle.ll_trace.specs.declared.op.Op.TheVariants as operations
 use Rattle.ll_trace.specs.declared.op.Record.{Record}
+use Rattle.ll_semantics.specs.Worlds.{World, empty_world, step}
 use Rattle.ll_fitting.specs.declared.written.Parent.TheVariants.{Missing}
 use Rattle.ll_fitting.specs.Written.{Layer}
 use Rattle.ll_fitting.specs.Fitting.{fitted}
-use Rattle.ll_fitting.specs.WorkedPolicies.{layer, lists, lists_on_ports, on, directory, file}
+use Rattle.ll_fitting.specs.WorkedPolicies.{handling, layer, lists, lists_on_ports, on, directory, file}
 use Rattle.ll_enforcing.specs.Answered.{records_of, operations_of}
 
 -- The first layer has rules on a directory, on a file, on an object that is missing, and one that the kernel refuses on a file;
@@ -64,6 +66,14 @@ newer_on_a_file = layer (lists (truncate ∷ make_reg ∷ []) []) (lists_on_port
 abbrev pub left_out : List Op
 left_out =
     operations.Nnp ∷ operations.Create 3 (these (make_reg ∷ [])) (these_on_ports []) ∷ operations.LeaveOutPath (codes "/b/g") ∷ operations.Restrict 3 ∷ operations.CloseRs 3 ∷ []
+
+-- ---- a process that may enforce a policy: it has just started, and the tree is the root alone
+
+abbrev pub on_the_root : List Layer
+on_the_root = handling (read_file ∷ []) (on (lists (read_file ∷ []) []) (directory 0) ∷ [])
+
+abbrev pub just_started : World
+just_started = step (root ∷ []) V1 empty_world 0 (operations.Start false false)
 
 -- All that unfolds when the calls for a worked policy are made and answered.
 unfoldable pub enforcing : Unit {0}

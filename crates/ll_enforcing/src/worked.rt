@@ -8,10 +8,11 @@ ghost use Rattle.ll_rules.specs.declared.errno.Errno.TheVariants.{Inval};
 ghost use Rattle.ll_semantics.specs.declared.answer.Answer.TheVariants.{Allowed, Moot, Refused};
 ghost use Rattle.ll_semantics.specs.Worlds.{judged};
 ghost use Rattle.ll_fitting.specs.Fitting.{fitted};
-ghost use Rattle.ll_enforcing.specs.Answered.{operations_of};
+ghost use Rattle.ll_enforcing.specs.Answered.{operations_of, MayEnforce};
+ghost use Rattle.ll_tree.specs.Trees.{root};
 ghost use Rattle.ll_enforcing.specs.AtBestEffort.{taken_at};
 ghost use Rattle.ll_fitting.specs.Taken.{first_refused};
-ghost use Rattle.ll_enforcing.specs.WorkedCalls.{small, small_operations, nowhere, confined, newer_on_a_file, left_out};
+ghost use Rattle.ll_enforcing.specs.WorkedCalls.{small, small_operations, nowhere, confined, newer_on_a_file, left_out, on_the_root, just_started};
 
 /// Two layers: a group on a file is masked, a rule on a missing object is moot, and a rule that only a directory can
 /// have is refused on a file.
@@ -30,4 +31,9 @@ pub fn worked_difference()
     ensures refused { first_refused (fitted V1 newer_on_a_file)
         ≡ Some (record { layer = 0; rule = 0 }) }
     ensures newer { first_refused (fitted V5 newer_on_a_file) ≡ None }
+{}
+
+/// A process that has just started may enforce a policy with a rule on the root.
+pub fn worked_start()
+    ensures { MayEnforce (root ∷ []) nowhere 3 0 (fitted V1 on_the_root) just_started }
 {}
