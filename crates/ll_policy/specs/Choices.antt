@@ -3,7 +3,7 @@
 -- Source: the kernel's userspace document on Landlock, "Layers of file path access rights".
 use Rattle.std.specs.Prelude.{ℕ, Bool, not, ◌&&◌, ◌||◌, ◌==◌, List, [], ◌∷◌, Option, Some, None, filter, find, All, ◌<◌, ◌≡◌, ◌++◌}
 use Rattle.std.specs.List.{list_any, list_all, range_with_len}
-use Rattle.ll_policy.specs.Chains.{Granting, is_among}
+use Rattle.ll_policy.specs.Chains.{Granting, is_among, lets, passes}
 
 -- the directories among some objects are among others
 unfoldable pub are_within : (ℕ → Bool) → List ℕ → List ℕ → Bool
@@ -54,3 +54,13 @@ pub record IsChainOfExtra (is_file : ℕ → Bool) (always : List ℕ) (file : O
   pub bound : ℕ
   pub below : AreBelow bound new
   pub objects : chain ≡ always ++ filter (is_extra is_file file old new) (range_with_len 0 bound)
+
+-- ---- single objects
+
+-- new layers let the right pass by the rules on an object and on the root, and the old one doesn't
+unfoldable pub is_enough : Granting → List Granting → ℕ → Bool
+is_enough old new object = not (lets (0 ∷ object ∷ []) old) && passes new (0 ∷ object ∷ [])
+
+-- of so many objects those that are enough
+unfoldable pub enough_of : ℕ → Granting → List Granting → List ℕ
+enough_of count old new = filter (is_enough old new) (range_with_len 0 count)

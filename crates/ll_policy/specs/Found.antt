@@ -1,6 +1,6 @@
 -- What is found of two policies, for each right and each old layer.
 -- Source: landlock(7), "Filesystem actions" and "Network flags".
-use Rattle.std.specs.Prelude.{ℕ, Bool, List, [], map, Option, Vec}
+use Rattle.std.specs.Prelude.{◌≡◌, ℕ, Bool, List, [], map, Option, Vec}
 use Rattle.std.specs.List.{AllZip, list_all}
 use Rattle.std.specs.Option.{is_none}
 use Rattle.std.specs.Global.{Global}
@@ -8,13 +8,22 @@ use Rattle.ll_rights.specs.Rights.{FsRight}
 use Rattle.ll_rights.specs.NetRights.{NetRight}
 use Rattle.ll_rules.specs.Layers.{RulesOn}
 use Rattle.ll_policy.specs.declared.gaining.Gain.{Gain}
-use Rattle.ll_policy.specs.Chains.{Tells}
+use Rattle.ll_policy.specs.Chains.{Granting, Tells}
+use Rattle.ll_policy.specs.Choices.{enough_of}
 use Rattle.ll_policy.specs.Gains.{TellsGain}
 use Rattle.ll_policy.specs.Granted.{granting, granting_on_ports, root, is_port}
 
 -- what is found of a right for files: for each old layer nothing, or a chain
 abbrev pub TellsObjects : (ℕ → Bool) → List (RulesOn ℕ) → List (RulesOn ℕ) → FsRight → Vec (Option (Vec ℕ Global)) Global → Type 0
 TellsObjects is_file old new right found = AllZip (Tells is_file root (map (granting right) new)) (map (granting right) old) found.items
+
+-- what is found of an old layer: those of so many objects each of which is enough
+abbrev pub TellsSingle : ℕ → List Granting → Granting → Vec ℕ Global → Type 0
+TellsSingle count new old found = found.items ≡ enough_of count old new
+
+-- what is found of a right for files: for each old layer the objects each of which is enough
+abbrev pub TellsSingleObjects : ℕ → List (RulesOn ℕ) → List (RulesOn ℕ) → FsRight → Vec (Vec ℕ Global) Global → Type 0
+TellsSingleObjects count old new right found = AllZip (TellsSingle count (map (granting right) new)) (map (granting right) old) found.items
 
 -- what is found of a right for files when objects are moved: for each old layer nothing, or a gain
 abbrev pub TellsGains : (ℕ → Bool) → List (RulesOn ℕ) → List (RulesOn ℕ) → FsRight → Vec (Option Gain) Global → Type 0

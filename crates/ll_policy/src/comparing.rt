@@ -6,13 +6,13 @@ ghost use Rattle.ll_rights.specs.CodeRights.{fs_right, net_right};
 ghost use Rattle.ll_rights.specs.Rights as for_files;
 ghost use Rattle.ll_rights.specs.NetRights as for_ports;
 ghost use Rattle.ll_policy.specs.Chains.{AreDirectories};
-ghost use Rattle.ll_policy.specs.Found.{TellsObjects, TellsGains, TellsPorts, is_nothing};
+ghost use Rattle.ll_policy.specs.Found.{TellsObjects, TellsGains, TellsPorts, TellsSingleObjects, is_nothing};
 ghost use Rattle.ll_policy.specs.Gains.{AllKeepGains};
 ghost use Rattle.ll_policy.specs.Granted.{root, NothingMoreOnObjects, NothingMoreOnPorts};
 ghost use Rattle.ll_policy.specs.Places.{is_file_in};
 ghost use Rattle.ll_policy.specs.Policies.{rules_of};
 
-use crate::deciding::{ROOT, excesses};
+use crate::deciding::{ROOT, each_enough, excesses};
 use crate::gaining::{Gain, gains};
 use crate::granting::{all_on_objects, all_on_ports};
 use crate::layer::Layer;
@@ -51,6 +51,41 @@ pub fn more_on_objects(
     let mut found = Vec::new(alloc);
     for right in FsRight::all() {
         found.push(objects_with(alloc, files, old, new, *right)?)?;
+    }
+    Ok(found)
+}
+
+/// For each old layer, those of so many objects by each of which new layers let a right pass and it doesn't.
+fn single_with(
+    alloc: Global,
+    count: usize,
+    old: &[Layer],
+    new: &[Layer],
+    right: FsRight,
+) -> Result<Vec<Vec<usize>>, AllocError>
+    ensures { IfOk result (TellsSingleObjects count (map rules_of old.now)
+        (map rules_of new.now) (fs_right right)) }
+{
+    let old = all_on_objects(alloc, old, right)?;
+    let new = all_on_objects(alloc, new, right)?;
+    each_enough(alloc, count, &old, &new)
+}
+
+/// The objects by each of which new layers let a right pass and old ones don't, among so many: for each right for files
+/// and each old layer.
+pub fn more_on_single_objects(
+    alloc: Global,
+    count: usize,
+    old: &[Layer],
+    new: &[Layer],
+) -> Result<Vec<Vec<Vec<usize>>>, AllocError>
+    ensures { IfOk result (λ found. AllZip
+        (TellsSingleObjects count (map rules_of old.now) (map rules_of new.now))
+        for_files.all_rights found.items) }
+{
+    let mut found = Vec::new(alloc);
+    for right in FsRight::all() {
+        found.push(single_with(alloc, count, old, new, *right)?)?;
     }
     Ok(found)
 }

@@ -1,10 +1,11 @@
 //! Whether new layers let more pass than an old one.
 
 ghost use Rattle.std.specs.Prelude.{◌≡◌, ◌≢◌, ◌||◌, [], not, true, false, None, IfOk};
-ghost use Rattle.ll_policy.specs.Chains.{is_among, lets, some_among, AreDirectories, Tells};
+ghost use Rattle.ll_policy.specs.Chains.{is_among, lets, some_among, passes, AreDirectories, Tells};
 ghost use Rattle.std.specs.List.{AllZip};
 ghost use Rattle.ll_policy.specs.Places.{is_file_in, places_of};
-ghost use Rattle.ll_policy.specs.Choices.{are_within, is_narrow, narrow_ones, some_grants, all_grant, is_open, open_file, counts, is_extra, AreBelow, IsChainOfExtra};
+ghost use Rattle.ll_policy.specs.Choices.{are_within, is_narrow, narrow_ones, some_grants, all_grant, is_open, open_file, counts, is_extra, AreBelow, IsChainOfExtra, is_enough, enough_of};
+ghost use Rattle.ll_policy.specs.Found.{TellsSingle};
 
 use crate::granting::Granting;
 use std::alloc::{AllocError, Global};
@@ -231,6 +232,58 @@ pub fn excesses(
     let mut found = Vec::new(alloc);
     for layer in old {
         found.push(excess(alloc, files, always, layer, new)?)?;
+    }
+    Ok(found)
+}
+
+/// Whether each layer lets a chain pass.
+#[tactic(auto, unfolding(crate::specs::Chains::passes))]
+fn passes(chain: &[usize], layers: &[Granting]) -> bool
+    ensures { result ≡ passes layers.now chain.now }
+{
+    layers.iter().all(|layer| lets(chain, layer))
+}
+
+/// Whether new layers let the right pass by the rules on an object and on the root, and an old one doesn't.
+#[tactic(auto, unfolding(crate::specs::Choices::is_enough))]
+fn is_enough(old: &Granting, new: &[Granting], object: usize) -> bool
+    ensures { result ≡ is_enough old.now new.now object }
+{
+    let chain = [ROOT, object];
+    !lets(&chain, old) && passes(&chain, new)
+}
+
+/// Of so many objects those by each of which new layers let the right pass, and an old one doesn't.
+#[tactic(auto, unfolding(crate::specs::Choices::enough_of))]
+fn enough_of(
+    alloc: Global,
+    count: usize,
+    old: &Granting,
+    new: &[Granting],
+) -> Result<Vec<usize>, AllocError>
+    ensures { IfOk result (TellsSingle count new.now old.now) }
+{
+    let mut enough = Vec::new(alloc);
+    for object in 0..count {
+        if is_enough(old, new, object) {
+            enough.push(object)?;
+        }
+    }
+    Ok(enough)
+}
+
+/// The same for each of some old layers.
+pub(crate) fn each_enough(
+    alloc: Global,
+    count: usize,
+    old: &[Granting],
+    new: &[Granting],
+) -> Result<Vec<Vec<usize>>, AllocError>
+    ensures { IfOk result (λ found. AllZip (TellsSingle count new.now) old.now found.items) }
+{
+    let mut found = Vec::new(alloc);
+    for layer in old {
+        found.push(enough_of(alloc, count, layer, new)?)?;
     }
     Ok(found)
 }

@@ -1,6 +1,6 @@
 //! What holds of layers by their definitions.
 
-ghost use Rattle.std.specs.Prelude.{◌≡◌, ◌↔◌, ◌<◌, ℕ, Bool, true, [], ◌∷◌, List, All, Option, Vec, length, map};
+ghost use Rattle.std.specs.Prelude.{◌≡◌, ◌↔◌, ◌<◌, ℕ, Bool, true, false, [], ◌∷◌, List, All, Option, Vec, length, map};
 ghost use Rattle.std.specs.{Global.Global, List.AllZip, List.Contains};
 ghost use Rattle.ll_rights.specs.Rights as files;
 ghost use Rattle.ll_rights.specs.{declared.fs.Fs.Fs as FsSet, Rights.FsRight, Rights.only};
@@ -17,6 +17,7 @@ ghost use Rattle.ll_policy.specs.WorkedPolicies.{both, stricter};
 ghost use Rattle.ll_rules.specs.InTree.{all_in_tree, IsTargetIn};
 ghost use Rattle.ll_rules.specs.{Checks.refusing, Checks.refusing_port, Moves.move_verdict};
 ghost use Rattle.ll_policy.specs.Chains.{Granting, IsChain, IsExcess, NothingMore, NothingMoreThan, passes};
+ghost use Rattle.ll_policy.specs.Choices.{enough_of};
 ghost use Rattle.ll_policy.specs.Granted.{granting, root, NothingMoreOnObjects, NothingMoreOnPorts};
 ghost use Rattle.ll_policy.specs.Gains.{AllKeepGains};
 ghost use Rattle.ll_policy.specs.{declared.gaining.Gain.Gain as Gained};
@@ -32,6 +33,14 @@ pub fn layers_are_compared_one_by_one()
     ensures excess { (is_file : ℕ → Bool) (always : List ℕ) (old : Granting) (new : List Granting)
         (chain : List ℕ) → IsExcess is_file always old new chain
         → NothingMoreThan is_file always old new → ⊥ }
+{}
+
+/// An object that is told as enough by itself makes a chain with the root that new layers let pass and the old one
+/// doesn't.
+pub fn single_objects_are_enough()
+    ensures { (is_file : ℕ → Bool) (count object : ℕ) (old : Granting) (new : List Granting)
+        → is_file 0 ≡ false → Contains (enough_of count old new) object
+        → IsExcess is_file root old new (0 ∷ object ∷ []) }
 {}
 
 /// The way up from an object of a tree is a chain with the root on it, whichever nodes are asked about. Layers let it

@@ -8,13 +8,13 @@ mod granting;
 mod laws;
 mod layer;
 
-pub use comparing::{more_gains, more_on_objects, more_on_ports};
+pub use comparing::{more_gains, more_on_objects, more_on_ports, more_on_single_objects};
 pub use deciding::{ROOT, excess};
 pub use gaining::Gain;
 pub use granting::Granting;
 pub use laws::{
     equal_policies_may_move_apart, layers_are_compared_one_by_one, no_move_passes_more,
     nothing_is_found_where_there_is_nothing_more, nothing_more_in_any_tree,
-    ports_are_compared_one_by_one, ways_up_are_chains,
+    ports_are_compared_one_by_one, single_objects_are_enough, ways_up_are_chains,
 };
 pub use layer::{Layer, Restriction, lost, spare_layers};

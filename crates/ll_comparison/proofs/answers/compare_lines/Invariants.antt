@@ -1,0 +1,5 @@
+use Rattle.ll_comparison.specs.SoFar.{AreAnsweredTo}
+use Rattle.ll_comparison.proofs.answers.compare_lines.Given as goal
+
+abbrev pub invariant-loop-line : goal.invariant-loop-line
+invariant-loop-line l = AreAnsweredTo l.bytes l.line-iterator l.text.items

@@ -1,0 +1,9 @@
+use Rattle.std.proofs.Common.{◌≡◌, [], drop, map}
+use Rattle.serde_json.specs.View.{items_view}
+use Rattle.ll_comparison.specs.Comparisons.{fold_items, one_more, layer_in, seen}
+use Rattle.ll_comparison.proofs.comparison.layers_in.Given as goal
+
+abbrev pub invariant-loop-value : goal.invariant-loop-value
+invariant-loop-value l =
+    fold_items (one_more (layer_in l.objects l.ports)) (map seen l.layers.items) (items_view (drop l.value-index l.values))
+    ≡ fold_items (one_more (layer_in l.objects l.ports)) [] (items_view l.values)

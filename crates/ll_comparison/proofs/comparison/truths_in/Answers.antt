@@ -1,0 +1,19 @@
+use Rattle.std.proofs.Common.{rules, drop, sym, subst, ◌∙◌}
+use Rattle.serde_json.specs.View.{items_view}
+use Rattle.ll_lines.specs.Readers.{Fails}
+use Rattle.ll_comparison.specs.Comparisons.{fold_items, one_more, truth_in}
+use Rattle.ll_comparison.proofs.Folds.{fold_next, fold_fails}
+use Rattle.ll_comparison.proofs.comparison.truths_in.Goals as goal
+
+pub loop-value-preserved : goal.loop-value-preserved
+loop-value-preserved c =
+    sym (fold_next (one_more truth_in) c.loop-value.truths.items c.take_truth.new.truths.items c.args.values.now c.loop-value.value-index c.value-item.result
+    c.loop-value-test.true c.value-item.is c.in_ok-take_truth.ensures) ∙ c.loop-value.invariant
+
+pub returns-in_err-take_truth : goal.returns-in_err-take_truth
+returns-in_err-take_truth c =
+    let cause = c.in_err-take_truth.field-0.0 in
+    let fails : Fails cause (fold_items (one_more truth_in) c.loop-value.truths.items (items_view (drop c.loop-value.value-index c.args.values.now))) =
+    fold_fails (one_more truth_in) c.loop-value.truths.items c.args.values.now c.loop-value.value-index c.value-item.result cause c.loop-value-test.true c.value-item.is c.in_err-take_truth.ensures in
+    let whole = subst (λ read. Fails cause read) c.loop-value.invariant fails in
+    search rules

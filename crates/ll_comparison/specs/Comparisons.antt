@@ -1,0 +1,173 @@
+-- A comparison of two policies, as a line of JSON says it: which objects are files, and the layers of both. Rules are on
+-- objects and ports by their numbers; what several rules grant on one number is granted there together.
+-- Source: docs/RULES.md; landlock(7), "Landlock rules".
+use Rattle.std.specs.Prelude.{ℕ, Bool, true, nat_lt, nat_le, List, [], ◌∷◌, ◌++◌, length, map, replicate, codes, option_and_then, ok_or, Result, Ok, Err, slice_set, slice_index_or, if◌then◌else◌}
+use Rattle.serde_json.specs.Data.{Data, Items, no_items, item}
+use Rattle.serde_json.specs.Find.{as_bool, as_number, as_u64}
+use Rattle.ll_rights.specs.declared.fs.Fs.{Fs}
+use Rattle.ll_rights.specs.declared.net.Net.{Net}
+use Rattle.ll_rights.specs.Rights as files
+use Rattle.ll_rights.specs.NetRights as network
+use Rattle.ll_lines.specs.declared.fault.Cause.{Cause}
+use Rattle.ll_lines.specs.declared.fault.Cause.TheVariants.{Field}
+use Rattle.ll_lines.specs.Members.{value_at, number_at, flag_at, items_at, ◌>>=◌}
+use Rattle.ll_members.specs.Rights.{fs_at, net_at}
+use Rattle.ll_policy.specs.declared.layer.Layer.{Layer}
+use Rattle.ll_comparison.specs.declared.comparison.TheConstants.{MOST_PORTS}
+use Rattle.ll_comparison.specs.declared.comparison.Comparison.{Comparison as Compared}
+
+-- a layer: what it handles, what is granted on each object and on each port, by their numbers, and its scopes
+pub record LayerSeen : Type 0 where
+  pub files : Fs
+  pub network : Net
+  pub on_objects : List Fs
+  pub on_ports : List Net
+  pub abstract_unix_socket : Bool
+  pub signal : Bool
+
+pub record Comparison : Type 0 where
+  pub files : List Bool
+  pub old : List LayerSeen
+  pub new : List LayerSeen
+
+-- ---- the values of a list, one after another
+
+-- each value taken in after those before it
+unfoldable pub fold_items : {Whole : Type 0} → (Whole → Data → Result Whole Cause) → Whole → Items → Result Whole Cause
+fold_items add whole no_items = Ok whole
+fold_items add whole (item value others) = do
+  more ← add whole value
+  fold_items add more others
+
+-- one more behind those before it
+unfoldable pub one_more : {X : Type 0} → (Data → Result X Cause) → List X → Data → Result (List X) Cause
+one_more read earlier value = do
+  x ← read value
+  Ok (earlier ++ x ∷ [])
+
+-- the values of a member that is a list, each read by itself
+abbrev pub list_at : {X : Type 0} → List ℕ → (Data → Result X Cause) → Data → Result (List X) Cause
+list_at name read value = do
+  items ← items_at name value
+  fold_items (one_more read) [] items
+
+-- ---- rules
+
+-- a number in a list, below a bound
+unfoldable pub place_in : ℕ → Data → Result ℕ Cause
+place_in bound value = do
+  number ← ok_or (option_and_then as_u64 (as_number value)) Field
+  if nat_lt number bound then Ok number else Err Field
+
+-- some rights more on the object of a number
+unfoldable pub with_files_on : Fs → List Fs → Data → Result (List Fs) Cause
+with_files_on rights sets value = do
+  place ← place_in (length sets) value
+  Ok (slice_set sets place (files.united (slice_index_or sets place files.no_right) rights))
+
+-- what a rule grants more on its objects
+unfoldable pub with_object_rule : List Fs → Data → Result (List Fs) Cause
+with_object_rule sets value = do
+  rights ← fs_at value
+  objects ← items_at (codes "objects") value
+  fold_items (with_files_on rights) sets objects
+
+-- what all rules grant on each of so many objects
+unfoldable pub on_objects_at : ℕ → Data → Result (List Fs) Cause
+on_objects_at count value = do
+  rules ← items_at (codes "object_rules") value
+  fold_items with_object_rule (replicate count files.no_right) rules
+
+-- some rights more on the port of a number
+unfoldable pub with_network_on : Net → List Net → Data → Result (List Net) Cause
+with_network_on rights sets value = do
+  place ← place_in (length sets) value
+  Ok (slice_set sets place (network.united (slice_index_or sets place network.no_right) rights))
+
+-- what a rule grants more on its ports
+unfoldable pub with_port_rule : List Net → Data → Result (List Net) Cause
+with_port_rule sets value = do
+  rights ← net_at value
+  ports ← items_at (codes "ports") value
+  fold_items (with_network_on rights) sets ports
+
+-- what all rules grant on each of so many ports
+unfoldable pub on_ports_at : ℕ → Data → Result (List Net) Cause
+on_ports_at count value = do
+  rules ← items_at (codes "port_rules") value
+  fold_items with_port_rule (replicate count network.no_right) rules
+
+-- ---- layers
+
+-- the scope of abstract UNIX sockets, and that of signals
+unfoldable pub scopes_in : Data → Result (Bool × Bool) Cause
+scopes_in value = do
+  sockets ← flag_at (codes "abstract_unix_socket") value
+  signals ← flag_at (codes "signal") value
+  Ok (sockets, signals)
+
+-- a layer with rules on so many objects and ports
+unfoldable pub layer_in : ℕ → ℕ → Data → Result LayerSeen Cause
+layer_in objects ports value = do
+  handled ← fs_at value
+  handled_network ← net_at value
+  on_objects ← on_objects_at objects value
+  on_ports ← on_ports_at ports value
+  scopes ← scopes_in value
+  Ok (record {
+    files = handled;
+    network = handled_network;
+    on_objects = on_objects;
+    on_ports = on_ports;
+    abstract_unix_socket = scopes.0;
+    signal = scopes.1;
+  })
+
+unfoldable pub layers_at : List ℕ → ℕ → ℕ → Data → Result (List LayerSeen) Cause
+layers_at name objects ports value = list_at name (layer_in objects ports) value
+
+-- ---- the comparison
+
+unfoldable pub truth_in : Data → Result Bool Cause
+truth_in value = ok_or (as_bool value) Field
+
+-- which objects are files; object 0 is the root, a directory
+unfoldable pub files_at : Data → Result (List Bool) Cause
+files_at value = do
+  files ← list_at (codes "files") truth_in value
+  if slice_index_or files 0 true then Err Field else Ok files
+
+-- how many ports are numbered
+unfoldable pub port_count_at : Data → Result ℕ Cause
+port_count_at value = do
+  count ← number_at (codes "ports") value
+  if nat_le count MOST_PORTS then Ok count else Err Field
+
+unfoldable pub comparison_in : Data → Result Comparison Cause
+comparison_in value = do
+  files ← files_at value
+  ports ← port_count_at value
+  old ← layers_at (codes "old") (length files) ports value
+  new ← layers_at (codes "new") (length files) ports value
+  Ok (record { files = files; old = old; new = new })
+
+-- the comparison on a line
+unfoldable pub comparison_on : List ℕ → Result Comparison Cause
+comparison_on line = do
+  value ← value_at line
+  comparison_in value
+
+-- ---- what a reader has of it
+
+abbrev pub seen : Layer → LayerSeen
+seen layer = record {
+  files = layer.files;
+  network = layer.network;
+  on_objects = layer.on_objects.items;
+  on_ports = layer.on_ports.items;
+  abstract_unix_socket = layer.abstract_unix_socket;
+  signal = layer.signal;
+}
+
+abbrev pub all_seen : Compared → Comparison
+all_seen comparison = record { files = comparison.files.items; old = map seen comparison.old.items; new = map seen comparison.new.items }

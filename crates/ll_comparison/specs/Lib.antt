@@ -1,0 +1,6 @@
+pub mod Comparisons
+pub mod Findings
+pub mod Texts
+pub mod Answers
+pub mod SoFar
+pub mod Programs

@@ -1,0 +1,184 @@
+//! A comparison of two policies, as a line says it.
+
+ghost use Rattle.std.specs.Prelude.{◌≡◌, IfOk, length, map, false, []};
+ghost use Rattle.serde_json.specs.View.{view, items_view};
+ghost use Rattle.ll_lines.specs.Readers.{Gives, Reads};
+ghost use Rattle.ll_policy.specs.Places.{is_file_in};
+ghost use Rattle.ll_comparison.specs.Comparisons.{fold_items, one_more, truth_in, scopes_in, files_at, port_count_at, layer_in, layers_at, comparison_in, comparison_on, seen, all_seen};
+
+use crate::members::{flag_of, fs_of, items_of, net_of, number_of, truth_in_list, value_of};
+use crate::rules::{granted_on_objects, granted_on_ports};
+use ll_lines::Cause;
+use ll_policy::Layer;
+use serde_json::Value;
+use std::alloc::Global;
+
+/// The most ports that are numbered: a port has 16 bits.
+pub const MOST_PORTS: u64 = 65_536;
+
+/// Two policies that are to be compared.
+#[derive(Drop)]
+pub struct Comparison {
+    /// Which objects are files, by their numbers. Object 0 is the root.
+    pub files: Vec<bool>,
+    /// The layers of the policy that is compared with.
+    pub old: Vec<Layer>,
+    /// The layers of the policy that may let more pass.
+    pub new: Vec<Layer>,
+}
+
+/// Takes in true or false.
+#[tactic(auto, unfolding(crate::specs::Comparisons::one_more))]
+fn take_truth(truths: &mut Vec<bool>, value: &Value) -> Result<(), Cause>
+    ensures { Gives (λ _. truths.new.items) result
+        (one_more truth_in truths.old.items (view value.now)) }
+{
+    let truth = truth_in_list(value)?;
+    truths.push(truth)?;
+    Ok(())
+}
+
+/// True or false, once for each value of a list.
+#[tactic(auto, using(crate::proofs::Folds::fold_fault, crate::proofs::Folds::fold_end))]
+fn truths_in(alloc: Global, values: &[Value]) -> Result<Vec<bool>, Cause>
+    ensures { Gives (λ truths. truths.items) result
+        (fold_items (one_more truth_in) [] (items_view values.now)) }
+{
+    let mut truths = Vec::new(alloc);
+    for value in values {
+        take_truth(&mut truths, value)?;
+    }
+    Ok(truths)
+}
+
+/// Which objects are files.
+#[tactic(auto, unfolding(crate::specs::Comparisons::files_at))]
+fn files_of(alloc: Global, value: &Value) -> Result<Vec<bool>, Cause>
+    ensures files { Gives (λ files. files.items) result (files_at (view value.now)) }
+    ensures root { IfOk result (λ files. is_file_in files.items 0 ≡ false) }
+{
+    let values = items_of(value, "files")?;
+    let files = truths_in(alloc, values)?;
+    if files.first().copied().unwrap_or(true) {
+        return Err(Cause::Field);
+    }
+    Ok(files)
+}
+
+/// How many ports are numbered.
+#[tactic(auto, unfolding(crate::specs::Comparisons::port_count_at))]
+fn port_count_of(value: &Value) -> Result<usize, Cause>
+    ensures { Reads (λ count. count) result (port_count_at (view value.now)) }
+{
+    let count = number_of(value, "ports")?;
+    if count > MOST_PORTS {
+        return Err(Cause::Field);
+    }
+    Ok(count as usize)
+}
+
+/// Which scopes a layer has: that of abstract UNIX sockets, and that of signals.
+#[tactic(auto, unfolding(crate::specs::Comparisons::scopes_in))]
+fn scopes_of(value: &Value) -> Result<(bool, bool), Cause>
+    ensures { Reads (λ scopes. scopes) result (scopes_in (view value.now)) }
+{
+    let sockets = flag_of(value, "abstract_unix_socket")?;
+    let signals = flag_of(value, "signal")?;
+    Ok((sockets, signals))
+}
+
+/// A layer with rules on so many objects and ports.
+#[tactic(auto, unfolding(crate::specs::Comparisons::layer_in))]
+fn layer_of(alloc: Global, objects: usize, ports: usize, value: &Value) -> Result<Layer, Cause>
+    ensures { Gives seen result (layer_in objects ports (view value.now)) }
+{
+    let files = fs_of(value)?;
+    let network = net_of(value)?;
+    let on_objects = granted_on_objects(alloc, objects, value)?;
+    let on_ports = granted_on_ports(alloc, ports, value)?;
+    let (abstract_unix_socket, signal) = scopes_of(value)?;
+    Ok(Layer {
+        files,
+        network,
+        on_objects,
+        on_ports,
+        abstract_unix_socket,
+        signal,
+    })
+}
+
+/// Takes in a layer.
+#[tactic(auto, unfolding(crate::specs::Comparisons::one_more))]
+fn take_layer(
+    alloc: Global,
+    layers: &mut Vec<Layer>,
+    objects: usize,
+    ports: usize,
+    value: &Value,
+) -> Result<(), Cause>
+    ensures { Gives (λ _. map seen layers.new.items) result
+        (one_more (layer_in objects ports) (map seen layers.old.items) (view value.now)) }
+{
+    let layer = layer_of(alloc, objects, ports, value)?;
+    layers.push(layer)?;
+    Ok(())
+}
+
+/// A layer for each value of a list.
+#[tactic(auto, using(crate::proofs::Folds::fold_fault, crate::proofs::Folds::fold_end))]
+fn layers_in(
+    alloc: Global,
+    objects: usize,
+    ports: usize,
+    values: &[Value],
+) -> Result<Vec<Layer>, Cause>
+    ensures { Gives (λ layers. map seen layers.items) result
+        (fold_items (one_more (layer_in objects ports)) [] (items_view values.now)) }
+{
+    let mut layers = Vec::new(alloc);
+    for value in values {
+        take_layer(alloc, &mut layers, objects, ports, value)?;
+    }
+    Ok(layers)
+}
+
+/// The layers of a policy.
+#[tactic(auto, unfolding(crate::specs::Comparisons::layers_at))]
+fn layers_of(
+    alloc: Global,
+    name: &str,
+    objects: usize,
+    ports: usize,
+    value: &Value,
+) -> Result<Vec<Layer>, Cause>
+    ensures { Gives (λ layers. map seen layers.items) result
+        (layers_at name.now objects ports (view value.now)) }
+{
+    let values = items_of(value, name)?;
+    layers_in(alloc, objects, ports, values)
+}
+
+/// The comparison that a value describes.
+#[tactic(auto, unfolding(crate::specs::Comparisons::comparison_in))]
+fn comparison_of(alloc: Global, value: &Value) -> Result<Comparison, Cause>
+    ensures comparison { Gives all_seen result (comparison_in (view value.now)) }
+    ensures root { IfOk result (λ comparison. is_file_in comparison.files.items 0 ≡ false) }
+{
+    let files = files_of(alloc, value)?;
+    let ports = port_count_of(value)?;
+    let old = layers_of(alloc, "old", files.len(), ports, value)?;
+    let new = layers_of(alloc, "new", files.len(), ports, value)?;
+    Ok(Comparison { files, old, new })
+}
+
+impl Comparison {
+    /// Reads the comparison on a line: one JSON object.
+    #[tactic(auto, unfolding(crate::specs::Comparisons::comparison_on))]
+    pub fn read(alloc: Global, line: &[u8]) -> Result<Comparison, Cause>
+        ensures comparison { Gives all_seen result (comparison_on line.now) }
+        ensures root { IfOk result (λ comparison. is_file_in comparison.files.items 0 ≡ false) }
+    {
+        let value = value_of(alloc, line)?;
+        comparison_of(alloc, &value)
+    }
+}

@@ -1,0 +1,70 @@
+//! What is found of two policies.
+
+ghost use Rattle.std.specs.Prelude.{◌≡◌, false, IfOk};
+ghost use Rattle.ll_policy.specs.Places.{is_file_in};
+ghost use Rattle.ll_comparison.specs.Findings.{AreLost, IsFound};
+
+use crate::comparison::Comparison;
+use ll_policy::{
+    Gain, Layer, Restriction, lost, more_gains, more_on_objects, more_on_ports,
+    more_on_single_objects, spare_layers,
+};
+use std::alloc::{AllocError, Global};
+
+/// What the new policy of a comparison lets pass and the old one doesn't. Layers are those of the old policy, by their
+/// indices.
+#[derive(Drop)]
+pub struct Found {
+    /// For each right for files and each old layer, objects by which new layers let it pass, if there are such.
+    pub objects: Vec<Vec<Option<Vec<usize>>>>,
+    /// For each right for files and each old layer, the objects by each of which alone, and the root, new layers let it
+    /// pass.
+    pub single: Vec<Vec<Vec<usize>>>,
+    /// For each right for files and each old layer, what gains the right in it and in no new layer.
+    pub gains: Vec<Vec<Option<Gain>>>,
+    /// For each right for ports and each old layer, a port that new layers let pass, or none for all without a rule.
+    pub ports: Vec<Vec<Option<Vec<usize>>>>,
+    /// The restrictions that are lost.
+    pub lost: Lost,
+    /// How many layers more a process can stack.
+    pub spare_layers: usize,
+}
+
+/// For each restriction the first old layer that has it, if no new one does.
+#[derive(Clone, Copy, Debug, PartialEq, Eq)]
+pub struct Lost {
+    pub mounts: Option<usize>,
+    pub abstract_unix_socket: Option<usize>,
+    pub signal: Option<usize>,
+}
+
+/// Which restrictions are lost.
+fn all_lost(old: &[Layer], new: &[Layer]) -> Lost
+    ensures { AreLost old.now new.now result }
+{
+    Lost {
+        mounts: lost(Restriction::Mounts, old, new),
+        abstract_unix_socket: lost(Restriction::AbstractUnixSocket, old, new),
+        signal: lost(Restriction::Signal, old, new),
+    }
+}
+
+/// What the new policy of a comparison lets pass and the old one doesn't.
+pub fn compare(alloc: Global, comparison: &Comparison) -> Result<Found, AllocError>
+    requires { is_file_in comparison.now.files.items 0 ≡ false }
+    ensures { IfOk result (IsFound comparison.now) }
+{
+    let Comparison { files, old, new } = comparison;
+    let objects = more_on_objects(alloc, files, old, new)?;
+    let single = more_on_single_objects(alloc, files.len(), old, new)?;
+    let gains = more_gains(alloc, files, old, new)?;
+    let ports = more_on_ports(alloc, old, new)?;
+    Ok(Found {
+        objects,
+        single,
+        gains,
+        ports,
+        lost: all_lost(old, new),
+        spare_layers: spare_layers(old, new),
+    })
+}
