@@ -2,14 +2,16 @@
 
 UNIT_TESTS = python3 -m unittest discover -s $(1)/tests -t $(1)
 
-# The proved program.
+# The proved programs.
 PROGRAM := crates/landaudit/out/landaudit
+RULES := crates/landaudit_rules/out/landaudit_rules
 
 # The witness, as `make witness` builds it.
 WITNESS := $(CURDIR)/witness/out/landaudit-witness
 
-# What the check of landaudit said, as `make landaudit` keeps it.
+# What the checks of the programs said, as `make landaudit` keeps them.
 CHECK := $(CURDIR)/crates/landaudit/out/check.txt
+RULES_CHECK := $(CURDIR)/crates/landaudit_rules/out/check.txt
 
 # The commit that `make test` passed on, and the last line of `rt ci`.
 GATE := $(CURDIR)/crates/landaudit/out/gate.txt
@@ -31,7 +33,7 @@ PREFIX := /usr/local
 ROOT := $(DESTDIR)$(PREFIX)
 SCRIPTS := landaudit-record landaudit-policy
 MODULES := -name '*.py' -o -name '*.toml' -o -name 'page.css' -o -name 'page.js'
-COMMANDS := landaudit $(SCRIPTS)
+COMMANDS := landaudit landaudit-rules $(SCRIPTS)
 SCHEMAS := audit.schema.json check.schema.json denials.schema.json recording.schema.json
 INSTALLED := share/man/man5/landaudit.5 $(foreach command,$(COMMANDS),bin/$(command) share/man/man1/$(command).1 \
 	share/bash-completion/completions/$(command) share/zsh/site-functions/_$(command) \
@@ -41,8 +43,11 @@ INSTALLED := share/man/man5/landaudit.5 $(foreach command,$(COMMANDS),bin/$(comm
 PACKAGES := packaging/out
 
 # Each ends make with one line where its file is missing.
-IS_BUILT = $(if $(wildcard $(PROGRAM)),,$(error landaudit is not built: run 'make landaudit' first))
-IS_PROVED = $(if $(wildcard $(CHECK)),,$(error nothing says that $(PROGRAM) is proved: run 'make landaudit' first))
+IS_BUILT = $(if $(and $(wildcard $(PROGRAM)),$(wildcard $(RULES))),,\
+	$(error landaudit is not built: run 'make landaudit' first))
+IS_PROVED = $(if $(and $(wildcard $(CHECK)),$(wildcard $(RULES_CHECK))),,\
+	$(error nothing says that $(PROGRAM) and $(RULES) are proved: run 'make landaudit' first))
+MADE_OF = '$(PROGRAM)' '$(CHECK)' '$(RULES)' '$(RULES_CHECK)' '$(GATE)' '$(PACKAGES)'
 
 .PHONY: example landaudit witness install uninstall deb dist install-witness witness-deb test $(TRIED) \
 	test-record-first test-record-rest test-witness live kernels
@@ -54,11 +59,13 @@ example:
 	log=$$(mktemp); cd crates/landaudit; rt try -- --abi '$(ABI)' "$$tree" "$$trace" 2> $$log; status=$$?; \
 	test $$status -lt 2 || grep '^landaudit: ' $$log >&2 || cat $$log >&2; rm -f $$log; test $$status -lt 2
 
-# Proves landaudit and builds it, at crates/landaudit/out/landaudit.
+# Proves landaudit and landaudit-rules and builds them, at crates/landaudit/out/landaudit and
+# crates/landaudit_rules/out/landaudit_rules.
 landaudit:
 	@echo 'proving each crate after those that it depends on, and building landaudit: 20 minutes or more'
 	@cd crates/landaudit && ../../packaging/progress --keep '$(CHECK)' rt run -- --help
-	@echo '$(PROGRAM) is there; sudo make install puts it into $(PREFIX)'
+	@cd crates/landaudit_rules && ../../packaging/progress --keep '$(RULES_CHECK)' rt run -- --help
+	@echo '$(PROGRAM) and $(RULES) are there; sudo make install puts them into $(PREFIX)'
 
 # Builds landaudit-witness, at witness/out/landaudit-witness; says which Debian packages are missing for that.
 witness:
@@ -76,6 +83,7 @@ install:
 	@for script in $(SCRIPTS); do chmod 755 '$(ROOT)'/share/landaudit/$$script && \
 	ln -sf ../share/landaudit/$$script '$(ROOT)'/bin/$$script || exit 1; done
 	@install -m 755 $(PROGRAM) '$(ROOT)/bin/landaudit'
+	@install -m 755 $(RULES) '$(ROOT)/bin/landaudit-rules'
 	@install -m 644 man/landaudit.5 '$(ROOT)/share/man/man5'
 	@for command in $(COMMANDS); do \
 	install -m 644 man/$$command.1 '$(ROOT)/share/man/man1' && \
@@ -93,13 +101,13 @@ uninstall:
 deb:
 	$(IS_BUILT)
 	$(IS_PROVED)
-	@packaging/package deb '$(PROGRAM)' '$(CHECK)' '$(GATE)' '$(PACKAGES)'
+	@packaging/package deb $(MADE_OF)
 
 # The same as a tar for other Linuxes, which is unpacked anywhere.
 dist:
 	$(IS_BUILT)
 	$(IS_PROVED)
-	@packaging/package dist '$(PROGRAM)' '$(CHECK)' '$(GATE)' '$(PACKAGES)'
+	@packaging/package dist $(MADE_OF)
 
 # The witness with its page and completions, into the same places as `make install`.
 install-witness:

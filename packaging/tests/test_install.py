@@ -18,7 +18,7 @@ from .test_completions import Zsh
 STAND_IN = '#!/bin/sh\necho "landaudit: a stand-in at $0" >&2\nexit 4\n'
 #: A kept log of strace, which converts without strace.
 LOG = TOP / "record" / "tests" / "logs" / "forks"
-COMMANDS = ("landaudit", "landaudit-record", "landaudit-policy")
+COMMANDS = ("landaudit", "landaudit-rules", "landaudit-record", "landaudit-policy")
 BASH_COMPLETION = Path("/usr/share/bash-completion/bash_completion")
 
 
@@ -44,7 +44,7 @@ class Install(unittest.TestCase):
     def make(self, target: str, *variables: str) -> subprocess.CompletedProcess[str]:
         """Runs make under the scratch root; the program is a stand-in unless another is named."""
         words = ["make", "-C", TOP, "--no-print-directory", target, f"DESTDIR={self.scratch}", "PREFIX=/opt/landaudit"]
-        words += variables or (f"PROGRAM={self.stand_in}",)
+        words += (f"RULES={self.stand_in}", *(variables or (f"PROGRAM={self.stand_in}",)))
         environment = {name: value for name, value in os.environ.items() if not name.startswith("MAKE")}
         return subprocess.run(words, capture_output=True, text=True, check=False, env=environment)
 
@@ -57,6 +57,7 @@ class Install(unittest.TestCase):
             files(self.prefix),
             {
                 "bin/landaudit",
+                "bin/landaudit-rules",
                 "bin/landaudit-record",
                 "bin/landaudit-policy",
                 "share/landaudit/landaudit-record",
@@ -66,16 +67,20 @@ class Install(unittest.TestCase):
                 "share/landaudit/check.schema.json",
                 "share/landaudit/recording.schema.json",
                 "share/man/man1/landaudit.1",
+                "share/man/man1/landaudit-rules.1",
                 "share/man/man1/landaudit-record.1",
                 "share/man/man1/landaudit-policy.1",
                 "share/man/man5/landaudit.5",
                 "share/bash-completion/completions/landaudit",
+                "share/bash-completion/completions/landaudit-rules",
                 "share/bash-completion/completions/landaudit-record",
                 "share/bash-completion/completions/landaudit-policy",
                 "share/zsh/site-functions/_landaudit",
+                "share/zsh/site-functions/_landaudit-rules",
                 "share/zsh/site-functions/_landaudit-record",
                 "share/zsh/site-functions/_landaudit-policy",
                 "share/fish/vendor_completions.d/landaudit.fish",
+                "share/fish/vendor_completions.d/landaudit-rules.fish",
                 "share/fish/vendor_completions.d/landaudit-record.fish",
                 "share/fish/vendor_completions.d/landaudit-policy.fish",
                 *(f"share/landaudit/{module}" for module in modules),
@@ -84,6 +89,7 @@ class Install(unittest.TestCase):
         self.assertEqual(files(self.scratch), {f"opt/landaudit/{file}" for file in files(self.prefix)})
         self.assertEqual((self.prefix / "bin" / "landaudit").read_text(encoding="utf-8"), STAND_IN)
         self.assertTrue(os.access(self.prefix / "bin" / "landaudit", os.X_OK))
+        self.assertTrue(os.access(self.prefix / "bin" / "landaudit-rules", os.X_OK))
 
     def test_the_recorder_finds_its_modules_and_landaudit(self) -> None:
         self.make("install")
@@ -117,7 +123,7 @@ class Install(unittest.TestCase):
     @unittest.skipUnless(shutil.which("man"), "man is not installed")
     def test_man_finds_the_pages(self) -> None:
         self.make("install")
-        for number, name in (("1", "landaudit"), ("1", "landaudit-record"), ("1", "landaudit-policy"), ("5", "landaudit")):
+        for number, name in (*(("1", command) for command in COMMANDS), ("5", "landaudit")):
             with self.subTest(name):
                 found = self.said("man", "-M", self.prefix / "share" / "man", "-w", number, name)
                 self.assertEqual(found, (0, f"{self.prefix}/share/man/man{number}/{name}.{number}\n"))
@@ -171,11 +177,12 @@ class Install(unittest.TestCase):
         self.assertFalse(gone.exists())
 
     def test_without_the_program_nothing_is_installed(self) -> None:
-        run = self.make("install", f"PROGRAM={self.root}/absent")
-        self.assertEqual(run.returncode, 2)
-        self.assertEqual(len(run.stderr.splitlines()), 1)
-        self.assertIn("landaudit is not built: run 'make landaudit' first", run.stderr)
-        self.assertFalse(self.scratch.exists())
+        for absent in (("PROGRAM",), ("RULES",)):
+            run = self.make("install", f"PROGRAM={self.stand_in}", *(f"{word}={self.root}/absent" for word in absent))
+            self.assertEqual(run.returncode, 2)
+            self.assertEqual(len(run.stderr.splitlines()), 1)
+            self.assertIn("landaudit is not built: run 'make landaudit' first", run.stderr)
+            self.assertFalse(self.scratch.exists())
 
     def test_uninstall_where_nothing_is(self) -> None:
         self.assertEqual(self.make("uninstall").returncode, 0)

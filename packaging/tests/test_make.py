@@ -72,20 +72,23 @@ class Example(Make):
 class Landaudit(Make):
     def test_a_line_for_each_crate(self) -> None:
         lines = ("crate ll_rights: modules loaded=0", "logic=proved functions=62 sum=0", "Usage: landaudit")
-        check = self.folder / "check.txt"
-        run = self.make("\n".join(f"echo '{line}'" for line in lines), "landaudit", f"CHECK={check}")
+        check, rules = self.folder / "check.txt", self.folder / "rules.txt"
+        run = self.make("\n".join(f"echo '{line}'" for line in lines), "landaudit", f"CHECK={check}", f"RULES_CHECK={rules}")
         self.assertEqual((run.returncode, run.stderr), (0, ""))
-        self.assertEqual(check.read_text(encoding="utf-8").splitlines()[-2:], list(lines[:2]))
+        for kept in (check, rules):
+            self.assertEqual(kept.read_text(encoding="utf-8").splitlines()[-2:], list(lines[:2]))
         lines = run.stdout.splitlines()
-        self.assertRegex(lines[1], r"\All_rights     62 functions proved in (\d+ min )?\d+ s\Z")
-        self.assertEqual(len(lines), 4)
-        self.assertIn("crates/landaudit/out/landaudit is there", lines[3])
+        for line in (lines[1], lines[3]):
+            self.assertRegex(line, r"\All_rights     62 functions proved in (\d+ min )?\d+ s\Z")
+        self.assertEqual(len(lines), 6)
+        self.assertIn("crates/landaudit/out/landaudit and crates/landaudit_rules/out/landaudit_rules are there", lines[5])
 
     def test_a_crate_that_is_not_proved(self) -> None:
-        run = self.make("echo 'logic=unproved'; exit 1", "landaudit", f"CHECK={self.folder}/check.txt")
+        run = self.make("echo 'logic=unproved'; exit 1", "landaudit", f"CHECK={self.folder}/check.txt",
+                        f"RULES_CHECK={self.folder}/rules.txt")
         self.assertEqual(run.returncode, 2)
         self.assertIn("a stand-in for rt, in landaudit: run -- --help\nlogic=unproved\n", run.stderr)
-        self.assertNotIn("is there", run.stdout)
+        self.assertNotIn("are there", run.stdout)
 
 
 if __name__ == "__main__":

@@ -22,10 +22,11 @@ from .test_trusted import LINES
 
 TOOLCHAIN = "rattle-kit-13f logic dac8208d650f15bf"
 STAND_IN = """#include <stdio.h>
-int main(void) { puts("landaudit %s (%s)"); return 0; }
+int main(void) { puts("%s %s (%s)"); return 0; }
 """
 #: What `make landaudit` keeps of a check of these sources.
 KEPT = f"sources sha256 {script('sources').digest()}\n{LINES}"
+KEPT_OF_RULES = KEPT.replace("crate landaudit", "crate landaudit_rules")
 NOT_RUN = "The tests of the sources were not run on this commit."
 EPOCH = 1_700_000_000
 TAR = f"landaudit-{VERSION}-x86_64-linux-glibc*.tar.xz"
@@ -49,10 +50,10 @@ def ran(*words: str | Path, **variables: str) -> subprocess.CompletedProcess[str
     return subprocess.run(words, capture_output=True, text=True, check=False, env={**environment, **variables}, cwd=TOP)
 
 
-def stand_in(folder: Path, version: str = VERSION) -> Path:
-    """A small program of a version."""
-    source, program = folder / "stand-in.c", folder / "stand-in"
-    source.write_text(STAND_IN % (version, TOOLCHAIN), encoding="utf-8")
+def stand_in(folder: Path, version: str = VERSION, name: str = "landaudit") -> Path:
+    """A small program of a name and a version."""
+    source, program = folder / f"{name}.c", folder / name
+    source.write_text(STAND_IN % (name, version, TOOLCHAIN), encoding="utf-8")
     subprocess.run(["cc", "-o", program, source], check=True)
     return program
 
@@ -65,10 +66,14 @@ class Packages(unittest.TestCase):
         self.out = self.folder / "out"
         self.check = self.folder / "check.txt"
         self.check.write_text(KEPT, encoding="utf-8")
+        self.rules = stand_in(self.folder, name="landaudit-rules")
+        self.rules_check = self.folder / "rules.txt"
+        self.rules_check.write_text(KEPT_OF_RULES, encoding="utf-8")
 
     def make(self, target: str, program: Path) -> subprocess.CompletedProcess[str]:
         """Makes a package."""
-        files = (f"PROGRAM={program}", f"CHECK={self.check}", f"GATE={self.folder}/none", f"PACKAGES={self.out}")
+        files = (f"PROGRAM={program}", f"CHECK={self.check}", f"RULES={self.rules}", f"RULES_CHECK={self.rules_check}",
+                 f"GATE={self.folder}/none", f"PACKAGES={self.out}")
         return ran("make", "--no-print-directory", target, *files)
 
 
@@ -78,21 +83,23 @@ class Made(unittest.TestCase):
     TARGET: ClassVar[str]
     folder: ClassVar[Path]
     program: ClassVar[Path]
+    rules: ClassVar[Path]
     package: ClassVar[Path]
 
     @classmethod
     def setUpClass(cls) -> None:
         cls.folder = Path(cls.enterClassContext(tempfile.TemporaryDirectory())).resolve()
-        cls.program = stand_in(cls.folder)
+        cls.program, cls.rules = stand_in(cls.folder), stand_in(cls.folder, name="landaudit-rules")
         (cls.folder / "check.txt").write_text(KEPT, encoding="utf-8")
+        (cls.folder / "rules.txt").write_text(KEPT_OF_RULES, encoding="utf-8")
         run, cls.package = cls.made("out")
         assert run.stdout.startswith(f"{cls.package}: needs the GNU C library 2."), run.stdout
 
     @classmethod
     def made(cls, out: str, *before: str, **variables: str) -> tuple[subprocess.CompletedProcess[str], Path]:
         """Makes the package, with its time by SOURCE_DATE_EPOCH."""
-        files = (f"PROGRAM={cls.program}", f"CHECK={cls.folder}/check.txt", f"GATE={cls.folder}/none",
-                 f"PACKAGES={cls.folder}/{out}")
+        files = (f"PROGRAM={cls.program}", f"CHECK={cls.folder}/check.txt", f"RULES={cls.rules}",
+                 f"RULES_CHECK={cls.folder}/rules.txt", f"GATE={cls.folder}/none", f"PACKAGES={cls.folder}/{out}")
         words = (*before, "make", "--no-print-directory", cls.TARGET, *files)
         run = ran(*words, SOURCE_DATE_EPOCH=str(EPOCH), **variables)
         assert (run.returncode, run.stderr) == (0, ""), run.stderr
@@ -102,7 +109,8 @@ class Made(unittest.TestCase):
     def installed(self) -> set[str]:
         """What `make install` installs, from its prefix on."""
         root = self.folder / "installed"
-        run = ran("make", "--no-print-directory", "install", f"DESTDIR={root}", "PREFIX=/", f"PROGRAM={self.program}")
+        run = ran("make", "--no-print-directory", "install", f"DESTDIR={root}", "PREFIX=/", f"PROGRAM={self.program}",
+                  f"RULES={self.rules}")
         self.assertEqual(run.returncode, 0, run.stderr)
         return {str(path.relative_to(root)) for path in root.rglob("*") if path.is_symlink() or not path.is_dir()}
 
@@ -145,7 +153,17 @@ class Refused(Packages):
             self.refused(stand_in(self.folder), "the sources are not those that ")
 
     def test_another_version(self) -> None:
-        self.refused(stand_in(self.folder, "9.9"), f"and not of version {VERSION}")
+        self.refused(stand_in(self.folder, "9.9"), f"and not landaudit of version {VERSION}")
+
+    def test_rules_that_are_not_those_that_were_proved(self) -> None:
+        program = stand_in(self.folder)
+        self.rules = program
+        self.refused(program, f"and not landaudit-rules of version {VERSION}")
+        self.rules = stand_in(self.folder, name="landaudit-rules")
+        self.rules_check.write_text(KEPT)
+        self.refused(program, "does not say that landaudit-rules is proved")
+        self.rules_check.unlink()
+        self.refused(program, "nothing says that ")
 
     def test_a_script_in_the_place_of_the_program(self) -> None:
         script = self.folder / "script"
@@ -188,8 +206,8 @@ class Deb(Made):
         files = self.contents()
         text = self.text(files, f"{DOC}/PROOF")
         commit = ran("git", "rev-parse", "HEAD").stdout.strip()
-        digest = hashlib.sha256(self.program.read_bytes()).hexdigest()
-        for words in (commit, TOOLCHAIN, digest, KEPT, NOT_RUN):
+        digests = [hashlib.sha256(program.read_bytes()).hexdigest() for program in (self.program, self.rules)]
+        for words in (commit, TOOLCHAIN, *digests, KEPT, KEPT_OF_RULES, NOT_RUN):
             self.assertIn(words, text)
         self.assertIn(commit, self.text(files, f"{DOC}/changelog.gz"))
 
@@ -254,7 +272,7 @@ class Tested(unittest.TestCase):
         if text is not None:
             self.gate.write_text(text, encoding="utf-8")
         tested = self.package.last_of_the_gate(self.gate, self.package.Origin("a" * 40, EPOCH, "me <me>", changed))
-        what = self.package.Proved(self.gate, TOOLCHAIN, KEPT, "libc.so.6", "2.34", tested)
+        what = self.package.Proved((), "libc.so.6", "2.34", tested)
         return str(self.package.tested_text(what))
 
     def test_the_last_line_of_the_gate(self) -> None:
@@ -273,8 +291,9 @@ class Tested(unittest.TestCase):
 
 class Versions(unittest.TestCase):
     def test_landaudit_and_the_scripts_have_one_version(self) -> None:
-        source = (TOP / "crates" / "ll_command" / "src" / "command.rt").read_text(encoding="utf-8")
-        self.assertEqual(re.findall(r'^pub const VERSION: &str = "(\S+) \(', source, re.MULTILINE), [VERSION])
+        for crate, file in (("ll_command", "command.rt"), ("ll_comparison", "program.rt")):
+            source = (TOP / "crates" / crate / "src" / file).read_text(encoding="utf-8")
+            self.assertEqual(re.findall(r'^pub const VERSION: &str = "(\S+) \(', source, re.MULTILINE), [VERSION])
 
 
 if __name__ == "__main__":
