@@ -32,7 +32,7 @@ Status:
   3  the file can't be read, or a line of it is wrong
   4  no memory is left, or the answers can't be written
 
-The comparisons and the answers are described in landaudit(5) and docs/FORMATS.md.
+The comparisons and the answers are described in docs/RULES.md.
 ";
 
 /// The words of the command line, of which the first is the program's name.

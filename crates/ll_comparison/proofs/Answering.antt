@@ -1,5 +1,5 @@
 -- A loop that answers line after line.
-use Rattle.std.proofs.Common.{◌≡◌, ℕ, List, [], ◌∷◌, ◌++◌, Ok, refl, sym, ap, subst, ◌∙◌, append_assoc}
+use Rattle.std.proofs.Common.{◌≡◌, flat_map, ℕ, List, [], ◌∷◌, ◌++◌, Ok, refl, sym, ap, subst, ◌∙◌, append_assoc}
 use Rattle.std.specs.Prelude.{◌≢◌}
 use Rattle.std.specs.List.{AllZip}
 use Rattle.std.proofs.lemmas.List.{append-nil}
@@ -12,10 +12,19 @@ use Rattle.ll_lines.specs.Readers.{Fails}
 use Rattle.ll_lines.specs.Reading.{IsBad}
 use Rattle.ll_lines.proofs.ReadingLemmas.{read_lines_next, bad_from_fault, meets_fault}
 use Rattle.ll_comparison.specs.Answers.{AreAnswers, IsAnswer, IsAnswerBehind, comparison_format}
-use Rattle.ll_comparison.specs.Comparisons.{comparison_on, all_seen}
-use Rattle.ll_comparison.specs.SoFar.{AreAnsweredTo}
+use Rattle.ll_comparison.specs.Comparisons.{Comparison, comparison_on, all_seen}
 use Rattle.ll_lines.proofs.MemoryLemmas.{unless-map}
 use Rattle.std.proofs.Common.{Err}
+
+-- the lines before those that are left have comparisons and answers, and the text has the answers
+pub record AreAnsweredTo (bytes : List ℕ) (left : List Line) (text : List ℕ) : Type 0 where
+  pub before : List Line
+  pub comparisons : List Comparison
+  pub texts : List (List ℕ)
+  pub cut : filled_lines bytes ≡ before ++ left
+  pub reads : read_lines comparison_format comparisons left ≡ reading comparison_format bytes
+  pub each : AllZip IsAnswer before texts
+  pub are_text : text ≡ flat_map (λ own. own) texts
 
 zip_push : {A B : Type 0} (R : A → B → Type 0) (xs : List A) (ys : List B) (x : A) (y : B) → AllZip R xs ys → R x y → AllZip R (xs ++ x ∷ []) (ys ++ y ∷ [])
 zip_push R [] [] x y each one = (one, tt)
@@ -26,8 +35,8 @@ zip_push R (first ∷ xs) (other ∷ ys) x y each one = (each.0, zip_push R xs y
 pub answered_none : (bytes : List ℕ) → AreAnsweredTo bytes (filled_lines bytes) []
 answered_none bytes = record { before = []; comparisons = []; texts = []; cut = refl; reads = refl; each = tt; are_text = refl }
 
-pub answered_next : (bytes : List ℕ) (lines : List Line) (line : Line) (others : List Line) (text more : List ℕ) → lines ≡ line ∷ others → AreAnsweredTo bytes lines text
-    → IsAnswerBehind line text more → AreAnsweredTo bytes others more
+pub answered_next : (bytes : List ℕ) (lines : List Line) (line : Line) (others : List Line) (text more : List ℕ) → lines ≡ line ∷ others
+    → AreAnsweredTo bytes lines text → IsAnswerBehind line text more → AreAnsweredTo bytes others more
 answered_next bytes lines line others text more first so_far (own, is, answer) =
     let comparison = all_seen answer.comparison in
     let reads : with_line comparison_format so_far.comparisons line ≡ Ok (so_far.comparisons ++ comparison ∷ []) = rw answer.read refl in
@@ -47,8 +56,9 @@ answered_all bytes lines text none so_far =
     let all : filled_lines bytes ≡ so_far.before = so_far.cut ∙ ap (λ ls. so_far.before ++ ls) none ∙ append-nil so_far.before in
     record { texts = so_far.texts; each = subst (λ ls. AllZip IsAnswer ls so_far.texts) (sym all) so_far.each; are_text = so_far.are_text }
 
-pub fault_met : (bytes : List ℕ) (lines : List Line) (line : Line) (others : List Line) (text : List ℕ) (cause : Cause) → lines ≡ line ∷ others → AreAnsweredTo bytes lines text
-    → Fails cause (comparison_on line.bytes) → cause ≢ Memory → IsBad comparison_format bytes (record { line = line.number; cause = cause })
+pub fault_met : (bytes : List ℕ) (lines : List Line) (line : Line) (others : List Line) (text : List ℕ) (cause : Cause) → lines ≡ line ∷ others
+    → AreAnsweredTo bytes lines text → Fails cause (comparison_on line.bytes) → cause ≢ Memory
+    → IsBad comparison_format bytes (record { line = line.number; cause = cause })
 fault_met bytes lines line others text cause first so_far fails other =
     let fails_here : Fails cause (with_line comparison_format so_far.comparisons line) =
     unless-map cause (comparison_on line.bytes) (Err cause) (with_line comparison_format so_far.comparisons line) (Err cause) (λ is. rw is refl) fails in

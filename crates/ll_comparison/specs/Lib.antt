@@ -2,5 +2,4 @@ pub mod Comparisons
 pub mod Findings
 pub mod Texts
 pub mod Answers
-pub mod SoFar
 pub mod Programs

@@ -44,7 +44,8 @@ fn answer(alloc: Global, line: &FileLine<'_>) -> Result<Vec<u8>, Cause>
 
 /// Puts the answer to the comparison on a line behind those before it.
 fn take_answer(alloc: Global, line: &FileLine<'_>, text: &mut Vec<u8>) -> Result<(), Cause>
-    ensures answer { OnOk result (IsAnswerBehind (line_view line.now) text.old.items text.new.items) }
+    ensures answer { OnOk result
+        (IsAnswerBehind (line_view line.now) text.old.items text.new.items) }
     ensures fault { IfErr result (λ cause. Fails cause (comparison_on line.now.bytes.now)) }
 {
     let own = answer(alloc, line)?;

@@ -1,4 +1,4 @@
-use Rattle.ll_comparison.specs.SoFar.{AreAnsweredTo}
+use Rattle.ll_comparison.proofs.Answering.{AreAnsweredTo}
 use Rattle.ll_comparison.proofs.answers.compare_lines.Given as goal
 
 abbrev pub invariant-loop-line : goal.invariant-loop-line
