@@ -12,9 +12,9 @@ from .places import MAN, TOP
 VERSIONS = TOP / "crates" / "ll_rights" / "src" / "abi.rt"
 #: The oldest and the newest, in the words by which a page says what an ABI is.
 NAMED = re.compile(r"(?:Landlock's interface|Landlock's ABI|ABI of Landlock), (\d+) to (\d+)")
-#: The witness hears questions of any version.
-OF_NO_VERSION = "landaudit-witness.1"
-PAGES = (*set(MAN.glob("*.1")) - {MAN / OF_NO_VERSION}, TOP / "docs" / "FORMATS.md", TOP / "docs" / "GLOSSARY.md")
+#: The witness hears questions of any version, and landaudit-rules is asked about rights and no version.
+OF_NO_VERSION = ("landaudit-witness.1", "landaudit-rules.1")
+PAGES = (*set(MAN.glob("*.1")) - {MAN / name for name in OF_NO_VERSION}, TOP / "docs" / "FORMATS.md", TOP / "docs" / "GLOSSARY.md")
 
 
 class Versions(unittest.TestCase):

@@ -1,34 +1,34 @@
-"""What a new policy grants that an old one refuses once objects are moved or linked: decided over objects, not paths.
+"""What a new policy lets pass that an old one refuses once objects are moved or linked: decided over objects, not paths.
 
 A rule stays with its object, wherever that is. So an object may come to be under any of the directories that policies
-have rules on, and have any name. A layer lets a right pass if it grants the right on the object or on a directory that
-the object is under, and the root is over all of them. A layer of the old policy is kept if, wherever objects are, some
-layer of the new one refuses the right where it does.
-
-For a right and a layer of the old policy that handles it, a layer of the new policy is *narrow* if it handles the right
-and each directory that it grants the right on is among those of the old layer. If no layer is narrow, an object passes
-that is under one directory of each new layer that is not among those of the old one. If some are, only a file passes
-that all of them grant the right on and the old layer does not: no directory helps that the old layer does not grant on.
+have rules on, and have any name. landaudit-rules decides what passes (`ruling`); each path with a rule is two objects
+for it, a directory and a file. What differs at the paths as they are named is left out of what it is asked, so that
+only the rest is told.
 """
 
 from __future__ import annotations
 
-from collections.abc import Collection, Iterator, Sequence
-from dataclasses import dataclass
+from collections.abc import Collection, Iterable, Iterator, Mapping, Sequence
+from dataclasses import dataclass, field, replace
+from pathlib import Path
 
-from . import fitting
+from . import fitting, ruling
+from .differing_layers import Abis, Room, Unscoped
 from .fitting import FittedLayer
-from .policies import Policy
-from .regions import Regions, as_named
-from .rights import FILE_RIGHTS, FS
+from .policies import SCOPES, Policy
+from .regions import Region, Regions, as_named
+from .rights import FILE_RIGHTS, FS, Rights
+from .ruling import Answer, Comparison, Layers, Numbers, Objects, Rule, Ruled
 from .trees import ROOT
 
-Abis = frozenset[int]
-
-#: A right that no call asks alone: the device must be opened first. So where no object can be opened at the paths as
-#: they are named, only one that is moved shows that it passes.
+#: A right that no call asks alone: the device must be opened first, for reading or for writing.
 OF_OPENED = "ioctl_dev"
 OPENING = ("read_file", "write_file")
+#: What asks for a move to another directory: `refer`, and the right to make an object of the kind there.
+REFER = "refer"
+MAKING = ("make_reg", "make_sym", "make_char", "make_block", "make_fifo", "make_sock", "make_dir")
+MAKING_DIRECTORIES = "make_dir"
+_NOTHING: Abis = frozenset()
 
 
 @dataclass(frozen=True)
@@ -43,102 +43,239 @@ class Chain:
     directories: tuple[str, ...]
     file: str | None = None
 
-    @property
-    def objects(self) -> tuple[str, ...]:
-        """All objects whose rules let the right pass."""
-        return self.directories if self.file is None else (*self.directories, self.file)
+
+@dataclass(frozen=True)
+class Gain:
+    """Moves that may pass to under a directory, from what some rules are on if there are such.
+
+    There a layer of the other policy grants the right, which the object gains by the move in no layer of this one.
+    """
+
+    right: str
+    layer: int
+    directory: str
+    sources: tuple[Region, ...]
+
+
+Named = Mapping[tuple[str, Region], Abis]
+"""At which ABIs a right differs in a region, as paths are named."""
+
+Found = Chain | Gain | Unscoped | Room
 
 
 @dataclass(frozen=True)
-class Granting:
-    """On which objects a layer that handles a right grants it: those that are directories, and those that are files."""
+class Sides:
+    """The layers of both policies at an ABI, and what differs there as paths are named."""
 
-    layer: int
-    directories: frozenset[str]
-    files: frozenset[str] = frozenset()
+    abi: int
+    old: Layers
+    new: Layers
+    named: Mapping[int, Rights]
+
+    def beyond(self, gone: Mapping[int, Rights]) -> Comparison:
+        """The policies without what differs as paths are named, nor some rights on some objects."""
+        return Comparison(self.old, self._less(self.new, gone))
+
+    def opened(self, opening: str, gone: Mapping[int, Rights]) -> Comparison:
+        """The same of OF_OPENED where the new policy lets an object be opened."""
+        new = [layer.only(OF_OPENED) for layer in self.new]
+        new += [layer.only(opening, OF_OPENED) for layer in self.new]
+        return Comparison(tuple(layer.only(OF_OPENED) for layer in self.old), self._less(new, gone))
+
+    def moved(self, making: str) -> Comparison:
+        """Whether the new policy lets some object be made by a move: the old layer refuses it everywhere.
+
+        A layer that handles some right for files handles REFER.
+        """
+        new = [replace(layer.only(REFER), handled=frozenset({REFER})) for layer in self.new if layer.handled]
+        new += [layer.only(making, REFER) for layer in self.new]
+        return Comparison((Ruled(1, frozenset({REFER}), ()),), tuple(new))
+
+    def wholly(self) -> Comparison:
+        """The policies as they are."""
+        return Comparison(self.old, self.new)
+
+    def _less(self, layers: Sequence[Ruled], gone: Mapping[int, Rights]) -> Layers:
+        both = _united(self.named, gone)
+        return tuple(layer.less(both) for layer in layers)
 
 
-def chains(one: Policy, other: Policy, regions: Regions, abis: range) -> dict[Chain, Abis]:
-    """What passes under one policy and not under the other, with the ABIs at which it does."""
-    found: dict[Chain, Abis] = {}
-    for abi in abis:
-        layers = [fitting.fit(policy, abi)[0] for policy in (one, other)]
-        directories = {path for path in regions.ruled if regions.is_directory(path, abi)}
-        for right in FS.ordered(FS.known(abi)):
-            new, old = ([_granting(layer, right, directories) for layer in of if right in layer.handled_fs]
-                        for of in layers)
-            passing = list(chains_of(right, old, new))
-            if right == OF_OPENED:
-                opening = ([_granting(layer, one, directories) for layer in layers[0] if one in layer.handled_fs]
-                           for one in OPENING)
-                passing += of_opened(old, new, list(opening))
-            for chain in passing:
-                found[chain] = found.get(chain, frozenset()) | {abi}
-    return found
+@dataclass
+class _Telling:
+    """What is found so far, by what the numbers of objects stand for."""
+
+    objects: Sequence[Region]
+    found: dict[Found, Abis] = field(default_factory=dict)
+
+    def add(self, one: Found, abi: int) -> None:
+        """Adds an ABI at which something was found."""
+        self.found[one] = self.found.get(one, _NOTHING) | {abi}
+
+    def add_chain(self, right: str, layer: int, chain: Iterable[int], abi: int) -> None:
+        """Adds a chain by the numbers of its objects."""
+        on = self.on(chain)
+        file = next((one.path for one in on if one.as_file), None)
+        self.add(Chain(right, layer, tuple(one.path for one in on if not one.as_file), file), abi)
+
+    def on(self, chain: Iterable[int]) -> list[Region]:
+        """What a chain is of besides the root."""
+        return [self.objects[number] for number in sorted(set(chain)) if number != 0]
 
 
-def _granting(layer: FittedLayer, right: str, only_directories: Collection[str]) -> Granting:
-    """What a layer grants a right on; nothing on a file that would make the kernel refuse a rule of a policy."""
-    directories: set[str] = set()
-    files: set[str] = set()
+def more(
+    program: Path, one: Policy, other: Policy, regions: Regions, abis: range, named: Named, moved: Mapping[str, Abis]
+) -> dict[Found, Abis]:
+    """What passes under one policy and not under the other beside what differs as paths are named, with the ABIs.
+
+    `moved` are the paths under which moves differ as paths are named.
+    """
+    objects = Objects.of(regions.ruled)
+    telling = _Telling(objects.named())
+    sides = [_sides(one, other, regions, objects, named, abi) for abi in abis]
+    kinds = _movable(program, objects, sides)
+    told_by_moves = frozenset[int]().union(*moved.values())
+    everywhere = {abi: {OF_OPENED} | ({REFER} if of and abi not in told_by_moves else set()) for abi, of in kinds.items()}
+    _tell_chains(program, objects, sides, telling, everywhere)
+    _tell_gains(program, objects, sides, telling, kinds, moved)
+    _tell_layers(program, one, other, abis, telling)
+    return telling.found
+
+
+# ---- the layers
+
+
+def _sides(one: Policy, other: Policy, regions: Regions, objects: Objects, named: Named, abi: int) -> Sides:
+    """The layers of two policies at an ABI."""
+    old, new = (tuple(_ruled(layer, regions, objects, abi) for layer in fitting.fit(policy, abi)[0])
+                for policy in (other, one))
+    gone: dict[int, Rights] = {}
+    for (right, region), at in named.items():
+        if abi in at:
+            number = objects.file(region.path) if region.as_file else objects.directory(region.path)
+            gone[number] = gone.get(number, frozenset()) | {right}
+    return Sides(abi, old, new, gone)
+
+
+def _ruled(layer: FittedLayer, regions: Regions, objects: Objects, abi: int) -> Ruled:
+    """A layer with rules on objects; none is on a file where the kernel would refuse a rule of a policy."""
+    rules: list[Rule] = []
     for rule in layer.path_rules:
         named = {parent: as_named(parent) for parent in rule.parents}
-        if right in rule.on_directory:
-            directories.update(named.values())
-        if right in rule.on("reg") and right in FILE_RIGHTS:
-            files.update(path for parent, path in named.items() if not parent.endswith("/"))
-    return Granting(layer.number, frozenset(directories), frozenset(files.difference(only_directories)))
+        files = (path for parent, path in named.items()
+                 if not parent.endswith("/") and path != ROOT and not regions.is_directory(path, abi))
+        rules.append(Rule(frozenset(rule.on_directory), tuple(map(objects.directory, named.values()))))
+        rules.append(Rule(FILE_RIGHTS.intersection(rule.on("reg")), tuple(map(objects.file, files))))
+    return Ruled(layer.number, frozenset(layer.handled_fs), tuple(rules))
 
 
-def chains_of(right: str, old: Sequence[Granting], new: Sequence[Granting]) -> Iterator[Chain]:
-    """What passes of a right under the layers that handle it in a new policy, by each layer of an old one."""
-    for layer in old:
-        if ROOT in layer.directories:
-            continue
-        narrow = [one for one in new if one.directories <= layer.directories]
-        wide = [one for one in new if one not in narrow]
-        if narrow:
-            shared = frozenset.intersection(*(one.files for one in narrow)) - layer.files
-            found = (_by_file(right, layer, wide, file) for file in sorted(shared))
-        else:
-            beside = frozenset[str]().union(*(one.directories for one in wide)) - layer.directories
-            found = (_by_directory(right, layer, wide, directory) for directory in sorted(beside - {ROOT}))
-        yield from dict.fromkeys(chain for chain in found if chain is not None)
+# ---- what passes on objects
+
+Everywhere = Mapping[int, Collection[str]]
+"""The rights at each ABI that are told where they pass everywhere; any other right differs there as paths are named."""
 
 
-def of_opened(old: Sequence[Granting], new: Sequence[Granting], opening: Sequence[Sequence[Granting]]) -> Iterator[Chain]:
-    """What passes of OF_OPENED wherever a device is, if the new policy lets some be opened that the old layer refuses.
-
-    `opening` are the layers of the new policy that handle each right to open.
-    """
-    if all(ROOT in one.directories for one in new):
-        refusing = (layer for layer in old if ROOT not in layer.directories)
-        yield from (Chain(OF_OPENED, layer.layer, ()) for layer in refusing
-                    if any(passes_beside(layers, layer) for layers in opening))
-
-
-def passes_beside(layers: Sequence[Granting], other: Granting) -> bool:
-    """Whether layers let a right pass on some object on which, and above which, another layer grants nothing."""
-    on_files = [one.files - other.files for one in layers if not one.directories - other.directories]
-    return not on_files or bool(frozenset.intersection(*on_files))
+def _tell_chains(
+    program: Path, objects: Objects, sides: Sequence[Sides], telling: _Telling, everywhere: Everywhere
+) -> None:
+    """Tells each object by which alone something passes, and then those by which it does together without these."""
+    gone: list[tuple[Sides, Mapping[int, Rights]]] = [(of, {}) for of in sides]
+    while gone:
+        answered = list(_asked(program, objects, gone))
+        told = [(of, before, _tell_answers(of, answers, telling, everywhere)) for of, before, answers in answered]
+        gone = [(of, _united(before, alone)) for of, before, alone in told if alone]
 
 
-def _by_file(right: str, layer: Granting, wide: Sequence[Granting], file: str) -> Chain | None:
-    """A file that a right passes on, under a directory of each layer that does not grant it on the file."""
-    options = [one.directories - layer.directories - {file} for one in wide if file not in one.files]
-    return Chain(right, layer.layer, _chosen(options), file) if all(options) else None
+def _asked(
+    program: Path, objects: Objects, gone: Sequence[tuple[Sides, Mapping[int, Rights]]]
+) -> Iterator[tuple[Sides, Mapping[int, Rights], list[Answer]]]:
+    """The answers on all rights, and then on OF_OPENED for each right to open."""
+    asked = [comparison for of, less in gone
+             for comparison in (of.beyond(less), *(of.opened(opening, less) for opening in OPENING))]
+    found = iter(ruling.answers(program, objects, asked))
+    for of, less in gone:
+        yield of, less, [next(found) for _ in range(1 + len(OPENING))]
 
 
-def _by_directory(right: str, layer: Granting, wide: Sequence[Granting], directory: str) -> Chain:
-    """A directory under which a right passes, with one of each layer that does not grant it on that directory."""
-    options = [one.directories - layer.directories for one in wide if directory not in one.directories]
-    return Chain(right, layer.layer, _chosen([frozenset({directory}), *options]))
+def _united(one: Mapping[int, Rights], other: Mapping[int, Rights]) -> dict[int, Rights]:
+    """The rights of both on each object."""
+    none = frozenset[str]()
+    return {number: one.get(number, none) | other.get(number, none) for number in one.keys() | other.keys()}
 
 
-def _chosen(options: Sequence[frozenset[str]]) -> tuple[str, ...]:
-    """One directory of each set, few in all; the root is over every object."""
-    chosen: set[str] = set()
-    for some in options:
-        if ROOT not in some and chosen.isdisjoint(some):
-            chosen.add(min(some))
-    return tuple(sorted(chosen))
+def _tell_answers(
+    of: Sides, answers: Sequence[Answer], telling: _Telling, everywhere: Everywhere
+) -> dict[int, Rights]:
+    """Tells what answers found, and gives the objects by which alone something passes."""
+    gone: dict[int, Rights] = {}
+    for answer, is_opened in zip(answers, (False, True, True)):
+        rights = [right for right in FS.since if is_opened == (right == OF_OPENED)]
+        found = ((right, each) for right in rights for each in zip(of.old, answer.single[right], answer.chains[right]))
+        for right, (layer, single, chain) in found:
+            if chain is None:
+                continue
+            if 0 in single:
+                if right in everywhere[of.abi]:
+                    telling.add_chain(right, layer.number, (), of.abi)
+                continue
+            for told in _alone(single) or [chain]:
+                telling.add_chain(right, layer.number, told, of.abi)
+            gone = _united(gone, dict.fromkeys(single, frozenset({right})))
+    return gone
+
+
+def _alone(single: Numbers) -> list[Numbers]:
+    """Objects by themselves; a path that is there as a directory isn't told as a file too."""
+    return [(number,) for number in single if number % 2 == 1 or number - 1 not in single]
+
+
+# ---- what may pass of moves
+
+
+def _movable(program: Path, objects: Objects, sides: Sequence[Sides]) -> dict[int, Collection[str]]:
+    """The rights at each ABI to make objects of the kinds that the new policy lets be moved to other directories."""
+    asked = [of.moved(making) for of in sides for making in MAKING]
+    found = iter(ruling.answers(program, objects, asked))
+    return {of.abi: [making for making in MAKING if next(found).chains[REFER][0] is not None] for of in sides}
+
+
+def _tell_gains(
+    program: Path,
+    objects: Objects,
+    sides: Sequence[Sides],
+    telling: _Telling,
+    kinds: Mapping[int, Collection[str]],
+    moved: Mapping[str, Abis],
+) -> None:
+    """Tells what objects may gain by moves of the kinds that can be moved, of rights that pass nowhere else."""
+    able = [of for of in sides if kinds[of.abi]]
+    for of, answer in zip(able, ruling.answers(program, objects, [of.wholly() for of in able])):
+        rights = FS.since if MAKING_DIRECTORIES in kinds[of.abi] else FS.ordered(FILE_RIGHTS)
+        for right in rights:
+            for layer, gain, chain in zip(of.old, answer.gains[right], answer.chains[right]):
+                if gain is not None and chain is None:
+                    to, sources = telling.objects[gain.directory].path, tuple(telling.on(gain.chain))
+                    if of.abi not in moved.get(to, _NOTHING):
+                        telling.add(Gain(right, layer.number, to, sources), of.abi)
+
+
+# ---- scopes, and the number of layers
+
+
+def _tell_layers(program: Path, one: Policy, other: Policy, abis: range, telling: _Telling) -> None:
+    """Tells scopes that are lost, and layers that are left for the program's own; a kernel may know scopes or not."""
+    sides = [(abi, tuple(_scoped(policy, abi, scopes=scopes) for policy in (other, one)))
+             for abi in abis for scopes in (False, True)]
+    answers = ruling.answers(program, Objects({}), [Comparison(*both) for _, both in sides])
+    for (abi, (old, new)), answer in zip(sides, answers):
+        if answer.spare_layers:
+            telling.add(Room(len(new), len(old)), abi)
+        for scope in SCOPES:
+            if scope in answer.lost:
+                telling.add(Unscoped(scope), abi)
+
+
+def _scoped(policy: Policy, abi: int, *, scopes: bool) -> Layers:
+    """The layers that are in force, without their rules, on a kernel that knows scopes or one that doesn't."""
+    fitted = {layer.number for layer in fitting.fit(policy, abi)[0]}
+    return tuple(Ruled(layer.number, frozenset(), (), frozenset(layer.scoped) if scopes else frozenset())
+                 for layer in policy.layers if layer.number in fitted or (scopes and layer.scoped))

@@ -1,6 +1,7 @@
 """What one policy lets pass and another refuses, on every tree that has objects at the paths which the policies name.
 
-There each object has that name alone; `anywhere` says what else passes once objects are moved or linked.
+There each object has that name alone; `anywhere` says what else passes once objects are moved or linked, and what
+scopes and the number of layers let pass.
 
 landaudit is asked about one object, directory and port of each region (`regions`), with single rights, and about moves
 between each two regions. The rest follows by laws of the crate `ll_regions`: a set of rights is refused if one of the
@@ -16,9 +17,9 @@ from collections.abc import Iterable, Iterator, Mapping, Sequence
 from dataclasses import dataclass, field, replace
 from pathlib import Path
 
-from . import anywhere, applying, asking, differing_layers, fitting, landaudit, reports
+from . import anywhere, applying, asking, fitting, landaudit, reports, ruling
 from .answers import ALLOWED, MOOT, REFUSED
-from .anywhere import Chain
+from .anywhere import Chain, Gain, Named
 from .asking import RULESET
 from .differing_layers import Abis, OfLayers
 from .fitting import FittedLayer
@@ -28,7 +29,7 @@ from .policies import Policy
 from .problems import Problem
 from .regions import ALL_ABIS, RULED_KINDS, Region, Regions, as_named
 from .rights import NEWEST_ABI
-from .trees import ROOT, Tree, upwards
+from .trees import Tree, upwards
 
 MOST_RECORDS = 900_000
 """The most records that a trace gets; landaudit reads some more."""
@@ -73,7 +74,7 @@ class Move:
         return self.source if self.itself and self.kind != "dir" else None
 
 
-Subject = About | Move | OfLayers | Chain
+Subject = About | Move | OfLayers | Chain | Gain
 
 
 @dataclass
@@ -127,6 +128,7 @@ class _Answer:
 
 def differences(program: Path, old: Policy, new: Policy, abis: range) -> Differences:
     """All differences of two policies at some ABIs."""
+    rules = ruling.find(program)
     regions = Regions.of((old, new))
     kinds = regions.kinds()
     if len(kinds) > MOST_OBJECTS:
@@ -145,21 +147,24 @@ def differences(program: Path, old: Policy, new: Policy, abis: range) -> Differe
         for question, passes in asker.asked(_moves(regions, making)):
             found.add(question.subject, *passes)
     for differing, one, other in ((found.more, new, old), (found.less, old, new)):
-        _note_chains(differing, anywhere.chains(one, other, regions, abis))
-        differing.update(dict.fromkeys(differing_layers.unscoped(one, other), frozenset(abis)))
-        differing.update([*differing_layers.room(one, other, abis).items()])
+        rest = anywhere.more(rules, one, other, regions, abis, _named(differing), _moved_to(differing))
+        differing.update(rest.items())
     return found
 
 
-def _note_chains(differing: dict[Subject, Abis], chains: Mapping[Chain, Abis]) -> None:
-    """Adds what passes once objects are moved or linked, unless it passes under one of their paths as they are."""
-    for chain, abis in chains.items():
-        regions = [Region(path) for path in chain.directories or ((ROOT,) if chain.file is None else ())]
-        if chain.file is not None:
-            regions.append(Region(chain.file, as_file=True))
-        left = abis.difference(*(differing.get(About(chain.right, region), _NONE) for region in regions))
-        if left:
-            differing[chain] = left
+def _named(differing: Mapping[Subject, Abis]) -> Named:
+    """The rights that differ in regions, with the ABIs at which they do."""
+    return {(subject.right, subject.region): abis for subject, abis in differing.items()
+            if isinstance(subject, About) and subject.region is not None}
+
+
+def _moved_to(differing: Mapping[Subject, Abis]) -> Mapping[str, Abis]:
+    """The paths to under which moves differ, with the ABIs at which they do."""
+    found: dict[str, Abis] = {}
+    for subject, abis in differing.items():
+        if isinstance(subject, Move):
+            found[subject.to] = found.get(subject.to, _NONE) | abis
+    return found
 
 
 # ---- the policies

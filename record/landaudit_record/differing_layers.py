@@ -6,11 +6,9 @@ how many of the layers that a process may have (landlock(7)) are left for the pr
 
 from __future__ import annotations
 
-from collections.abc import Iterator
 from dataclasses import dataclass
 
-from . import fitting
-from .policies import MOST_LAYERS, SCOPES, Policy
+from .policies import MOST_LAYERS
 
 Abis = frozenset[int]
 
@@ -45,25 +43,3 @@ class Room:
 
 
 OfLayers = Unscoped | Room
-
-def unscoped(one: Policy, other: Policy) -> Iterator[Unscoped]:
-    """What passes under one policy, and not under the other one that has a scope more."""
-    return (Unscoped(scope) for scope in SCOPES if scope in other.scoped and scope not in one.scoped)
-
-
-def room(one: Policy, other: Policy, abis: range) -> dict[Room, Abis]:
-    """The layers that one policy leaves to the program and the other does not, with the ABIs at which it does."""
-    found: dict[Room, Abis] = {}
-    for abi in abis:
-        for scopes in (False, True):
-            used, of_other = (_used(policy, abi, scopes=scopes) for policy in (one, other))
-            if used < of_other:
-                subject = Room(used, of_other)
-                found[subject] = found.get(subject, frozenset()) | {abi}
-    return found
-
-
-def _used(policy: Policy, abi: int, *, scopes: bool) -> int:
-    """How many layers are in force with the rights of an ABI, on a kernel that knows scopes or one that does not."""
-    fitted = {layer.number for layer in fitting.fit(policy, abi)[0]}
-    return sum(layer.number in fitted or (scopes and bool(layer.scoped)) for layer in policy.layers)

@@ -6,7 +6,7 @@ from collections import defaultdict
 from collections.abc import Iterable, Iterator, Mapping
 from dataclasses import replace
 
-from .anywhere import Chain
+from .anywhere import OF_OPENED, REFER, Chain, Gain
 from .differing import MOUNT, About, Differences, Move, Subject
 from .differing_layers import Abis, Room, Unscoped
 from .policies import Policy
@@ -25,6 +25,11 @@ _KINDS = {
 }
 
 
+#: What passes wherever an object is, but no call asks for it alone.
+_EVERYWHERE = {
+    OF_OPENED: "ioctl_dev on what is opened after it was moved or linked",
+    REFER: "refer on what is moved or linked after other objects were",
+}
 #: Two neighbouring ports are named one by one.
 _PAIR = 2
 
@@ -60,8 +65,10 @@ def _of_one(differing: Mapping[Subject, Abis], regions: Regions, abis: Abis) -> 
         moves = [subject for subject in subjects if isinstance(subject, Move)]
         of_layers = [str(subject) for subject in subjects if isinstance(subject, (Unscoped, Room))]
         chains = [subject for subject in subjects if isinstance(subject, Chain)]
+        gains = [subject for subject in subjects if isinstance(subject, Gain)]
         of_paths = (*_rights(rights, regions, at), *_chains(chains))
-        of_calls = (*of_paths, *_ports(rights, regions), *_mounts(rights), *_moves(moves, regions))
+        of_moves = (*_moves(moves, regions), *_gains(gains))
+        of_calls = (*of_paths, *_ports(rights, regions), *_mounts(rights), *of_moves)
         yield from (text + behind for text in (*of_calls, *of_layers))
 
 
@@ -97,7 +104,7 @@ def _chains(chains: list[Chain]) -> Iterator[str]:
     for chain, rights in by_objects.items():
         objects = [*chain.directories, *([] if chain.file is None else [f"{chain.file} as a file"])]
         if not objects:
-            yield f"{', '.join(rights)} on what is opened after it was moved or linked (refused by layer {chain.layer})"
+            yield from (f"{_EVERYWHERE[right]} (refused by layer {chain.layer})" for right in rights)
             continue
         where = (f"rule on {objects[0]}, wherever that is moved or linked" if len(objects) == 1 else
                  f"rules on {', '.join(objects)}, if these are moved or linked into one another")
@@ -163,3 +170,14 @@ def _moves(moves: list[Move], regions: Regions) -> Iterator[str]:
         where = "; ".join([*(f"from {place}" for place in under), *(f"{path} {as_what}" for path in alone)])
         to_text = "; ".join(f"to {place}" for place in phrases(regions, to_regions, of_files=False))
         yield f"moves of {what} {where} {to_text}"
+
+
+def _gains(gains: list[Gain]) -> Iterator[str]:
+    """Moves that may pass by what objects gain, those of the same rules together."""
+    by_rules: defaultdict[Gain, list[str]] = defaultdict(list)
+    for gain in gains:
+        by_rules[replace(gain, right="")].append(gain.right)
+    for gain, rights in by_rules.items():
+        sources = ", ".join(f"{it.path} as a file" if it.as_file else it.path for it in gain.sources)
+        where = f"moves from under {sources}" if sources else "moves"
+        yield f"perhaps {where} to under {gain.directory}, which give {', '.join(rights)} (refused by layer {gain.layer})"

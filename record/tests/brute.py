@@ -256,9 +256,13 @@ def _of_wholes(pair: Pair, said: covering.Said) -> Iterator[str]:
 def faults_elsewhere(said: covering.Said, call: Call, old: Abis, new: Abis, abis: Abis) -> Iterator[str]:
     """What is at fault, at some ABIs, in what is said of a call on objects that are not where policies name them.
 
-    A move may differ there for the rights that an object would gain, of which `diff` knows by their names alone.
+    A move may differ there for the rights that an object would gain, which are on some line.
     """
     if any(isinstance(need, Move) for need in call.needs):
+        for abi in sorted(abis):
+            for one, other, lines in ((new, old, said.more), (old, new, said.less)):
+                if abi in one and abi not in other and not any(abi in line.abis for line in lines):
+                    yield f"ABI {abi}, a move elsewhere, and no line"
         return
     rights = {need.name for need in call.needs if isinstance(need, (Right, Port))}
     for abi in sorted(abis):

@@ -125,13 +125,19 @@ ANYWHERE = re.compile(r"(?P<rights>[a-z_, ]+) by the rules? on (?P<objects>/.*),
                       r"if these are moved or linked into one another) \(refused by layer (?P<layer>[0-9]+)\)")
 #: The line on a right that passes on whatever can be opened.
 OPENED = re.compile(r"ioctl_dev on what is opened after it was moved or linked \(refused by layer [0-9]+\)")
+#: The line on moves that may pass by what objects gain.
+GAINING = re.compile(r"perhaps moves( from under /.*)? to under /.*, which give [a-z_, ]+ \(refused by layer [0-9]+\)")
+#: The line on `refer` where it passes everywhere.
+REFERRED = re.compile(r"refer on what is moved or linked after other objects were \(refused by layer [0-9]+\)")
+#: Lines on no object at its own path, and on no call that is tried.
+_OF_NONE = (ANYWHERE, OPENED, GAINING, REFERRED)
 #: The ends of lines on scopes and on the number of layers, which are about no call that is tried.
 OF_LAYERS = re.compile(r".*( \(no scope; from ABI 6 on\)| layers are used, and not [0-9]+)")
 
 
 def _covers(text: str) -> Callable[[Need], bool]:
     """What a line covers, without its ABIs."""
-    if OF_LAYERS.fullmatch(text) or ANYWHERE.fullmatch(text) or OPENED.fullmatch(text):
+    if any(pattern.fullmatch(text) for pattern in (OF_LAYERS, *_OF_NONE)):
         return lambda need: False
     if text == "mounts":
         return lambda need: isinstance(need, Mount)

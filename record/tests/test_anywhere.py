@@ -1,4 +1,4 @@
-"""What passes once objects are moved or linked, held against all ways in which a few objects can be in one another."""
+"""What landaudit-rules finds, held against all ways in which a few objects can be in one another."""
 
 from __future__ import annotations
 
@@ -6,91 +6,125 @@ import random
 import unittest
 from collections.abc import Iterator, Sequence
 from itertools import chain, combinations
+from pathlib import Path
+from unittest import mock
 
-from landaudit_record.anywhere import Chain, Granting, chains_of
-from landaudit_record.trees import ROOT
+from landaudit_record import ruling
+from landaudit_record.landaudit import BUILT as LANDAUDIT
+from landaudit_record.problems import WANTING, Problem
+from landaudit_record.ruling import Answer, Comparison, Layers, Objects, Rule, Ruled
 
-NAMES = ("/a", "/b", "/a/f", "/g")
-SEEDS = 3000
+OBJECTS = Objects.of(("/a", "/b", "/a/f", "/g"))
+DIRECTORIES = tuple(map(OBJECTS.directory, OBJECTS.paths))
+FILES = tuple(map(OBJECTS.file, OBJECTS.paths))
+RIGHT = "read_file"
+SEEDS = 1500
 
-Placed = tuple[frozenset[str], str | None]
-"""The directories that an object is under or is itself, and the ruled file that it is, if it is one."""
+Placed = frozenset[int]
+"""The objects that an object is under, the root among them, and the ruled file that it is, if it is one."""
 
 
 def placings() -> Iterator[Placed]:
-    """All ways to put an object: each path is a directory over it, is the file, or is neither; the root is over it."""
-    subsets = chain.from_iterable(combinations(NAMES, count) for count in range(len(NAMES) + 1))
-    for over in map(frozenset, subsets):
-        yield over | {ROOT}, None
-        yield from ((over | {ROOT}, name) for name in NAMES if name not in over)
+    """All ways to put an object: under any directories, and as any file or none; the root is over it."""
+    for over in chain.from_iterable(combinations(DIRECTORIES, count) for count in range(len(DIRECTORIES) + 1)):
+        yield from (frozenset({0, *over, *file}) for file in ((), *((one,) for one in FILES)))
 
 
 PLACINGS = list(placings())
 
 
-def passes(layer: Granting, placed: Placed) -> bool:
-    """Whether a layer grants a right on an object, by landlock(7): on itself, or on a directory that it is under."""
-    over, file = placed
-    return not over.isdisjoint(layer.directories) or file in layer.files
+def granted(layer: Ruled) -> Placed:
+    """The objects that a layer grants the right on."""
+    return frozenset(number for rule in layer.rules if RIGHT in rule.rights for number in rule.objects)
 
 
-def layers(of: random.Random) -> list[Granting]:
-    """Up to three layers that grant a right on some of the names, as directories, as files or as both."""
+def passes(layer: Ruled, placed: Placed) -> bool:
+    """Whether a layer lets the right pass on an object, by landlock(7): by a rule on it, or on what it is under."""
+    return RIGHT not in layer.handled or not placed.isdisjoint(granted(layer))
+
+
+def layers(of: random.Random) -> Layers:
+    """Up to three layers, of which most handle the right, with rules on some objects; two may be on one."""
     found = []
     for number in range(1, of.choice((1, 1, 2, 3)) + 1):
-        names = [name for name in (ROOT, *NAMES) if of.random() < (0.1 if name == ROOT else 0.45)]
-        directories = frozenset(name for name in names if of.random() < 0.8)
-        files = frozenset(name for name in names if name != ROOT and of.random() < 0.7)
-        found.append(Granting(number, directories, files))
-    return found
+        some = [one for one in (0, *DIRECTORIES, *FILES) if of.random() < (0.1 if one == 0 else 0.4)]
+        rules = [Rule(frozenset({RIGHT}), (one,)) for one in some]
+        rules += [Rule(frozenset({"execute"}), (one,)) for one in some if of.random() < 0.3]
+        of.shuffle(rules)
+        found.append(Ruled(number, frozenset({RIGHT} if of.random() < 0.9 else {"execute"}), tuple(rules)))
+    return tuple(found)
 
 
-def refused(old: Granting, new: Sequence[Granting]) -> list[Placed]:
-    """Where the right passes under all layers of a policy, and not under a layer of another."""
-    return [it for it in PLACINGS if not passes(old, it) and all(passes(one, it) for one in new)]
+def compared(seed: int) -> Comparison:
+    """Two policies, often with layers in common."""
+    of = random.Random(seed)
+    old, new = layers(of), layers(of)
+    return Comparison(old, (*old, *new)[: of.randint(1, 4)] if of.random() < 0.3 else new)
 
 
+def refused(old: Ruled, new: Sequence[Ruled]) -> set[Placed]:
+    """Where the right passes under some layers, and not under an old one."""
+    return {it for it in PLACINGS if not passes(old, it) and all(passes(one, it) for one in new)}
+
+
+@unittest.skipUnless(ruling.BUILT.exists(), f"{ruling.BUILT} is not built")
 class Anywhere(unittest.TestCase):
     def test_all_placings_of_a_few_objects(self) -> None:
+        pairs = [compared(seed) for seed in range(SEEDS)]
         kept = 0
-        for seed in range(SEEDS):
-            of = random.Random(seed)
-            old, new = layers(of), layers(of)
-            if of.random() < 0.3:
-                new = [*old, *new][: of.randint(1, 4)]
-            found = list(chains_of("read_file", old, new))
-            for layer in old:
-                with self.subTest(seed, layer=layer.layer):
-                    where = refused(layer, new)
-                    told = [it for it in found if it.layer == layer.layer]
-                    # What passes under no rule but those on the root is told by its path, not by an object.
-                    self.assertEqual(bool(told), any(it != (frozenset({ROOT}), None) for it in where)
-                                     and not self.by_path_alone(layer, new), (old, new))
-                    for one in told:
-                        self.assertIn((frozenset(one.directories) | {ROOT}, one.file), where)
+        for seed, (pair, answer) in enumerate(zip(pairs, ruling.answers(ruling.BUILT, OBJECTS, pairs))):
+            for index, old in enumerate(pair.old):
+                with self.subTest(seed, layer=index):
+                    where = refused(old, pair.new)
+                    self.of_objects(where, answer, index)
+                    self.of_gains(old, pair.new, answer, index)
                     kept += not where
+            self.assertEqual(answer.spare_layers, max(0, len(pair.old) - len(pair.new)))
         self.assertGreater(kept, SEEDS // 20)
 
-    def by_path_alone(self, old: Granting, new: Sequence[Granting]) -> bool:
-        """Whether the right passes under the new policy wherever an object is: then its layers need no other rule."""
-        return (frozenset({ROOT}), None) in refused(old, new) and not any(
-            one.directories - old.directories - {ROOT} for one in new
-        )
+    def of_objects(self, where: set[Placed], answer: Answer, index: int) -> None:
+        """A chain is told if there is one, and each object that is enough by itself."""
+        told = answer.chains[RIGHT][index]
+        self.assertEqual(told is None, not where)
+        if told is not None:
+            self.assertIn(frozenset(told), where)
+        alone = {number for number in (0, *DIRECTORIES, *FILES) if frozenset({0, number}) in where}
+        self.assertEqual(set(answer.single[RIGHT][index]), alone)
 
-    def test_the_same_layers_and_fewer_rules_keep_all(self) -> None:
-        of = random.Random(1)
-        for _ in range(500):
-            old = layers(of)
-            less = [Granting(it.layer, frozenset(x for x in it.directories if of.random() < 0.7),
-                             frozenset(x for x in it.files if of.random() < 0.7)) for it in old]
-            self.assertEqual(list(chains_of("read_file", old, old)), [])
-            self.assertEqual(list(chains_of("read_file", old, less)), [])
+    def of_gains(self, old: Ruled, new: Sequence[Ruled], answer: Answer, index: int) -> None:
+        """A gain is told if there is one: of what goes into a directory that an old layer grants on."""
+        gains = {into: refused(old, [one for one in new if into in granted(one)])
+                 for into in granted(old).intersection((0, *DIRECTORIES))}
+        told = answer.gains[RIGHT][index]
+        self.assertEqual(told is None, not any(gains.values()))
+        if told is not None:
+            self.assertIn(frozenset(told.chain), gains[told.directory])
 
-    def test_a_rule_beneath_one_that_grants_as_much(self) -> None:
-        old = [Granting(1, frozenset({"/a"}), frozenset({"/a"}))]
-        new = [Granting(1, frozenset({"/a", "/a/f"}), frozenset({"/a", "/a/f"}))]
-        self.assertEqual(list(chains_of("read_file", old, new)), [Chain("read_file", 1, ("/a/f",))])
-        self.assertEqual(list(chains_of("read_file", new, old)), [])
+    def test_scopes_that_no_new_layer_has(self) -> None:
+        none, signal = Ruled(1, frozenset(), ()), Ruled(1, frozenset(), (), frozenset({"signal"}))
+        both = Ruled(2, frozenset({"execute"}), (), frozenset({"signal", "abstract_unix_socket"}))
+        found = ruling.answers(ruling.BUILT, OBJECTS, [
+            Comparison((both,), (none,)), Comparison((both,), (none, signal)), Comparison((signal,), (both,))])
+        self.assertEqual([set(one.lost) for one in found], [
+            {"mounts", "signal", "abstract_unix_socket"}, {"mounts", "abstract_unix_socket"}, set()])
+
+    def test_an_input_that_does_not_read(self) -> None:
+        with self.assertRaises(Problem) as caught:
+            ruling._run(ruling.BUILT, '{"files":[false],"ports":0}\n{"files":[true],"ports":0}\n')
+        self.assertEqual(str(caught.exception), "landaudit-rules: line 2: Field")
+
+
+class Finding(unittest.TestCase):
+    def test_a_program_that_is_nowhere(self) -> None:
+        with mock.patch.object(ruling, "BUILT", Path("/absent")), mock.patch("shutil.which", return_value=None):
+            with self.assertRaises(Problem) as caught:
+                ruling.find(Path("/absent/landaudit"))
+        self.assertEqual(caught.exception.status, WANTING)
+        self.assertIn("landaudit-rules is not built: run 'make landaudit'", str(caught.exception))
+
+    @unittest.skipUnless(ruling.BUILT.exists(), f"{ruling.BUILT} is not built")
+    def test_the_one_that_was_built(self) -> None:
+        self.assertEqual(ruling.find(LANDAUDIT), ruling.BUILT)
 
 
 if __name__ == "__main__":

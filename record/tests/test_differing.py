@@ -98,13 +98,16 @@ class Differing(unittest.TestCase):
         self.assertEqual(self.said(OLD, other + OLD)[0], 0)
 
     def test_a_rule_beneath_one_that_grants_as_much(self) -> None:
-        """Its object may be moved from there, and have another name elsewhere; without the rule nothing passes."""
+        """Its object may be moved from there, and have another name elsewhere; there it is a place to gain the right."""
         other = OLD + '[[layer.path_beneath]]\nallowed_access = ["read_dir"]\nparent = ["/srv/x", "/srv"]\n'
         status, lines, _ = self.said(OLD, other)
         line = "  read_dir by the rule on /srv/x, wherever that is moved or linked (refused by layer 1)"
         self.assertEqual((status, lines[:2]), (1, ["new lets pass what old refuses:", line]))
-        self.assertEqual(lines[2], "old lets nothing pass that new refuses")
-        self.assertEqual(self.said(other, OLD)[0], 0)
+        gained = "  perhaps moves to under /srv/x, which give read_dir (refused by layer 1) (at ABI 2-5)"
+        self.assertEqual(lines[2:4], ["old lets pass what new refuses:", gained])
+        status, lines, _ = self.said(other, OLD)
+        self.assertEqual((status, lines[:3]), (1, ["new lets pass what old refuses:", gained, "old lets pass what new refuses:"]))
+        self.assertEqual(self.said(other, OLD, "--abi", "1")[0], 0)
         # A layer that stays as it is refuses what the old one does, wherever the object is.
         self.assertEqual(self.said(OLD, OLD + other)[0], 0)
         file = OLD + '[[layer.path_beneath]]\nallowed_access = ["read_file"]\nparent = "/data/in/f"\n'
@@ -118,6 +121,17 @@ class Differing(unittest.TestCase):
         status, lines, _ = self.said(old, new)
         line = "  read_file by the rules on /x, /y, if these are moved or linked into one another (refused by layer 1)"
         self.assertEqual((status, lines[:2]), (1, ["new lets pass what old refuses:", line]))
+
+    def test_what_moves_give_in_a_layer_that_is_no_more(self) -> None:
+        """Moves as paths are named are told as such; where no object can be moved, none is."""
+        layer = '[[layer]]\nhandled_access_fs = [{}"execute", "make_reg"]\n'
+        moving = '[[layer.path_beneath]]\nallowed_access = ["make_reg"{}]\nparent = "/a"\n'
+        rule = '[[layer.path_beneath]]\nallowed_access = ["execute"]\nparent = "/b"\n'
+        with_refer, without = (layer.format(one) + moving.format(two) for one, two in (('"refer", ', ', "refer"'), ("", "")))
+        status, lines, _ = self.said(with_refer + rule + with_refer, with_refer + with_refer)
+        gained = "  perhaps moves to under /b, which give execute (refused by layer 1) (at ABI 2-5)"
+        self.assertEqual((status, lines[:2]), (1, ["new lets pass what old refuses:", gained]))
+        self.assertEqual(self.said(without + rule + without, without + without)[0], 0)
 
     def test_a_path_is_not_moved_under_itself(self) -> None:
         """Nor is it a file that something is under; and each move that is named can be made."""
@@ -281,7 +295,7 @@ class Differing(unittest.TestCase):
         inside = rule.format('"ioctl_dev"', "/x")
         reading = rule.format('"read_file"', "/x/d")
         status, lines, _ = self.said(handled + inside + reading, not_handled + reading)
-        line = "  ioctl_dev on what is opened after it was moved or linked (refused by layer 1) (at ABI 5)"
+        line = "  ioctl_dev by the rule on /x/d, wherever that is moved or linked (refused by layer 1) (at ABI 5)"
         self.assertEqual((status, lines[:2]), (1, ["new lets pass what old refuses:", line]))
         # What is opened by the rule on /x alone has that object above it, on which the old policy grants the right.
         reading = rule.format('"read_file"', "/x")
