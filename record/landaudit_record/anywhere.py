@@ -13,7 +13,7 @@ from dataclasses import dataclass, field, replace
 from pathlib import Path
 
 from . import fitting, ruling
-from .differing_layers import Abis, Room, Unscoped
+from .differing_layers import Abis, Mounts, Room, Unscoped
 from .fitting import FittedLayer
 from .policies import SCOPES, Policy
 from .regions import Region, Regions, as_named
@@ -60,7 +60,7 @@ class Gain:
 Named = Mapping[tuple[str, Region], Abis]
 """At which ABIs a right differs in a region, as paths are named."""
 
-Found = Chain | Gain | Unscoped | Room
+Found = Chain | Gain | Mounts | Unscoped | Room
 
 
 @dataclass(frozen=True)
@@ -258,24 +258,27 @@ def _tell_gains(
                         telling.add(Gain(right, layer.number, to, sources), of.abi)
 
 
-# ---- scopes, and the number of layers
+# ---- mounts, scopes, and the number of layers
 
 
 def _tell_layers(program: Path, one: Policy, other: Policy, abis: range, telling: _Telling) -> None:
-    """Tells scopes that are lost, and layers that are left for the program's own; a kernel may know scopes or not."""
+    """Tells restrictions that are lost, and layers that are left for the program's own.
+
+    A kernel may know scopes or not.
+    """
     sides = [(abi, tuple(_scoped(policy, abi, scopes=scopes) for policy in (other, one)))
              for abi in abis for scopes in (False, True)]
     answers = ruling.answers(program, Objects({}), [Comparison(*both) for _, both in sides])
     for (abi, (old, new)), answer in zip(sides, answers):
         if answer.spare_layers:
             telling.add(Room(len(new), len(old)), abi)
-        for scope in SCOPES:
-            if scope in answer.lost:
-                telling.add(Unscoped(scope), abi)
+        for lost in answer.lost:
+            telling.add(Unscoped(lost) if lost in SCOPES else Mounts(), abi)
 
 
 def _scoped(policy: Policy, abi: int, *, scopes: bool) -> Layers:
     """The layers that are in force, without their rules, on a kernel that knows scopes or one that doesn't."""
-    fitted = {layer.number for layer in fitting.fit(policy, abi)[0]}
-    return tuple(Ruled(layer.number, frozenset(), (), frozenset(layer.scoped) if scopes else frozenset())
-                 for layer in policy.layers if layer.number in fitted or (scopes and layer.scoped))
+    handled = {layer.number: frozenset(layer.handled_fs) for layer in fitting.fit(policy, abi)[0]}
+    return tuple(Ruled(layer.number, handled.get(layer.number, frozenset()), (),
+                       frozenset(layer.scoped) if scopes else frozenset())
+                 for layer in policy.layers if layer.number in handled or (scopes and layer.scoped))

@@ -1,7 +1,7 @@
 """What one policy lets pass and another refuses, on every tree that has objects at the paths which the policies name.
 
-There each object has that name alone; `anywhere` says what else passes once objects are moved or linked, and what
-scopes and the number of layers let pass.
+There each object has that name alone; `anywhere` says what else passes once objects are moved or linked, and which
+mounts, scopes and further layers do.
 
 landaudit is asked about one object, directory and port of each region (`regions`), with single rights, and about moves
 between each two regions. The rest follows by laws of the crate `ll_regions`: a set of rights is refused if one of the
@@ -38,7 +38,6 @@ MOST_OBJECTS = 65_536
 PROCESSES = 4
 """The number of processes that share the questions of a policy, so that several workers judge them."""
 
-MOUNT = "mount"
 _MAKING = {"reg": "make_reg", "sym": "make_sym", "char": "make_char", "block": "make_block", "fifo": "make_fifo",
            "sock": "make_sock", "dir": "make_dir"}
 _NONE: Abis = frozenset()
@@ -46,7 +45,7 @@ _NONE: Abis = frozenset()
 
 @dataclass(frozen=True)
 class About:
-    """What a question is about: a right, in a region or on a port and those like it, or a mount."""
+    """What a question is about: a right, in a region or on a port and those like it."""
 
     right: str
     region: Region | None = None
@@ -199,7 +198,7 @@ def _record(op: str, **members: object) -> str:
 
 
 def _rights(regions: Regions) -> Iterator[_Question]:
-    """Single rights in each region, on each port, and a mount."""
+    """Single rights in each region and on each port."""
     fds = iter(range(asking.FIRST_DESCRIPTOR, 1 << 62))
     for path in regions.paths:
         under = Region(path)
@@ -221,7 +220,6 @@ def _rights(regions: Regions) -> Iterator[_Question]:
         named = port if port in regions.tried_ports else None
         for op in ("bind", "connect"):
             yield _Question(About(f"{op}_tcp", port=named), (_record(op, port=port),))
-    yield _Question(About(MOUNT), (_record(MOUNT),))
 
 
 def _on_files(region: Region, file: str, device: str, fds: Iterator[int]) -> Iterator[_Question]:

@@ -1,4 +1,4 @@
-"""What two policies differ in that no call on a path or port shows: their scopes, and the number of their layers.
+"""What two policies differ in that no path or port shows: mounts, their scopes, and the number of their layers.
 
 A program that starts under a policy is under all of its layers. So all that counts is which scopes some layer has, and
 how many of the layers that a process may have (landlock(7)) are left for the program's own.
@@ -16,6 +16,14 @@ _OF_SCOPE = {
     "abstract_unix_socket": "connections to abstract UNIX sockets of processes that it does not confine",
     "signal": "signals to processes that it does not confine",
 }
+
+
+@dataclass(frozen=True)
+class Mounts:
+    """Changes of what is mounted, which each layer refuses that handles a right for files."""
+
+    def __str__(self) -> str:
+        return "mounts"
 
 
 @dataclass(frozen=True)
@@ -42,4 +50,4 @@ class Room:
                 f"and not {self.other}")
 
 
-OfLayers = Unscoped | Room
+OfLayers = Mounts | Unscoped | Room

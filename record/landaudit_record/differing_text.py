@@ -7,8 +7,8 @@ from collections.abc import Iterable, Iterator, Mapping
 from dataclasses import replace
 
 from .anywhere import OF_OPENED, REFER, Chain, Gain
-from .differing import MOUNT, About, Differences, Move, Subject
-from .differing_layers import Abis, Room, Unscoped
+from .differing import About, Differences, Move, Subject
+from .differing_layers import Abis, Mounts, Room, Unscoped
 from .policies import Policy
 from .regions import Region, Regions, phrases
 from .rights import FILE_RIGHTS, FS, NET
@@ -63,12 +63,12 @@ def _of_one(differing: Mapping[Subject, Abis], regions: Regions, abis: Abis) -> 
         behind = "" if at == abis else f" (at ABI {_abis(at)})"
         rights = [subject for subject in subjects if isinstance(subject, About)]
         moves = [subject for subject in subjects if isinstance(subject, Move)]
-        of_layers = [str(subject) for subject in subjects if isinstance(subject, (Unscoped, Room))]
+        of_layers = [str(subject) for subject in subjects if isinstance(subject, (Mounts, Unscoped, Room))]
         chains = [subject for subject in subjects if isinstance(subject, Chain)]
         gains = [subject for subject in subjects if isinstance(subject, Gain)]
         of_paths = (*_rights(rights, regions, at), *_chains(chains))
         of_moves = (*_moves(moves, regions), *_gains(gains))
-        of_calls = (*of_paths, *_ports(rights, regions), *_mounts(rights), *of_moves)
+        of_calls = (*of_paths, *_ports(rights, regions), *of_moves)
         yield from (text + behind for text in (*of_calls, *of_layers))
 
 
@@ -143,11 +143,6 @@ def _listed(ports: Iterable[int]) -> str:
             runs.append(range(port, port + 1))
     return ", ".join(f"ports {span(run)}" if len(run) > _PAIR else ", ".join(f"port {port}" for port in run)
                      for run in runs)
-
-
-def _mounts(subjects: list[About]) -> Iterator[str]:
-    if any(subject.right == MOUNT for subject in subjects):
-        yield "mounts"
 
 
 def _moves(moves: list[Move], regions: Regions) -> Iterator[str]:

@@ -10,26 +10,31 @@ use Rattle.ll_lines.specs.Readers.{Fails}
 use Rattle.ll_lines.proofs.MemoryLemmas.{unless-map}
 use Rattle.ll_comparison.specs.Comparisons.{fold_items}
 
-pub fold_next : {Whole : Type 0} (add : Whole → Data → Result Whole Cause) (whole more : Whole) (values : List Value) (i : ℕ) (value : Value) → i < length values → value ≡ get_or values i value
-    → add whole (view value) ≡ Ok more → fold_items add whole (items_view (drop i values)) ≡ fold_items add more (items_view (drop (i + 1) values))
+pub fold_next : {Whole : Type 0} (add : Whole → Data → Result Whole Cause) (whole more : Whole) (values : List Value) (i : ℕ) (value : Value)
+    → i < length values → value ≡ get_or values i value → add whole (view value) ≡ Ok more
+    → fold_items add whole (items_view (drop i values)) ≡ fold_items add more (items_view (drop (i + 1) values))
 unfolding fold_items
 fold_next add whole more values i value lt is reads =
     let cut : drop i values ≡ value ∷ drop (suc i) values = drop-cons values i value lt ∙ ap (λ v. v ∷ drop (suc i) values) (sym is) in
     rw (cut, add-one, reads) refl
 
-pub fold_fault : {Whole : Type 0} (add : Whole → Data → Result Whole Cause) (whole : Whole) (values : List Value) (i : ℕ) (value : Value) (cause : Cause) → i < length values → value ≡ get_or values i value
-    → add whole (view value) ≡ Err cause → fold_items add whole (items_view (drop i values)) ≡ Err cause
+pub fold_fault : {Whole : Type 0} (add : Whole → Data → Result Whole Cause) (whole : Whole) (values : List Value) (i : ℕ) (value : Value)
+    → (cause : Cause) → i < length values → value ≡ get_or values i value → add whole (view value) ≡ Err cause
+    → fold_items add whole (items_view (drop i values)) ≡ Err cause
 unfolding fold_items
 fold_fault add whole values i value cause lt is fails =
     let cut : drop i values ≡ value ∷ drop (suc i) values = drop-cons values i value lt ∙ ap (λ v. v ∷ drop (suc i) values) (sym is) in
     rw (cut, fails) refl
 
-pub fold_end : {Whole : Type 0} (add : Whole → Data → Result Whole Cause) (whole : Whole) (values : List Value) (i : ℕ) → length values ≤ i → fold_items add whole (items_view (drop i values)) ≡ Ok whole
+pub fold_end : {Whole : Type 0} (add : Whole → Data → Result Whole Cause) (whole : Whole) (values : List Value) (i : ℕ)
+    → length values ≤ i → fold_items add whole (items_view (drop i values)) ≡ Ok whole
 unfolding fold_items
 fold_end add whole values i le = let none : drop i values ≡ [] = drop_of_length-le values le in rw none refl
 
 -- the same where memory may have run out
-pub fold_fails : {Whole : Type 0} (add : Whole → Data → Result Whole Cause) (whole : Whole) (values : List Value) (i : ℕ) (value : Value) (cause : Cause) → i < length values → value ≡ get_or values i value
-    → Fails cause (add whole (view value)) → Fails cause (fold_items add whole (items_view (drop i values)))
+pub fold_fails : {Whole : Type 0} (add : Whole → Data → Result Whole Cause) (whole : Whole) (values : List Value) (i : ℕ) (value : Value)
+    → (cause : Cause) → i < length values → value ≡ get_or values i value → Fails cause (add whole (view value))
+    → Fails cause (fold_items add whole (items_view (drop i values)))
 fold_fails add whole values i value cause lt is =
-    unless-map cause (add whole (view value)) (Err cause) (fold_items add whole (items_view (drop i values))) (Err cause) (fold_fault add whole values i value cause lt is)
+    unless-map cause (add whole (view value)) (Err cause) (fold_items add whole (items_view (drop i values))) (Err cause)
+    (fold_fault add whole values i value cause lt is)
