@@ -44,11 +44,13 @@ not_false : (b : Bool) → not b ≡ true → b ≡ false
 not_false true is = sym is
 not_false false is = refl
 
-pub enough_is_excess : (is_file : ℕ → Bool) (count object : ℕ) (old : Granting) (new : List Granting) → is_file 0 ≡ false → Contains (enough_of count old new) object
+pub enough_is_excess : (is_file : ℕ → Bool) (count object : ℕ) (old : Granting) (new : List Granting) → is_file 0 ≡ false
+    → Contains (enough_of count old new) object
     → IsExcess is_file root old new (0 ∷ object ∷ [])
 unfolding enough_of is_enough
 enough_is_excess is_file count object old new root_is within =
-    let both = and_parts (not (lets (0 ∷ object ∷ []) old)) (passes new (0 ∷ object ∷ [])) (filter_test (is_enough old new) (range_with_len 0 count) object within) in
+    let both = and_parts (not (lets (0 ∷ object ∷ []) old)) (passes new (0 ∷ object ∷ [])) (filter_test (is_enough old new)
+    (range_with_len 0 count) object within) in
     record {
       is_chain = pair_is_chain is_file object root_is;
       begins = root_begins object;

@@ -7,13 +7,18 @@ use Rattle.ll_comparison.proofs.comparison.layers_in.Goals as goal
 
 pub loop-value-preserved : goal.loop-value-preserved
 loop-value-preserved c =
-    sym (fold_next (one_more (layer_in c.args.objects c.args.ports)) (map seen c.loop-value.layers.items) (map seen c.take_layer.new.layers.items) c.args.values.now c.loop-value.value-index c.value-item.result
+    let add = one_more (layer_in c.args.objects c.args.ports) in
+    sym (fold_next add (map seen c.loop-value.layers.items) (map seen c.take_layer.new.layers.items) c.args.values.now c.loop-value.value-index
+    c.value-item.result
     c.loop-value-test.true c.value-item.is c.in_ok-take_layer.ensures) ∙ c.loop-value.invariant
 
 pub returns-in_err-take_layer : goal.returns-in_err-take_layer
 returns-in_err-take_layer c =
     let cause = c.in_err-take_layer.field-0.0 in
-    let fails : Fails cause (fold_items (one_more (layer_in c.args.objects c.args.ports)) (map seen c.loop-value.layers.items) (items_view (drop c.loop-value.value-index c.args.values.now))) =
-    fold_fails (one_more (layer_in c.args.objects c.args.ports)) (map seen c.loop-value.layers.items) c.args.values.now c.loop-value.value-index c.value-item.result cause c.loop-value-test.true c.value-item.is c.in_err-take_layer.ensures in
+    let add = one_more (layer_in c.args.objects c.args.ports) in
+    let so_far = map seen c.loop-value.layers.items in
+    let fails : Fails cause (fold_items add so_far (items_view (drop c.loop-value.value-index c.args.values.now))) =
+    fold_fails add so_far c.args.values.now c.loop-value.value-index c.value-item.result cause c.loop-value-test.true c.value-item.is
+    c.in_err-take_layer.ensures in
     let whole = subst (λ read. Fails cause read) c.loop-value.invariant fails in
     search rules

@@ -14,6 +14,7 @@ pub returns-in_err-take_truth : goal.returns-in_err-take_truth
 returns-in_err-take_truth c =
     let cause = c.in_err-take_truth.field-0.0 in
     let fails : Fails cause (fold_items (one_more truth_in) c.loop-value.truths.items (items_view (drop c.loop-value.value-index c.args.values.now))) =
-    fold_fails (one_more truth_in) c.loop-value.truths.items c.args.values.now c.loop-value.value-index c.value-item.result cause c.loop-value-test.true c.value-item.is c.in_err-take_truth.ensures in
+    fold_fails (one_more truth_in) c.loop-value.truths.items c.args.values.now c.loop-value.value-index c.value-item.result cause
+    c.loop-value-test.true c.value-item.is c.in_err-take_truth.ensures in
     let whole = subst (λ read. Fails cause read) c.loop-value.invariant fails in
     search rules

@@ -4,4 +4,5 @@ use Rattle.ll_comparison.specs.Comparisons.{fold_items, with_files_on}
 use Rattle.ll_comparison.proofs.rules.grant_on_objects.Given as goal
 
 abbrev pub invariant-loop-object : goal.invariant-loop-object
-invariant-loop-object l = fold_items (with_files_on l.rights) l.sets (items_view (drop l.object-index l.objects)) ≡ fold_items (with_files_on l.rights) l.initial.sets (items_view l.objects)
+invariant-loop-object l = fold_items (with_files_on l.rights) l.sets (items_view (drop l.object-index l.objects))
+    ≡ fold_items (with_files_on l.rights) l.initial.sets (items_view l.objects)

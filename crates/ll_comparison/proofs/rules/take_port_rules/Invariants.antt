@@ -4,4 +4,5 @@ use Rattle.ll_comparison.specs.Comparisons.{fold_items, with_port_rule}
 use Rattle.ll_comparison.proofs.rules.take_port_rules.Given as goal
 
 abbrev pub invariant-loop-rule : goal.invariant-loop-rule
-invariant-loop-rule l = fold_items with_port_rule l.sets (items_view (drop l.rule-index l.rules)) ≡ fold_items with_port_rule l.initial.sets (items_view l.rules)
+invariant-loop-rule l = fold_items with_port_rule l.sets (items_view (drop l.rule-index l.rules))
+    ≡ fold_items with_port_rule l.initial.sets (items_view l.rules)
