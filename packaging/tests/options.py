@@ -30,6 +30,12 @@ def of_landaudit() -> set[str]:
     return own | {f"--{name}" for name in named} | {f"-{name}" for name in short}
 
 
+def of_rules() -> set[str]:
+    """The options of landaudit-rules, read from the source of its command line."""
+    source = (TOP / "crates" / "ll_comparison" / "src" / "program.rt").read_text(encoding="utf-8")
+    return set(re.findall(r'^        "(--?[\w-]+)" => Request::', source, re.MULTILINE))
+
+
 def _makers_of_options(source: str) -> set[str]:
     """The functions that make an option of a name, by themselves or by another that does."""
     texts = dict(MAKER.findall(source))

@@ -12,6 +12,7 @@ TOP = Path(__file__).resolve().parents[2]
 MAN = TOP / "man"
 COMPLETIONS = TOP / "completions"
 BUILT = TOP / "crates" / "landaudit" / "out" / "landaudit"
+BUILT_RULES = TOP / "crates" / "landaudit_rules" / "out" / "landaudit_rules"
 
 
 def script(name: str) -> ModuleType:

@@ -26,6 +26,7 @@ RANGES = {
 
 BASH = """
 source "$1/landaudit.bash"
+source "$1/landaudit-rules.bash"
 source "$1/landaudit-record.bash"
 source "$1/landaudit-policy.bash"
 read -ra COMP_WORDS <<< "$2"
@@ -108,6 +109,7 @@ class Asked:
 
     def test_the_options_of_landaudit(self) -> None:
         self.assert_offers("landaudit -", options.of_landaudit() | {"-"})
+        self.assert_offers("landaudit-rules -", options.of_rules() | {"-"})
 
     def test_the_abis_of_landaudit_and_ranges_of_them(self) -> None:
         self.assert_offers("landaudit --abi ", ABIS | RANGES)

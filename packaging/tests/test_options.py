@@ -7,10 +7,10 @@ import subprocess
 import unittest
 from collections.abc import Iterator
 
-from landaudit_record import cli
+from landaudit_record import VERSION, cli
 
 from . import options
-from .places import BUILT, MAN
+from .places import BUILT, BUILT_RULES, MAN
 
 #: The words after `Fl`: `-abi Ar N`, or `h , -help`.
 FLAG = re.compile(r"\bFl ((?:-{0,2}[\w-]+)(?: [|,] -{0,2}[\w-]+)*)")
@@ -54,6 +54,36 @@ class Landaudit(unittest.TestCase):
         # A placeholder for a value, such as <N[-M]>, names no option.
         text = re.sub(r"<[^>]*>", "", run.stdout)
         self.assertEqual(set(re.findall(r"(?<![\w-])--?\w[\w-]*", text)), options.of_landaudit())
+
+
+class Rules(unittest.TestCase):
+    def setUp(self) -> None:
+        self.page = (MAN / "landaudit-rules.1").read_text(encoding="utf-8")
+
+    def test_each_option_is_in_the_source_the_items_and_the_synopsis(self) -> None:
+        for found in (options.of_rules(), items(self.page), flags(section(self.page, "SYNOPSIS"))):
+            self.assertEqual(found, {"-h", "--help", "-V", "--version"})
+
+    @unittest.skipUnless(BUILT_RULES.exists(), f"{BUILT_RULES} is not built")
+    def test_the_built_program(self) -> None:
+        def said(*words: str) -> tuple[int, str, str]:
+            run = subprocess.run([BUILT_RULES, *words], capture_output=True, text=True, check=False, input="[]\n")
+            return run.returncode, run.stdout, run.stderr
+
+        status, text, errors = said("--help")
+        self.assertEqual((status, errors), (0, ""))
+        self.assertEqual(set(re.findall(r"(?<![\w-])--?\w[\w-]*", text)) - {"-rules", "-policy"}, options.of_rules())
+        self.assertRegex(said("-V")[1], rf"\Alandaudit-rules {VERSION} \(rattle-kit-\S+ logic [0-9a-f]+\)\n\Z")
+        for words in (("--abi",), ("a", "b")):
+            self.assertEqual(said(*words), (2, "", "landaudit-rules: wrong words; see landaudit-rules --help\n"))
+        self.assertEqual(said("/absent"), (3, "", "landaudit-rules: cannot read /absent\n"))
+        self.assertEqual(said("/dev/null"), (0, "", ""))
+        self.assertEqual(said(), (3, "", "landaudit-rules: line 1: Field\n"))
+        self.assertEqual(said("-"), (3, "", "landaudit-rules: line 1: Field\n"))
+        with open("/dev/full", "wb") as full:
+            run = subprocess.run([BUILT_RULES], stdout=full, stderr=subprocess.PIPE, text=True, check=False,
+                                 input='{"files":[false],"ports":0}\n')
+        self.assertEqual((run.returncode, run.stderr), (4, "landaudit-rules: cannot write\n"))
 
 
 class Scripts(unittest.TestCase):
