@@ -137,7 +137,7 @@ def more(
     everywhere = {abi: {OF_OPENED} | ({REFER} if of and abi not in told_by_moves else set()) for abi, of in kinds.items()}
     _tell_chains(program, objects, sides, telling, everywhere)
     _tell_gains(program, objects, sides, telling, kinds, moved)
-    _tell_layers(program, one, other, abis, telling)
+    _tell_layers(program, one, other, sides, telling)
     return telling.found
 
 
@@ -261,24 +261,27 @@ def _tell_gains(
 # ---- mounts, scopes, and the number of layers
 
 
-def _tell_layers(program: Path, one: Policy, other: Policy, abis: range, telling: _Telling) -> None:
+def _tell_layers(program: Path, one: Policy, other: Policy, sides: Sequence[Sides], telling: _Telling) -> None:
     """Tells restrictions that are lost, and layers that are left for the program's own.
 
     A kernel may know scopes or not.
     """
-    sides = [(abi, tuple(_scoped(policy, abi, scopes=scopes) for policy in (other, one)))
-             for abi in abis for scopes in (False, True)]
-    answers = ruling.answers(program, Objects({}), [Comparison(*both) for _, both in sides])
-    for (abi, (old, new)), answer in zip(sides, answers):
+    both = [(of.abi, Comparison(_scoped(other, of.old, scopes=scopes), _scoped(one, of.new, scopes=scopes)))
+            for of in sides for scopes in (False, True)]
+    answers = ruling.answers(program, Objects({}), [comparison for _, comparison in both])
+    for (abi, comparison), answer in zip(both, answers):
         if answer.spare_layers:
-            telling.add(Room(len(new), len(old)), abi)
+            telling.add(Room(len(comparison.new), len(comparison.old)), abi)
         for lost in answer.lost:
             telling.add(Unscoped(lost) if lost in SCOPES else Mounts(), abi)
 
 
-def _scoped(policy: Policy, abi: int, *, scopes: bool) -> Layers:
-    """The layers that are in force, without their rules, on a kernel that knows scopes or one that doesn't."""
-    handled = {layer.number: frozenset(layer.handled_fs) for layer in fitting.fit(policy, abi)[0]}
+def _scoped(policy: Policy, layers: Layers, *, scopes: bool) -> Layers:
+    """The layers that are in force, without their rules, on a kernel that knows scopes or one that doesn't.
+
+    `layers` are those that handle some right.
+    """
+    handled = {layer.number: layer.handled for layer in layers}
     return tuple(Ruled(layer.number, handled.get(layer.number, frozenset()), (),
                        frozenset(layer.scoped) if scopes else frozenset())
                  for layer in policy.layers if layer.number in handled or (scopes and layer.scoped))
