@@ -11,7 +11,7 @@ use Rattle.ll_report.specs.Rows.{is_refused_under_some}
 use Rattle.ll_json.specs.Parts.{line_text}
 use Rattle.ll_json.specs.Records.{about}
 use Rattle.ll_json.specs.Reports.{IsJsonReport, found_of, totals_from, totals_json}
-use Rattle.ll_json.specs.Judged.{Version}
+use Rattle.ll_json.specs.Versions.{Version}
 use Rattle.ll_json.proofs.RowsTold.{same_lines}
 
 -- a report on records of which the same is told

@@ -21,7 +21,8 @@ use Rattle.ll_audit.specs.declared.ranging.Progress.TheVariants as progress
 use Rattle.ll_findings.specs.Findings.{FindingValue, Finds}
 use Rattle.ll_process.specs.TakenLater.{AreTakenLater}
 use Rattle.ll_process.proofs.TakenLater.{taken_as_they_are, taken_again, taken_at_best_effort}
-use Rattle.ll_json.specs.Judged.{AreFound, Version}
+use Rattle.ll_json.specs.Judged.{AreFound}
+use Rattle.ll_json.specs.Versions.{Version}
 use Rattle.ll_audit.specs.Ranging.{Adds, ComesTo, GoesOn, IsThrough, taken_if_asked}
 use Rattle.ll_audit.specs.ShownReports.{taken, version_at}
 use Rattle.ll_rights.specs.AbiRanges.{is_in, versions_in}

@@ -1,11 +1,11 @@
 -- The lines that the program writes to standard error, and its status with each.
 -- Source: docs/FORMATS.md, "Faults of a run".
-use Rattle.std.specs.Prelude.{ℕ, List, Option, Result, OnOk, ◌++◌, codes, decimal}
+use Rattle.std.specs.Prelude.{ℕ, List, Option, Result, OnErr, OnOk, ◌++◌, codes, decimal}
 use Rattle.std.specs.Io.KnownBytes.{Appends}
 use Rattle.ll_lines.specs.declared.fault.Cause.{Cause}
 use Rattle.ll_lines.specs.declared.fault.Cause.TheVariants as cause
 use Rattle.ll_lines.specs.declared.fault.ReadFault.{ReadFault}
-use Rattle.ll_report.specs.Writing.{AppendsBeginning}
+use Rattle.ll_report.specs.Writing.{AppendsPart}
 use Rattle.ll_audit.specs.declared.fault.Fault.{Fault}
 use Rattle.ll_audit.specs.declared.fault.Fault.TheVariants as fault
 use Rattle.ll_audit.specs.declared.lines.Failure.{Failure}
@@ -50,9 +50,9 @@ failure_line failure = error_line (failure_text failure)
 abbrev pub fault_line : Fault → List ℕ
 fault_line one = error_line (fault_text one)
 
--- known bytes grow by the line, if it could be written, and else by a beginning of it
+-- known bytes grow by the line, if it could be written, and else by a beginning of it that isn't the line
 unfoldable pub WritesLine : {A E : Type 0} → Result A E → Option (List ℕ) → Option (List ℕ) → List ℕ → Type 0
-WritesLine result old new line = OnOk result (Appends old new line) × AppendsBeginning old new line
+WritesLine result old new line = OnOk result (Appends old new line) × OnErr result (AppendsPart old new line)
 
 -- the status: 3 where a file is at fault, else 4
 abbrev pub failure_status : Failure → ℕ

@@ -1,6 +1,6 @@
 -- What a run of the program comes to: the report on the files that its words name, or why there is none.
 -- Source: docs/FORMATS.md, "The command line" and "Statuses".
-use Rattle.std.specs.Prelude.{◌≡◌, ◌⊎◌, ◌<◌, ℕ, List, ⊤, Option, Some, None, IfSome}
+use Rattle.std.specs.Prelude.{◌≡◌, ◌⊎◌, ◌<◌, ℕ, List, ⊤, Option, Some, None}
 use Rattle.std.specs.Io.KnownBytes.{Appends}
 use Rattle.ll_lines.specs.Reading.{Format, IsBad}
 use Rattle.ll_tree.specs.TreeReading.{tree_format}
@@ -18,12 +18,8 @@ use Rattle.ll_audit.specs.Audits.{ReadsAsTrace, ReadsAsTree}
 use Rattle.ll_audit.specs.ShownReports.{IsReportWith}
 use Rattle.ll_command.specs.Command.{AreWrong, AskForText, Request, Text, request_of}
 use Rattle.ll_audit.specs.FaultLines.{failure_line, failure_status}
-use Rattle.ll_audit.specs.Inputs.{Files, bytes_of}
+use Rattle.ll_audit.specs.Inputs.{AreBytesOf, Files, HasFile, HasNoFile}
 use Rattle.ll_audit.specs.Outcomes.{AppendsBeginning, Complains, Stream}
-
--- these are the bytes of the file of a name, where the files are known
-abbrev pub AreBytesOf : Option Files → Text → List ℕ → Type 0
-AreBytesOf files name bytes = IfSome files (λ known. bytes_of known name ≡ Some bytes)
 
 -- the report on the files that a request names, with the options that it asks for
 pub record Reports (files : Option Files) (request : Request) (report : Told) : Type 0 where
@@ -52,6 +48,12 @@ HasTree files name = (bytes : List ℕ) × AreBytesOf files name bytes × ReadsA
 abbrev pub HasTrace : Option Files → Text → Type 0
 HasTrace files name = (bytes : List ℕ) × AreBytesOf files name bytes × ReadsAsTrace bytes
 
+-- this is the name of the file that can't be read: the tree, or the trace, where the tree can be read
+abbrev pub IsUnread : Option Files → Request → Text → Type 0
+IsUnread files request name =
+    ((name ≡ request.tree) × HasNoFile files request.tree)
+    ⊎ ((name ≡ request.trace) × HasFile files request.tree × HasNoFile files request.trace)
+
 -- What a failure says of the files that a request names, where the count of failures to read one was `before` and is
 -- `after`.
 abbrev pub IsFailureOf : Option Files → Request → ℕ → ℕ → Failure → Type 0
@@ -61,8 +63,7 @@ IsFailureOf files request before after (failure.Audit (fault.Trace bad)) =
 IsFailureOf files request before after (failure.Audit fault.Workers) = ⊥
 IsFailureOf files request before after (failure.Audit fault.Memory) = ⊤
 IsFailureOf files request before after (failure.Audit fault.NoThread) = HasTree files request.tree × HasTrace files request.trace
-IsFailureOf files request before after (failure.Unread name) =
-    ((name.now ≡ request.tree) ⊎ (name.now ≡ request.trace)) × (before < after)
+IsFailureOf files request before after (failure.Unread name) = IsUnread files request name.now × (before < after)
 IsFailureOf files request before after failure.Unwritten = ⊥
 
 -- out of memory, or the words ask for a run that fails in this way
@@ -123,7 +124,7 @@ IsWhy words files before after one =
     HasFailure words files before after one ⊎ ((one ≡ failure.Unwritten) × HasOutput words files)
 
 -- With status 3 or 4 there is a reason of that status, and its line is appended to the error output, if it could be told, and
--- else a beginning of it.
+-- else a beginning of it that isn't the line.
 abbrev pub TellsWhy : List Text → Option Files → ℕ → ℕ → Ending → Option (List ℕ) → Option (List ℕ) → Type 0
 TellsWhy words files before after ending old new =
     (ending.status ≡ 3) ⊎ (ending.status ≡ 4) →

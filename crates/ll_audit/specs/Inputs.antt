@@ -1,7 +1,7 @@
 -- What an audit is given: the files that a source has, by their names, the bytes of its two files, and the forks at
 -- which its work is cut.
 -- Source: docs/FORMATS.md, "The command line", "The tree file" and "The trace file".
-use Rattle.std.specs.Prelude.{ℕ, Bool, List, map, nat_le, Option, length}
+use Rattle.std.specs.Prelude.{◌≡◌, ℕ, Bool, List, map, nat_le, IfSome, None, Option, Some, length}
 use Rattle.std.specs.Borrow.{Bor}
 use Rattle.std.specs.Ordering.{nat_cmp}
 use Rattle.std.specs.Cmp.Lexicographic.{slice_cmp}
@@ -23,6 +23,17 @@ Files = finite.FinMap (slice_cmp nat_cmp) (List ℕ)
 -- the bytes of a name
 abbrev pub bytes_of : Files → List ℕ → Option (List ℕ)
 bytes_of files name = finite.get files name
+
+-- these are the bytes of the file of a name, where the files are known
+abbrev pub AreBytesOf : Option Files → List ℕ → List ℕ → Type 0
+AreBytesOf files name bytes = IfSome files (λ known. bytes_of known name ≡ Some bytes)
+
+-- a name has a file, and another one has none, where the files are known
+abbrev pub HasFile : Option Files → List ℕ → Type 0
+HasFile files name = (bytes : List ℕ) × AreBytesOf files name bytes
+
+abbrev pub HasNoFile : Option Files → List ℕ → Type 0
+HasNoFile files name = IfSome files (λ known. bytes_of known name ≡ None)
 
 -- the files of a list; where a name is there twice the first counts
 abbrev pub files_of : List (Bor (List ℕ) × Bor (List ℕ)) → Files

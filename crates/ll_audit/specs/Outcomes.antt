@@ -1,10 +1,10 @@
 -- How a run ends: its status, what it writes to standard output, and the line on standard error.
 -- Source: docs/FORMATS.md, "Statuses" and "Faults of a run".
 use Rattle.std.specs.Prelude.{◌≡◌, ◌⊎◌, ℕ, List, Option}
-use Rattle.std.specs.Bool.{OnTrue}
+use Rattle.std.specs.Bool.{OnFalse, OnTrue}
 use Rattle.std.specs.Io.KnownBytes.{Appends}
 use Rattle.ll_report.specs.Report.{report_status}
-pub use Rattle.ll_report.specs.Writing.{AppendsBeginning}
+pub use Rattle.ll_report.specs.Writing.{AppendsBeginning, AppendsPart}
 use Rattle.ll_audit.specs.declared.outcome.Outcome.{Outcome}
 use Rattle.ll_audit.specs.declared.outcome.Outcome.TheVariants as outcome
 use Rattle.ll_audit.specs.declared.lines.Failure.{Failure}
@@ -13,12 +13,12 @@ use Rattle.ll_audit.specs.declared.outcome.Ending.{Ending}
 use Rattle.ll_audit.specs.FaultLines.{failure_line, failure_status}
 
 -- A failure has its status, and its line was appended to the lines on standard error, if it could be told, and else a
--- beginning of it.
+-- beginning of it that isn't the line.
 abbrev pub Complains : Failure → Ending → Option (List ℕ) → Option (List ℕ) → Type 0
 Complains one ending lines_old lines_new =
     (ending.status ≡ failure_status one)
     × OnTrue ending.told (Appends lines_old lines_new (failure_line one))
-    × AppendsBeginning lines_old lines_new (failure_line one)
+    × OnFalse ending.told (AppendsPart lines_old lines_new (failure_line one))
 
 -- An output before a run and after it, and which bytes it holds, if they are known.
 pub record Stream (Output : Type 0) : Type 0 where

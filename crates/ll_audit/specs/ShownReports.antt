@@ -3,17 +3,17 @@
 -- tells.
 -- Source: docs/FORMATS.md, "The report", "Explanations", "Several versions" and "The report as JSON"; the forms of a
 -- report that is ready are the code's own.
-use Rattle.std.specs.Prelude.{◌≡◌, ◌≢◌, ℕ, List, map}
+use Rattle.std.specs.Prelude.{◌≡◌, ℕ, List, map}
 use Rattle.ll_rights.specs.declared.abi.Abi.{Abi}
 use Rattle.ll_rights.specs.Abis.{number_of}
 use Rattle.ll_tree.specs.Trees.{Entry}
 use Rattle.ll_trace.specs.declared.op.Record.{Record}
 use Rattle.ll_trace.specs.BestEffort.{records_at_best_effort}
-use Rattle.ll_report.specs.Shown.{IsShownReportOn, Told}
+use Rattle.ll_report.specs.Shown.{Told}
 use Rattle.ll_report.specs.Found.{Found, found_under}
-use Rattle.ll_report.specs.Rows.{refused_under_some, rows_text, total_under_text}
+use Rattle.ll_report.specs.Rows.{are_several, refused_under_some, rows_text, total_under_text}
 use Rattle.ll_json.specs.Reports.{IsJsonReport}
-use Rattle.ll_json.specs.Judged.{Version}
+use Rattle.ll_json.specs.Versions.{Version}
 use Rattle.ll_command.specs.declared.command.TheConstants.{VERSION}
 use Rattle.ll_report.specs.declared.options.Format.{Format}
 use Rattle.ll_report.specs.declared.options.Format.TheVariants.{Json, Text}
@@ -41,20 +41,14 @@ findings options tree records = map (found_at options tree records) (versions_in
 
 -- the last line of a version
 abbrev pub total_at : Options → List Entry → List Record → Abi → List ℕ
-total_at options tree records abi = total_under_text (number_of abi) (found_at options tree records abi)
+total_at options tree records abi =
+    total_under_text (are_several (versions_in options.abis)) (number_of abi) (found_at options tree records abi)
 
 -- ---- the report as text
 
--- the report over several versions
-pub record IsReportOver (options : Options) (tree : List Entry) (records : List Record) (report : Told) : Type 0 where
+pub record IsTextReport (options : Options) (tree : List Entry) (records : List Record) (report : Told) : Type 0 where
   pub text : report.text ≡ rows_text options.shown (number_of options.abis.oldest) (findings options tree records) records
   pub refused : report.refused ≡ refused_under_some (findings options tree records) records
-
--- under the version that the options name, or over the versions
-pub record IsTextReport (options : Options) (tree : List Entry) (records : List Record) (report : Told) : Type 0 where
-  pub under_one : number_of options.abis.oldest ≡ number_of options.abis.newest
-      → IsShownReportOn options.shown tree options.abis.oldest (taken options.effort options.abis.oldest records) report
-  pub over_several : number_of options.abis.oldest ≢ number_of options.abis.newest → IsReportOver options tree records report
 
 -- ---- the report as JSON, by this version of the program
 
@@ -92,5 +86,4 @@ plain_options abi = record { abis = record { oldest = abi; newest = abi }; effor
 -- in each of its forms
 abbrev pub told_in : Form → Told
 told_in (form.Text report) = report
-told_in (form.Range report) = report
 told_in (form.Json report) = report

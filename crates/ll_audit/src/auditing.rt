@@ -4,9 +4,9 @@ ghost use Rattle.std.specs.Prelude.{◌≡◌, ◌≢◌, ℕ, List, IfOk, IfErr
 ghost use Rattle.ll_lines.specs.declared.fault.Cause.TheVariants.{Memory as NoMemoryLeft};
 ghost use Rattle.ll_tree.specs.TreeReading.{IsTreeOf};
 ghost use Rattle.ll_trace.specs.Records.{IsTrace};
-ghost use Rattle.ll_report.specs.Shown.{IsShownReportOn, told_by};
+ghost use Rattle.ll_report.specs.Shown.{told_by};
 ghost use Rattle.ll_audit.specs.Audits.{IsWorkerCount, IsFaultOf, IsReport};
-ghost use Rattle.ll_audit.specs.ShownReports.{IsReportBy, IsReportInJson, IsReportOver, IsReportWith, IsTextReport, taken};
+ghost use Rattle.ll_audit.specs.ShownReports.{IsReportBy, IsReportInJson, IsReportWith, IsTextReport};
 ghost use Rattle.ll_audit.specs.Inputs.{trace_bytes, tree_bytes};
 ghost use Rattle.ll_audit.specs.Causes.{IsTraceFault, IsTreeFault, IsOutOfMemoryOrThreads};
 
@@ -18,8 +18,7 @@ use crate::report_text::{Form, ReportText};
 use crate::workers::Workers;
 use ll_lines::ReadFault;
 use ll_pool::Gate;
-use ll_process::Case;
-use ll_report::{ALL_LINES, Format, Options, Report, text_report};
+use ll_report::{ALL_LINES, Format, Options, Report};
 use ll_rights::{Abi, AbiRange};
 use ll_trace::{Effort, Trace};
 use ll_tree::{Cause, Tree};
@@ -139,16 +138,6 @@ fn first_tree<R: Threads + Wait + Sync, G: Gate + Sync>(
     tree_of(workers.alloc, tree)
 }
 
-/// A trace as its rulesets are to be taken under a version.
-fn taken(trace: Trace, effort: Effort, abi: Abi) -> Trace
-    ensures { result ≡ taken effort abi trace }
-{
-    match effort {
-        Effort::AsRecorded => trace,
-        Effort::Best => trace.at_best_effort(abi),
-    }
-}
-
 /// The tree that a file reads as.
 fn tree_of(alloc: Global, bytes: &[u8]) -> Result<Tree, Fault>
     ensures tree { IfOk result (IsTreeOf bytes.now) }
@@ -222,47 +211,9 @@ fn text_by<R: Threads + Wait + Sync, G: Gate + Sync>(
     ensures report { IfOk result (IsTextReport audit.now.options.now tree trace) }
     ensures fault { IfErr result IsOutOfMemoryOrThreads }
 {
-    match audit.options.abis.single() {
-        Some(abi) => text_under(audit, abi, tree, taken(trace, audit.options.effort, abi)),
-        None => text_over(audit, tree, trace),
-    }
-}
-
-/// The report as text under one version.
-fn text_under<R: Threads + Wait + Sync, G: Gate + Sync>(
-    audit: &Audit<'_, R, G>,
-    abi: Abi,
-    tree: Tree,
-    trace: Trace,
-) -> Result<ReportText, Fault>
-    requires { IsWorkerCount audit.now.workers.now.count }
-    ensures report { IfOk result
-        (IsShownReportOn audit.now.options.now.shown tree abi trace) }
-    ensures fault { IfErr result IsOutOfMemoryOrThreads }
-{
-    let alloc = audit.workers.alloc;
-    let case = Case::of_located(alloc, audit.workers.located(tree, trace)?, abi)?;
-    let shown = audit.options.shown;
-    let finding = audit
-        .workers
-        .finding(&case, audit.cuts, shown.explanations)?;
-    let report = text_report(alloc, case, finding, shown)?;
-    Ok(ReportText::new(Form::Text(report)))
-}
-
-/// The report as text over the versions that are asked for.
-fn text_over<R: Threads + Wait + Sync, G: Gate + Sync>(
-    audit: &Audit<'_, R, G>,
-    tree: Tree,
-    trace: Trace,
-) -> Result<ReportText, Fault>
-    requires { IsWorkerCount audit.now.workers.now.count }
-    ensures report { IfOk result (IsReportOver audit.now.options.now tree trace) }
-    ensures fault { IfErr result IsOutOfMemoryOrThreads }
-{
     let all = Audited::of(audit, tree, trace)?;
     let report = all.into_text(audit.workers.rt, audit.workers.alloc, audit.options)?;
-    Ok(ReportText::new(Form::Range(report)))
+    Ok(ReportText::new(Form::Text(report)))
 }
 
 /// The report as JSON.

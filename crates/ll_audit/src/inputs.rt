@@ -1,11 +1,11 @@
 //! The bytes of the two files of a run.
 
-ghost use Rattle.std.specs.Prelude.{◌≡◌, ◌≢◌, ◌⊎◌, ◌+◌, ◌-◌, ◌^◌, ◌<◌, ◌≤◌, IfOk, IfErr, IfSome, Some};
+ghost use Rattle.std.specs.Prelude.{◌≡◌, ◌≢◌, ◌⊎◌, ◌+◌, ◌-◌, ◌^◌, ◌<◌, ◌≤◌, IfOk, IfErr};
 ghost use Rattle.ll_lines.specs.declared.fault.Cause.TheVariants.{Memory as NoMemoryLeft};
 ghost use Rattle.ll_lines.specs.Reading.{IsBad};
 ghost use Rattle.ll_trace.specs.{Entries.trace_file, Records.IsTrace};
 ghost use Rattle.ll_audit.specs.declared.fault.Fault.TheVariants.{Memory};
-ghost use Rattle.ll_audit.specs.Inputs.{bytes_of, trace_bytes, tree_bytes};
+ghost use Rattle.ll_audit.specs.Inputs.{AreBytesOf, HasFile, HasNoFile, trace_bytes, tree_bytes};
 
 use crate::fault::Fault;
 use crate::lines::Failure;
@@ -78,10 +78,11 @@ fn bytes_of<'a, S: Source>(
     name: &'a str,
 ) -> Result<Vec<u8>, Failure<'a>>
     requires { S.failed source.old < 2 ^ 64 - 1 }
-    ensures bytes { IfOk result (λ bytes. IfSome (S.files source.old)
-        (λ files. bytes_of files name.entry.now ≡ Some bytes.items)) }
+    ensures bytes { IfOk result
+        (λ bytes. AreBytesOf (S.files source.old) name.entry.now bytes.items) }
     ensures failure { IfErr result (λ failure. (failure ≡ Failure.Audit Memory)
         ⊎ ((failure ≡ Failure.Unread name.entry)
+        × HasNoFile (S.files source.old) name.entry.now
         × (S.failed source.new ≡ S.failed source.old + 1))) }
     ensures kept { S.failed source.old ≤ S.failed source.new }
     ensures at_most_one { S.failed source.new ≤ S.failed source.old + 1 }
@@ -100,10 +101,11 @@ fn blocks_of<'a, S: Source>(
     name: &'a str,
 ) -> Result<LineBlocks, Failure<'a>>
     requires { S.failed source.old < 2 ^ 64 - 1 }
-    ensures bytes { IfOk result (λ blocks. IfSome (S.files source.old)
-        (λ files. bytes_of files name.entry.now ≡ Some blocks)) }
+    ensures bytes { IfOk result
+        (λ blocks. AreBytesOf (S.files source.old) name.entry.now blocks) }
     ensures failure { IfErr result (λ failure. (failure ≡ Failure.Audit Memory)
         ⊎ ((failure ≡ Failure.Unread name.entry)
+        × HasNoFile (S.files source.old) name.entry.now
         × (S.failed source.new ≡ S.failed source.old + 1))) }
     ensures kept { S.failed source.old ≤ S.failed source.new }
     ensures same_files { S.files source.new ≡ S.files source.old }
@@ -121,12 +123,15 @@ pub(crate) fn inputs_of<'a, S: Source>(
     run: &Run<'a>,
 ) -> Result<Inputs<'a>, Failure<'a>>
     requires { S.failed source.old + 2 < 2 ^ 64 }
-    ensures tree { IfOk result (λ inputs. IfSome (S.files source.old)
-        (λ files. bytes_of files run.now.tree.now ≡ Some (tree_bytes inputs))) }
-    ensures trace { IfOk result (λ inputs. IfSome (S.files source.old)
-        (λ files. bytes_of files run.now.trace.now ≡ Some (trace_bytes inputs))) }
+    ensures tree { IfOk result
+        (λ inputs. AreBytesOf (S.files source.old) run.now.tree.now (tree_bytes inputs)) }
+    ensures trace { IfOk result
+        (λ inputs. AreBytesOf (S.files source.old) run.now.trace.now (trace_bytes inputs)) }
     ensures failure { IfErr result (λ failure. (failure ≡ Failure.Audit Memory)
-        ⊎ (((failure ≡ Failure.Unread run.now.tree) ⊎ (failure ≡ Failure.Unread run.now.trace))
+        ⊎ (((failure ≡ Failure.Unread run.now.tree)
+        × HasNoFile (S.files source.old) run.now.tree.now
+        ⊎ (failure ≡ Failure.Unread run.now.trace) × HasFile (S.files source.old) run.now.tree.now
+        × HasNoFile (S.files source.old) run.now.trace.now)
         × (S.failed source.old < S.failed source.new))) }
     ensures same_files { S.files source.new ≡ S.files source.old }
 {

@@ -14,7 +14,7 @@ ghost use Rattle.ll_report.specs.{Lines.line_of, Rows.rows_from, declared.report
 ghost use Rattle.ll_report.specs.declared.options.Options.{Options as Asked};
 ghost use Rattle.ll_rights.specs.AbiRanges.{IsRising, versions_in};
 ghost use Rattle.ll_audit.specs.{declared.source.TheConstants.LARGEST_FILE, Audits.IsReport};
-ghost use Rattle.ll_audit.specs.ShownReports.{IsReportOver, IsReportWith, findings, plain_options, total_at};
+ghost use Rattle.ll_audit.specs.ShownReports.{IsReportWith, IsTextReport, findings, plain_options, total_at};
 ghost use Rattle.ll_trace.specs.SaidByName.{SaysOperation};
 
 /// The word by which the report tells of a record's operation is the one that the record's line of the
@@ -45,11 +45,11 @@ pub fn plain_options_ask_for_the_report()
         → IsReportWith (plain_options abi) tree trace (told_by report) }
 {}
 
-/// The report over several versions ends with one total for each version of the range, the oldest
-/// first, under its own number. There is at least one.
+/// The report as text ends with one total for each version of the range, the oldest first, under its own number if
+/// there are several. There is at least one.
 pub fn reports_have_a_total_for_each_version()
     ensures totals { (options : Asked) (tree : List Entry) (records : List Record) (report : Made)
-        → IsReportOver options tree records (told_by report)
+        → IsTextReport options tree records (told_by report)
         → report.bytes.items ≡ rows_from options.shown (number_of options.abis.oldest)
         (findings options tree records) 0 records
         ++ flat_map (total_at options tree records) (versions_in options.abis) }

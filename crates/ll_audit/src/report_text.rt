@@ -6,7 +6,7 @@ ghost use Rattle.ll_report.specs.{Report.report_status, Shown.told_by, Writing.A
 ghost use Rattle.ll_audit.specs.ShownReports.{told_in};
 
 use ll_json::JsonRows;
-use ll_report::{Blocks, Report, RowReport, VersionRows};
+use ll_report::{Report, RowReport, VersionRows};
 use std::alloc::{AllocError, Global};
 use std::io;
 use std::io::Write;
@@ -15,11 +15,9 @@ use std::marker::Model;
 /// The forms of a report.
 #[derive(Drop)]
 pub(crate) enum Form {
-    /// Text under one version.
-    Text(RowReport<Blocks>),
-    /// Text over several versions.
-    Range(RowReport<VersionRows>),
-    /// JSON over one version or several.
+    /// Text.
+    Text(RowReport<VersionRows>),
+    /// JSON.
     Json(RowReport<JsonRows<'static>>),
 }
 
@@ -52,7 +50,6 @@ impl ReportText {
     {
         match &self.form {
             Form::Text(report) => report.status(),
-            Form::Range(report) => report.status(),
             Form::Json(report) => report.status(),
         }
     }
@@ -64,7 +61,6 @@ impl ReportText {
         let ReportText { form } = self;
         match form {
             Form::Text(report) => report.into_report(alloc),
-            Form::Range(report) => report.into_report(alloc),
             Form::Json(report) => report.into_report(alloc),
         }
     }
@@ -77,7 +73,6 @@ impl ReportText {
         let ReportText { form } = self;
         match form {
             Form::Text(report) => report.write_to(out),
-            Form::Range(report) => report.write_to(out),
             Form::Json(report) => report.write_to(out),
         }
     }

@@ -1,8 +1,8 @@
 //! Where the bytes of the files come from.
 
-ghost use Rattle.std.specs.Prelude.{◌≡◌, ◌+◌, ◌-◌, ◌^◌, ◌<◌, ◌≤◌, ℕ, Option, Some, IfOk, IfSome, find, option_map};
+ghost use Rattle.std.specs.Prelude.{◌≡◌, ◌+◌, ◌-◌, ◌^◌, ◌<◌, ◌≤◌, ℕ, Option, Some, IfOk, find, option_map};
 ghost use Rattle.std.specs.Str.{bytes_eq};
-ghost use Rattle.ll_audit.specs.Inputs.{Files, bytes_of, files_of};
+ghost use Rattle.ll_audit.specs.Inputs.{AreBytesOf, Files, HasNoFile, files_of};
 
 use ll_lines::blocks::LineBlocks;
 use std::alloc::Global;
@@ -28,13 +28,13 @@ pub trait Source {
     ghost failed: { Self → ℕ };
 
     /// The bytes of the file of a name. `Unread` is answered only where the count of failures
-    /// rises; a call adds at most one to it.
+    /// rises, and where no file has the name; a call adds at most one to it.
     fn bytes_of(&mut self, alloc: Global, name: &str) -> Result<Vec<u8>, SourceFault>
         requires { failed self.old < 2 ^ 64 - 1 }
-        ensures bytes { IfOk result (λ bytes. IfSome (files self.old)
-            (λ known. bytes_of known name.now ≡ Some bytes.items)) }
+        ensures bytes { IfOk result (λ bytes. AreBytesOf (files self.old) name.now bytes.items) }
         ensures unread { result ≡ Err SourceFault.Unread
             → failed self.new ≡ failed self.old + 1 }
+        ensures missing { result ≡ Err SourceFault.Unread → HasNoFile (files self.old) name.now }
         ensures kept { failed self.old ≤ failed self.new }
         ensures at_most_one { failed self.new ≤ failed self.old + 1 }
         ensures same_files { files self.new ≡ files self.old };
@@ -43,10 +43,10 @@ pub trait Source {
     /// given back once its lines are read. A source that has no blocks gives the file in one.
     fn blocks_of(&mut self, alloc: Global, name: &str) -> Result<LineBlocks, SourceFault>
         requires { failed self.old < 2 ^ 64 - 1 }
-        ensures bytes { IfOk result (λ blocks. IfSome (files self.old)
-            (λ known. bytes_of known name.now ≡ Some blocks)) }
+        ensures bytes { IfOk result (λ blocks. AreBytesOf (files self.old) name.now blocks) }
         ensures unread { result ≡ Err SourceFault.Unread
             → failed self.new ≡ failed self.old + 1 }
+        ensures missing { result ≡ Err SourceFault.Unread → HasNoFile (files self.old) name.now }
         ensures kept { failed self.old ≤ failed self.new }
         ensures at_most_one { failed self.new ≤ failed self.old + 1 }
         ensures same_files { files self.new ≡ files self.old }

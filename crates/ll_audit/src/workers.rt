@@ -2,15 +2,13 @@
 
 ghost use Rattle.std.specs.Prelude.{◌≡◌, IfOk, IfErr};
 ghost use Rattle.ll_semantics.specs.Worlds.{judged};
-ghost use Rattle.ll_findings.specs.Findings.{Finds, judged_in};
+ghost use Rattle.ll_findings.specs.Findings.{judged_in};
 ghost use Rattle.ll_audit.specs.Causes.{IsOutOfMemoryOrThreads};
 ghost use Rattle.ll_audit.specs.Audits.{IsWorkerCount};
 
 use crate::fault::Fault;
-use ll_findings::Finding;
 use ll_pool::{Gate, collect_whole, run};
-use ll_process::{Answer, Case, CaseView};
-use ll_rules::NoMemory;
+use ll_process::{Answer, Case};
 use ll_trace::{Located, ProcessId, Trace};
 use ll_tree::Tree;
 use std::alloc::{AllocError, Global};
@@ -46,25 +44,6 @@ impl<'a, R: Threads + Wait + Sync, G: Gate + Sync> Workers<'a, R, G> {
         let count = self.count as usize;
         let pieces = run(self.rt, self.alloc, case, count, cuts, self.gate)?;
         Ok(collect_whole(self.alloc, case, pieces)?)
-    }
-
-    /// What is found of the records of a case, whose work is cut at these processes: the answers, and the explanations
-    /// if these are asked for.
-    pub(crate) fn finding(
-        &self,
-        case: &Case,
-        cuts: &[bool],
-        explains: bool,
-    ) -> Result<Finding, Fault>
-        requires { IsWorkerCount self.now.count }
-        ensures finding { IfOk result
-            (Finds explains case.now.tree case.now.abi case.now.records) }
-        ensures fault { IfErr result IsOutOfMemoryOrThreads }
-    {
-        let answers = self.answers(case, cuts)?;
-        let view = CaseView::of(case);
-        let threads = self.count as usize;
-        Ok(Finding::of(self.rt, self.alloc, &view, answers, explains, threads)?)
     }
 }
 

@@ -34,7 +34,7 @@ use Rattle.ll_json.specs.Records.{answer_members, layers_json, members_at, membe
 use Rattle.ll_json.specs.Rows.{members_tokens, said_of}
 use Rattle.ll_json.specs.Spans.{members_text}
 use Rattle.ll_json.specs.Values.{answer_tokens, layers_tokens, plain_members}
-use Rattle.ll_json.specs.Judged.{Version}
+use Rattle.ll_json.specs.Versions.{Version}
 use Rattle.ll_json.specs.Why.{objection_json}
 use Rattle.ll_json.proofs.Meant.{answer_means}
 

@@ -28,7 +28,8 @@ use Rattle.ll_report.specs.Spans.{Span, spans_from, spans_of}
 use Rattle.ll_report.proofs.Making.{next_rows}
 use Rattle.ll_report.proofs.RowsSaid.{any_map, count_same, map_map, refused_alone}
 use Rattle.ll_report.specs.Versions.{answers_in, some_refuses}
-use Rattle.ll_json.specs.Judged.{AreFound, IsFound, Version}
+use Rattle.ll_json.specs.Judged.{AreFound, IsFound}
+use Rattle.ll_json.specs.Versions.{Version}
 use Rattle.ll_json.specs.Parts.{Named, line_text, named_tokens, values_tokens}
 use Rattle.ll_json.specs.Records.{about, answer_json, answer_members, members_at, members_with, record_json, record_of}
 use Rattle.ll_json.specs.Reports.{IsJsonReport, found_of, lines_from, row_line, said_under, total_json, totals_from, totals_json}

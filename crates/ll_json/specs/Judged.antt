@@ -1,18 +1,12 @@
--- The versions that answer a trace, as they take it, and what is found under each, as it is when the oldest version takes
--- the records.
+-- What is found under each version, as it is when the oldest version takes the records.
 -- Source: docs/FORMATS.md, "Several versions".
 use Rattle.std.specs.Prelude.{Bool, List}
 use Rattle.std.specs.List.{AllZip}
-use Rattle.ll_rights.specs.declared.abi.Abi.{Abi}
 use Rattle.ll_tree.specs.Trees.{Entry}
 use Rattle.ll_trace.specs.declared.op.Record.{Record}
 use Rattle.ll_findings.specs.Findings.{FindingValue, Finds}
 use Rattle.ll_process.specs.TakenLater.{AreTakenLater}
-
--- a version of Landlock's interface, and the records as they are taken under it
-pub record Version : Type 0 where
-  pub abi : Abi
-  pub records : List Record
+use Rattle.ll_json.specs.Versions.{Version}
 
 -- it is found under a version, and these are the version's records as they are taken later
 pub record IsFound (explains : Bool) (tree : List Entry) (later : List Record) (version : Version) (finding : FindingValue) : Type 0 where

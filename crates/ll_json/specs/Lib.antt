@@ -1,4 +1,5 @@
 pub mod Parts
+pub mod Versions
 pub mod Writing
 pub mod Why
 pub mod Names

@@ -12,7 +12,7 @@ use Rattle.ll_reasons.specs.Reasons.{Reason}
 use Rattle.ll_reasons.specs.Explanations.{Explanation, nothing, objections, failure, mootness, explained_at, origins_at}
 use Rattle.ll_report.specs.Lines.{error_name}
 use Rattle.ll_json.specs.Parts.{Named, array_of, object_of, whole}
-use Rattle.ll_json.specs.Judged.{Version}
+use Rattle.ll_json.specs.Versions.{Version}
 use Rattle.ll_json.specs.Why.{condition_json, layer_json, reason_json}
 
 -- ---- the members of an answer; where explanations aren't shown, the explanation is `nothing`

@@ -13,7 +13,7 @@ use Rattle.ll_report.specs.Rows.{count_under, is_row_left_out, refused_under_som
 use Rattle.ll_json.specs.Parts.{Named, array_of, line_text, object_of, whole}
 use Rattle.ll_json.specs.Records.{members_at, record_json}
 use Rattle.ll_json.specs.Spans.{answers_json}
-use Rattle.ll_json.specs.Judged.{Version}
+use Rattle.ll_json.specs.Versions.{Version}
 
 -- ---- the lines of records
 

@@ -4,7 +4,8 @@
 ghost use Rattle.std.specs.Prelude.{◌≡◌, ◌+◌, ◌<◌, ◌^◌, IfOk, List, length};
 ghost use Rattle.ll_report.specs.Scratches.{Suits};
 ghost use Rattle.ll_json.specs.{Reports.IsJsonReport, Rows.json_made, Telling.answer_at, Telling.members_told};
-ghost use Rattle.ll_json.specs.Judged.{AreFound, Version};
+ghost use Rattle.ll_json.specs.Judged.{AreFound};
+ghost use Rattle.ll_json.specs.Versions.{Version};
 
 use crate::rows::push_line;
 use crate::said::{BareMembers, Members};

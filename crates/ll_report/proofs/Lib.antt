@@ -4,7 +4,6 @@ pub mod Beginnings
 pub mod Making
 pub mod Paging
 pub mod Sending
-pub mod BlocksMade
 pub mod Holding
 pub mod Suiting
 pub mod ToldApart
@@ -18,3 +17,4 @@ pub mod SaidAlike
 pub mod RowsSaid
 pub mod FoundJudged
 pub mod RowsLeft
+pub mod OneVersion

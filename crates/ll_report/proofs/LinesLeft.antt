@@ -1,5 +1,5 @@
--- The lines of records and answers, from an index on and counted.
-use Rattle.std.proofs.Common.{◌≡◌, ◌∙◌, ◌+◌, ◌<◌, ℕ, suc, List, [], ◌∷◌, ◌++◌, get_or, length, take, Bool, cond, refl, sym, ap, ap₂, arith}
+-- The lines of records and answers, counted.
+use Rattle.std.proofs.Common.{◌≡◌, ◌∙◌, ◌+◌, ◌<◌, ℕ, suc, List, [], ◌∷◌, get_or, length, take, Bool, cond, refl, sym, ap, ap₂, arith}
 use Rattle.std.specs.List.{count_by}
 use Rattle.std.specs.Prelude.{slice_get, unwrap_or}
 use Rattle.std.proofs.lemmas.List.{take_more}
@@ -7,10 +7,8 @@ use Rattle.std.proofs.lemmas.List.Sums.{fold_push, sum_by-cons}
 use Rattle.std.proofs.lemmas.Option.{unwrap_or-slice_get}
 use Rattle.ll_trace.specs.declared.op.Record.{Record}
 use Rattle.ll_semantics.specs.declared.answer.Answer.{Answer}
-use Rattle.ll_report.specs.declared.options.Shown.{Shown}
-use Rattle.ll_report.specs.Report.{ReportLine, Verdict, count_of, is_allowed, is_moot, is_refused, total_text}
-use Rattle.ll_report.specs.Shown.{blocks_from, shown_text}
-use Rattle.ll_report.specs.Lines.{line_of, lines_of, refused_among, verdict_of}
+use Rattle.ll_report.specs.Report.{ReportLine, Verdict, count_of}
+use Rattle.ll_report.specs.Lines.{line_of, lines_of, verdict_of}
 
 -- as many lines as records
 pub lines_of-length : (records : List Record) (answers : List Answer) → length answers ≡ length records → length (lines_of records answers) ≡ length answers
@@ -46,28 +44,3 @@ one_more_counted test all index other x count is more within counted read tested
     ap₂ (λ (m n : ℕ). m + n) counted (adds ∙ ap (λ b. cond b 1 0) here)
     ∙ sym (fold_push (λ n y. n + cond (test y) 1 0) 0 (take index all) (get_or all index other))
     ∙ sym (ap (count_by test) (take_more all index other within))
-
--- the text of a report, from what is shown of the records and its totals
-pub whole_text : (shown : Shown) (explained : ℕ → List ℕ) (records : List Record) (answers : List Answer) (blocks text : List ℕ) (all passed denied idle : ℕ)
-    → length answers ≡ length records
-    → blocks ≡ blocks_from shown explained 0 (lines_of records answers) → text ≡ blocks ++ total_text all passed denied idle
-    → all ≡ length answers
-    → passed ≡ count_by (λ answer. is_allowed (verdict_of answer)) answers
-    → denied ≡ count_by (λ answer. is_refused (verdict_of answer)) answers
-    → idle ≡ count_by (λ answer. is_moot (verdict_of answer)) answers
-    → text ≡ shown_text shown explained (lines_of records answers)
-unfolding shown_text
-whole_text shown explained records answers blocks text all passed denied idle lengths are is is_all is_passed is_denied is_idle =
-    is ∙ rw (
-      are,
-      is_all ∙ sym (lines_of-length records answers lengths),
-      is_passed ∙ sym (count_of-answers is_allowed records answers lengths),
-      is_denied ∙ sym (count_of-answers is_refused records answers lengths),
-      is_idle ∙ sym (count_of-answers is_moot records answers lengths),
-    ) refl
-
--- the number of refused records, from the answers
-pub refused_count : (records : List Record) (answers : List Answer) (denied : ℕ) → length answers ≡ length records
-    → denied ≡ count_by (λ answer. is_refused (verdict_of answer)) answers → denied ≡ refused_among records answers
-unfolding refused_among
-refused_count records answers denied lengths is = is ∙ sym (count_of-answers is_refused records answers lengths)

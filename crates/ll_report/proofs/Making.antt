@@ -57,13 +57,6 @@ row_at_index row index records r last is =
     let none : 0 + index ≡ index = omega arith in
     ap (λ found. unwrap_or found []) (row_is row 0 index records r is) ∙ ap (λ n. row n r) none
 
--- rows that are alike, index by index
-pub same_rows : (row other : ℕ → Record → List ℕ) → ((k : ℕ) (r : Record) → row k r ≡ other k r) → (index : ℕ) (records : List Record)
-    → rows_of row index records ≡ rows_of other index records
-unfolding rows_of
-same_rows row other same index [] = refl
-same_rows row other same index (r ∷ others) = ap₂ (λ x xs. x ∷ xs) (same index r) (same_rows row other same (index + 1) others)
-
 pub next_rows : (row : ℕ → Record → List ℕ) (index : ℕ) (r : Record) (others : List Record)
     → flat_map (λ x. x) (rows_of row index (r ∷ others)) ≡ row index r ++ flat_map (λ x. x) (rows_of row (index + 1) others)
 unfolding rows_of
@@ -87,7 +80,7 @@ pub no_row : (row : ℕ → Record → List ℕ) (index : ℕ) (records found : 
 no_row row index records found last are past =
     row_past row index records last (omega (arith, ltb-false index (length found) (sym past), ap length are))
 
--- the report over several versions is made of its rows
+-- the report is made of its rows
 pub rows_are : (shown : Shown) (oldest : ℕ) (founds : List Found) (index : ℕ) (records : List Record)
     → flat_map (λ row. row) (rows_of (λ k r. row_text shown oldest founds k (told_of r)) index records) ≡ rows_from shown oldest founds index records
 unfolding rows_from rows_of

@@ -1,10 +1,10 @@
 -- What rows say, by the findings.
 use Rattle.std.proofs.Common.{◌≡◌, ◌∙◌, ℕ, ◌+◌, ◌<◌, ◌≤◌, Bool, true, false, ◌||◌, List, [], ◌∷◌, ◌++◌, length, map, drop, slice_get, All, refl, sym}
 use Rattle.std.proofs.Common.{ap, ap₂, arith, codes, cond, inl, inr, subst, get_or}
-use Rattle.std.specs.Prelude.{count_by, unwrap_or, not, ◌&&◌, ◌⊎◌}
+use Rattle.std.specs.Prelude.{count_by, nat_lt, unwrap_or, not, ◌&&◌, ◌⊎◌}
 use Rattle.std.specs.List.{list_any, range_with_len}
 use Rattle.std.proofs.lemmas.Bool.{cases_Bool, cases_lt, false≢true}
-use Rattle.std.proofs.lemmas.List.{drop_more, drop_all}
+use Rattle.std.proofs.lemmas.List.{drop_more, drop_all, length-map}
 use Rattle.std.proofs.lemmas.List.Elements.{All-cons, All-head, All-tail, All-weaker}
 use Rattle.std.proofs.lemmas.List.Sums.{sum_by-cons}
 use Rattle.std.proofs.lemmas.Option.{slice_get_past, unwrap_or-slice_get}
@@ -18,15 +18,15 @@ use Rattle.ll_report.specs.declared.options.Shown.{Shown}
 use Rattle.ll_report.specs.declared.spans.Form.TheVariants.{Answers, Explanations}
 use Rattle.ll_findings.specs.Alike.{AreAlike, FindsAs}
 use Rattle.ll_report.specs.Scratches.{told_under, verdict_told}
-use Rattle.ll_report.specs.Blocks.{block_of}
 use Rattle.ll_report.specs.Found.{Found, answer_at, explanation_at}
 use Rattle.ll_report.specs.Lines.{line_of, verdict_of}
 use Rattle.ll_report.specs.Report.{is_refused, line_text, verdict_text}
-use Rattle.ll_report.specs.Rows.{answers_said, explanations_said, is_refused_under_some, is_row_left_out, row_text, told_of, total_under_text, totals_from}
-use Rattle.ll_report.specs.Shown.{behind_line, is_left_out}
+use Rattle.ll_report.specs.Rows.{answers_said, are_several, explanations_said, is_refused_under_some, is_row_left_out, row_text, told_of}
+use Rattle.ll_report.specs.Rows.{total_under_text, totals_from, totals_text}
+use Rattle.ll_report.specs.Shown.{behind_line}
 use Rattle.ll_report.specs.Spans.{agree, versions_text}
 use Rattle.ll_report.specs.Versions.{answered, answers_in, found_in, founds_in, some_refuses}
-use Rattle.ll_report.proofs.SaidAlike.{AreSaid, IsSaid, left_out_alike, row_left_out, row_written, versions_alike}
+use Rattle.ll_report.proofs.SaidAlike.{AreSaid, IsSaid, left_out_alike, row_written, versions_alike}
 
 -- ---- what is said of findings, whichever way they are seen
 
@@ -120,7 +120,8 @@ answer_so seen index same one others are = (
 -- whether it is left out
 pub alike_out : (shown : Shown) (findings : List FindingValue) (index : ℕ) (one : FindingValue) (others : List FindingValue)
     → findings ≡ one ∷ others → AreAlike findings index
-    → is_left_out shown (verdict_of (answer_in one index)) ≡ is_row_left_out shown (answers_in findings) index
+    → ((shown.refused_alone && not (is_refused (verdict_of (answer_in one index)))) || shown.differing_alone)
+    ≡ is_row_left_out shown (answers_in findings) index
 alike_out shown findings index one others is are =
     sym (left_out_alike shown (answers_in (one ∷ others)) index (answer_in one index)
     (answer_so answered index (λ f. refl) one others (subst (λ fs. AreAlike fs index) is are)))
@@ -143,32 +144,26 @@ module _ (tree : List Entry) (records : List Record) (index oldest : ℕ) (one :
             (one ∷ others) all,
       ))
 
-  first_shown : (shown : Shown) (r : Record) → AreAlike (one ∷ others) index
-      → block_of shown tree records one index r ≡ row_text shown oldest (founds_in shown.explanations tree records (one ∷ others)) index (told_of r)
-  first_shown shown r are =
-      go (cases_Bool (is_left_out shown (verdict_of answer))) where
-        answer : Answer
-        answer = answer_in one index
-
-        founds : List Found
-        founds = founds_in shown.explanations tree records (one ∷ others)
-
-        said : IsSaid (λ (found : Found). answer_at found index) answer founds
-        said = answer_so (found_in shown.explanations tree records) index (λ f. refl) one others are
-
-        go : (is_left_out shown (verdict_of answer) ≡ true) ⊎ (is_left_out shown (verdict_of answer) ≡ false)
-            → block_of shown tree records one index r ≡ row_text shown oldest founds index (told_of r)
-        go (inl out) = rw out (sym (row_left_out shown oldest founds index r answer said out))
-        go (inr shows) =
-            rw shows (ap (λ behind. line_text (line_of r answer) ++ behind) (behind_same shown.explanations are)
-            ∙ row_written shown oldest founds index r answer said [] shows)
+  first_shown : (shown : Shown) (r : Record) → AreAlike (one ∷ others) index → is_row_left_out shown (answers_in (one ∷ others)) index ≡ false
+      → line_text (line_of r (answer_in one index)) ++ behind_line shown.explanations (text_told tree records one index)
+      ≡ row_text shown oldest (founds_in shown.explanations tree records (one ∷ others)) index (told_of r)
+  first_shown shown r are shows =
+      let founds : List Found = founds_in shown.explanations tree records (one ∷ others) in
+      let seen : is_row_left_out shown founds index ≡ false =
+      sym (same_left_out (one ∷ others) index shown.explanations tree records shown) ∙ shows in
+      ap (λ behind. line_text (line_of r (answer_in one index)) ++ behind) (behind_same shown.explanations are)
+      ∙ row_written shown oldest founds index r (answer_in one index)
+      (answer_so (found_in shown.explanations tree records) index (λ f. refl) one others are) seen
 
 -- what is shown of a record of which all versions find the same, is what one of them shows
 pub shown_alike : (shown : Shown) (oldest : ℕ) (tree : List Entry) (records : List Record) (findings : List FindingValue) (index : ℕ) (r : Record)
     (one : FindingValue) (others : List FindingValue) → findings ≡ one ∷ others → AreAlike findings index
-    → block_of shown tree records one index r ≡ row_text shown oldest (founds_in shown.explanations tree records findings) index (told_of r)
-shown_alike shown oldest tree records findings index r one others is are =
+    → is_row_left_out shown (answers_in findings) index ≡ false
+    → line_text (line_of r (answer_in one index)) ++ behind_line shown.explanations (text_told tree records one index)
+    ≡ row_text shown oldest (founds_in shown.explanations tree records findings) index (told_of r)
+shown_alike shown oldest tree records findings index r one others is are shows =
     first_shown tree records index oldest one others shown r (subst (λ fs. AreAlike fs index) is are)
+    (subst (λ fs. is_row_left_out shown (answers_in fs) index ≡ false) is shows)
     ∙ ap (λ fs. row_text shown oldest (founds_in shown.explanations tree records fs) index (told_of r)) (sym is)
 
 -- ---- records about which versions may differ
@@ -225,23 +220,35 @@ behind_none false text is = refl
 
 -- ---- the totals and the count of refused records
 
-pub totals_next : (findings : List FindingValue) (k abi : ℕ) (finding : FindingValue) → k < length findings → finding ≡ get_or findings k finding
-    → totals_from abi (answers_in (drop k findings))
-    ≡ total_under_text abi (answered finding) ++ totals_from (abi + 1) (answers_in (drop (k + 1) findings))
+pub totals_next : (several : Bool) (findings : List FindingValue) (k abi : ℕ) (finding : FindingValue) → k < length findings
+    → finding ≡ get_or findings k finding
+    → totals_from several abi (answers_in (drop k findings))
+    ≡ total_under_text several abi (answered finding) ++ totals_from several (abi + 1) (answers_in (drop (k + 1) findings))
 unfolding totals_from
-totals_next findings k abi finding below is =
-    ap (λ fs. totals_from abi (answers_in fs)) (drop_more findings k finding below ∙ ap (λ f. f ∷ drop (k + 1) findings) (sym is))
+totals_next several findings k abi finding below is =
+    ap (λ fs. totals_from several abi (answers_in fs)) (drop_more findings k finding below ∙ ap (λ f. f ∷ drop (k + 1) findings) (sym is))
 
-pub totals_last : (findings : List FindingValue) (k abi : ℕ) → length findings ≤ k → totals_from abi (answers_in (drop k findings)) ≡ []
+pub totals_last : (several : Bool) (findings : List FindingValue) (k abi : ℕ) → length findings ≤ k
+    → totals_from several abi (answers_in (drop k findings)) ≡ []
 unfolding totals_from
-totals_last findings k abi past = ap (λ fs. totals_from abi (answers_in fs)) (drop_all k findings past)
+totals_last several findings k abi past = ap (λ fs. totals_from several abi (answers_in fs)) (drop_all k findings past)
+
+totals_seen : (explains : Bool) (tree : List Entry) (records : List Record) (several : Bool) (abi : ℕ) (findings : List FindingValue)
+    → totals_from several abi (answers_in findings) ≡ totals_from several abi (founds_in explains tree records findings)
+unfolding totals_from
+totals_seen explains tree records several abi [] = refl
+totals_seen explains tree records several abi (finding ∷ others) =
+    ap (λ rest. total_under_text several abi (answered finding) ++ rest) (totals_seen explains tree records several (abi + 1) others)
+
+pub several_alone : (findings : List FindingValue) → are_several (answers_in findings) ≡ are_several findings
+several_alone findings = ap (λ n. nat_lt 1 n) (length-map findings answered)
 
 pub same_totals : (explains : Bool) (tree : List Entry) (records : List Record) (abi : ℕ) (findings : List FindingValue)
-    → totals_from abi (answers_in findings) ≡ totals_from abi (founds_in explains tree records findings)
-unfolding totals_from
-same_totals explains tree records abi [] = refl
-same_totals explains tree records abi (finding ∷ others) =
-    ap (λ rest. total_under_text abi (answered finding) ++ rest) (same_totals explains tree records (abi + 1) others)
+    → totals_text abi (answers_in findings) ≡ totals_text abi (founds_in explains tree records findings)
+same_totals explains tree records abi findings =
+    totals_seen explains tree records (are_several (answers_in findings)) abi findings
+    ∙ ap (λ n. totals_from (nat_lt 1 n) abi (founds_in explains tree records findings))
+    (length-map findings answered ∙ sym (length-map findings (found_in explains tree records)))
 
 -- tests that agree count as many
 pub count_same : (p q : ℕ → Bool) → ((n : ℕ) → p n ≡ q n) → (xs : List ℕ) → count_by p xs ≡ count_by q xs

@@ -1,7 +1,7 @@
 -- What is said of a record that all versions say the same of.
-use Rattle.std.proofs.Common.{◌≡◌, ◌∙◌, ℕ, ◌<◌, List, [], ◌∷◌, ◌++◌, Bool, true, false, ◌&&◌, length, map, refl, sym, ap, ⊎_elim}
+use Rattle.std.proofs.Common.{◌≡◌, ◌∙◌, ℕ, ◌<◌, List, [], ◌∷◌, ◌++◌, Bool, true, false, ◌&&◌, ◌||◌, length, map, refl, sym, ap, ⊎_elim}
 use Rattle.std.proofs.Common.{append_assoc, arith}
-use Rattle.std.specs.Prelude.{bytes_eq, codes}
+use Rattle.std.specs.Prelude.{bytes_eq, codes, not}
 use Rattle.std.specs.List.{list_all}
 use Rattle.std.proofs.lemmas.Bool.{cases_Bool}
 use Rattle.std.proofs.lemmas.Slice.Eq.{bytes_eq-Decides}
@@ -14,7 +14,7 @@ use Rattle.ll_report.specs.Found.{Found, answer_at}
 use Rattle.ll_report.specs.Lines.{line_of, verdict_of}
 use Rattle.ll_report.specs.Report.{is_refused, line_text, verdict_text}
 use Rattle.ll_report.specs.Rows.{explanations_said, is_refused_under_some, is_row_left_out, row_text, told_of}
-use Rattle.ll_report.specs.Shown.{behind_line, is_left_out}
+use Rattle.ll_report.specs.Shown.{behind_line}
 use Rattle.ll_report.specs.Spans.{agree, alone_text, versions_text}
 
 -- each of these says the same
@@ -65,7 +65,7 @@ and-true true = refl
 and-true false = refl
 
 pub left_out_alike : (shown : Shown) (founds : List Found) (index : ℕ) (answer : Answer) → IsSaid (λ (found : Found). answer_at found index) answer founds
-    → is_row_left_out shown founds index ≡ is_left_out shown (verdict_of answer)
+    → is_row_left_out shown founds index ≡ ((shown.refused_alone && not (is_refused (verdict_of answer))) || shown.differing_alone)
 left_out_alike shown founds index answer are = rw (
   refused_alike index answer founds are,
   agree_alike (λ (found : Found). answer_at found index)
@@ -73,26 +73,16 @@ left_out_alike shown founds index answer are = rw (
   and-true shown.differing_alone,
 ) refl
 
--- a text, a line behind it and what is behind the line, taken together in another way
-joined : (before told blank verdict end behind : List ℕ)
-    → (before ++ (told ++ blank ++ verdict ++ end)) ++ behind ≡ before ++ (told ++ (blank ++ verdict) ++ end ++ behind)
-joined before told blank verdict end behind =
-    append_assoc before (told ++ blank ++ verdict ++ end) behind
-    ∙ ap (λ (text : List ℕ). before ++ (text ++ end ++ behind)) (append_assoc told blank verdict)
-
 -- the row of a record that all versions answer alike
 module _ (shown : Shown) (oldest : ℕ) (founds : List Found) (index : ℕ) (r : Record) (answer : Answer)
     (are : IsSaid (λ (found : Found). answer_at found index) answer founds) where
-  pub row_left_out : is_left_out shown (verdict_of answer) ≡ true → row_text shown oldest founds index (told_of r) ≡ []
-  row_left_out out = rw (left_out_alike shown founds index answer are ∙ out) refl
-
-  pub row_written : (before : List ℕ) → is_left_out shown (verdict_of answer) ≡ false
-      → (before ++ line_text (line_of r answer)) ++ behind_line shown.explanations (versions_text Explanations oldest (explanations_said founds index))
-      ≡ before ++ row_text shown oldest founds index (told_of r)
-  row_written before shows =
-      joined before (told_of r) (codes " ") (verdict_text (verdict_of answer)) (codes "\n")
-      (behind_line shown.explanations (versions_text Explanations oldest (explanations_said founds index)))
+  pub row_written : is_row_left_out shown founds index ≡ false
+      → line_text (line_of r answer) ++ behind_line shown.explanations (versions_text Explanations oldest (explanations_said founds index))
+      ≡ row_text shown oldest founds index (told_of r)
+  row_written shows =
+      let behind : List ℕ = behind_line shown.explanations (versions_text Explanations oldest (explanations_said founds index)) in
+      ap (λ (text : List ℕ). text ++ codes "\n" ++ behind) (append_assoc (told_of r) (codes " ") (verdict_text (verdict_of answer)))
       ∙ rw (
-        left_out_alike shown founds index answer are ∙ shows,
+        shows,
         versions_alike (λ (found : Found). answer_at found index) (λ (a : Answer). verdict_text (verdict_of a)) answer Answers oldest founds are,
       ) refl

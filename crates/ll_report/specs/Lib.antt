@@ -2,7 +2,6 @@ pub mod Report
 pub mod Lines
 pub mod Shown
 pub mod Made
-pub mod Blocks
 pub mod Writing
 pub mod Found
 pub mod Scratches

@@ -1,6 +1,7 @@
--- The report over several versions: of each record what is answered under each of them, and one total a version.
--- Source: docs/FORMATS.md, "Several versions".
-use Rattle.std.specs.Prelude.{◌+◌, ◌&&◌, ◌||◌, ◌++◌, ℕ, Bool, not, List, [], ◌∷◌, codes, count_by, decimal, if◌then◌else◌, length, map}
+-- The report over versions, which may be one alone: of each record what is answered under each of them, and one total a
+-- version.
+-- Source: docs/FORMATS.md, "The report", "Explanations" and "Several versions".
+use Rattle.std.specs.Prelude.{◌+◌, ◌&&◌, ◌||◌, ◌++◌, ℕ, Bool, not, List, [], ◌∷◌, codes, count_by, decimal, if◌then◌else◌, length, map, nat_lt}
 use Rattle.std.specs.List.{list_any, range_with_len}
 use Rattle.ll_trace.specs.declared.op.Record.{Record}
 use Rattle.ll_report.specs.declared.options.Shown.{Shown}
@@ -58,20 +59,32 @@ rows_from shown oldest founds index (r ∷ others) =
 abbrev pub count_under : (Verdict → Bool) → Found → ℕ
 count_under test found = count_by (λ answer. test (verdict_of answer)) found.answers
 
+-- there is more than one version
+abbrev pub are_several : {X : Type 0} → List X → Bool
+are_several versions = nat_lt 1 (length versions)
+
+-- the number of a version, if it is one of several
+abbrev pub abi_text : Bool → ℕ → List ℕ
+abi_text is_one_of_several abi = if is_one_of_several then codes " abi " ++ decimal abi else []
+
 -- the last line of a version
-abbrev pub total_under_text : ℕ → Found → List ℕ
-total_under_text abi found =
-    codes "total " ++ decimal (length found.answers) ++ codes " abi " ++ decimal abi
+abbrev pub total_under_text : Bool → ℕ → Found → List ℕ
+total_under_text is_one_of_several abi found =
+    codes "total " ++ decimal (length found.answers) ++ abi_text is_one_of_several abi
     ++ counts_text (count_under is_allowed found) (count_under is_refused found) (count_under is_moot found)
 
--- the last lines, one a version, of which the first has this number
-unfoldable pub totals_from : ℕ → List Found → List ℕ
-totals_from abi [] = []
-totals_from abi (found ∷ others) = total_under_text abi found ++ totals_from (abi + 1) others
+-- the last lines of versions, of which the first has this number
+unfoldable pub totals_from : Bool → ℕ → List Found → List ℕ
+totals_from are_of_several abi [] = []
+totals_from are_of_several abi (found ∷ others) = total_under_text are_of_several abi found ++ totals_from are_of_several (abi + 1) others
+
+-- the last lines, one a version, of which the oldest has this number
+abbrev pub totals_text : ℕ → List Found → List ℕ
+totals_text oldest founds = totals_from (are_several founds) oldest founds
 
 -- the report over versions of which the oldest has this number
 abbrev pub rows_text : Shown → ℕ → List Found → List Record → List ℕ
-rows_text shown oldest founds records = rows_from shown oldest founds 0 records ++ totals_from oldest founds
+rows_text shown oldest founds records = rows_from shown oldest founds 0 records ++ totals_text oldest founds
 
 -- how many records some version refuses
 abbrev pub refused_under_some : List Found → List Record → ℕ

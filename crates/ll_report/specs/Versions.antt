@@ -1,4 +1,4 @@
--- What the report over several versions is made of, by what was found under each of them.
+-- What the report is made of, by what was found under each of them.
 -- Source: docs/FORMATS.md, "Several versions".
 use Rattle.std.specs.Prelude.{ℕ, ◌+◌, ◌<◌, ◌^◌, Bool, List, [], if◌then◌else◌, length, map}
 use Rattle.std.specs.List.{list_any, range_with_len}
@@ -12,7 +12,7 @@ use Rattle.ll_report.specs.Found.{Found}
 use Rattle.ll_report.specs.Lines.{verdict_of}
 use Rattle.ll_report.specs.Made.{Made, rows_of}
 use Rattle.ll_report.specs.Report.{is_refused}
-use Rattle.ll_report.specs.Rows.{row_text, told_of, totals_from}
+use Rattle.ll_report.specs.Rows.{row_text, told_of, totals_text}
 use Rattle.ll_report.specs.Scratches.{AreComparable, ScratchValue, said_by, verdict_told}
 
 -- what a finding says, by the tree and the records at hand: the answers, and the explanations, where they are shown
@@ -30,7 +30,7 @@ founds_in explains tree records findings = map (found_in explains tree records) 
 abbrev pub rows_made : Shown → ℕ → List Found → List Record → Made
 rows_made shown oldest founds records = record {
   shown = rows_of (λ index r. row_text shown oldest founds index (told_of r)) 0 records;
-  last = totals_from oldest founds;
+  last = totals_text oldest founds;
 }
 
 -- the answers alone, without explanations, under one version and under each

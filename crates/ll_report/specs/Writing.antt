@@ -18,3 +18,7 @@ Sends old new held_before held_after = (sent : List ℕ) × Appends old new sent
 -- known bytes grow by a beginning of these bytes, which may be none or all of them
 abbrev pub AppendsBeginning : Option (List ℕ) → Option (List ℕ) → List ℕ → Type 0
 AppendsBeginning old new bytes = (count : ℕ) × Appends old new (take count bytes)
+
+-- known bytes grow by a beginning of these bytes that isn't all of them
+abbrev pub AppendsPart : Option (List ℕ) → Option (List ℕ) → List ℕ → Type 0
+AppendsPart old new bytes = (count : ℕ) × (count < length bytes) × Appends old new (take count bytes)

@@ -1,7 +1,6 @@
-//! The report: of each record its line and its explanation, and the totals, under one version and over several.
+//! The report: of each record its line and its explanation, and the totals of each version.
 #![tactic(auto)]
 
-mod blocks;
 mod laws;
 mod made;
 mod measured;
@@ -20,14 +19,13 @@ mod text_pair;
 mod version_rows;
 mod writing;
 
-pub use blocks::Blocks;
 pub use laws::{empty_report, findings_say_what_is_found, spans_give_back_what_was_said};
 pub use made::Rows;
 pub use names::error_name;
 pub use options::{ALL_LINES, Format, Options, Shown};
 pub use paged::Paged;
 pub use report::{Report, Totals};
-pub use row_report::{RowReport, text_report};
+pub use row_report::RowReport;
 pub use rows::{is_left_out, refused_under_some};
 pub use sayings::Sayings;
 pub use scratch::Scratch;

@@ -5,7 +5,8 @@ ghost use Rattle.std.specs.Prelude.{◌≡◌, ◌++◌, ◌∷◌, [], codes, c
 ghost use Rattle.ll_explain.specs.Buffers.{adding};
 ghost use Rattle.ll_report.specs.Lines.{line_of, verdict_of};
 ghost use Rattle.ll_report.specs.Report as words;
-ghost use Rattle.ll_report.specs.Report.{counts_text, layers_text, line_text, next_layer_text, record_text, refused, report_status, total_text, verdict_text};
+ghost use Rattle.ll_report.specs.Report.{counts_text, layers_text, line_text, next_layer_text, record_text, refused, report_status, verdict_text};
+ghost use Rattle.ll_report.specs.Rows.{abi_text};
 ghost use Rattle.ll_report.specs.Lines as spec;
 
 use crate::names::error_name;
@@ -105,13 +106,15 @@ fn push_counts(text: &mut TextBuffer, allowed: u64, refused: u64, moot: u64)
     push_words(text, "\n");
 }
 
-/// Adds the last line.
-pub(crate) fn push_total(text: &mut TextBuffer, all: u64, allowed: u64, refused: u64, moot: u64)
-    ensures { text.new ≡ adding text.old (total_text all allowed refused moot) }
+/// Adds the number of a version, if there are several.
+#[tactic(auto, using(ll_explain::proofs::Buffering::adding_both, ll_explain::proofs::Buffering::adding_nothing))]
+fn push_abi(text: &mut TextBuffer, is_one_of_several: bool, abi: u64)
+    ensures { text.new ≡ adding text.old (abi_text is_one_of_several abi) }
 {
-    push_words(text, "total ");
-    push_number(text, all);
-    push_counts(text, allowed, refused, moot);
+    if is_one_of_several {
+        push_words(text, " abi ");
+        push_number(text, abi);
+    }
 }
 
 /// Adds how a record was answered.
@@ -199,24 +202,15 @@ impl Totals {
         totals
     }
 
-    /// Adds the last line.
-    pub(crate) fn push_to(&self, text: &mut TextBuffer)
+    /// Adds the last line of a version, with its number if it is one of several.
+    pub(crate) fn push_to(&self, text: &mut TextBuffer, is_one_of_several: bool, abi: u64)
         ensures { text.new ≡ adding text.old
-            (total_text self.now.all self.now.allowed self.now.refused self.now.moot) }
-    {
-        push_total(text, self.all, self.allowed, self.refused, self.moot);
-    }
-
-    /// Adds the last line of the version of a number.
-    pub(crate) fn push_under(&self, text: &mut TextBuffer, abi: u64)
-        ensures { text.new ≡ adding text.old
-            (codes "total " ++ decimal self.now.all ++ codes " abi " ++ decimal abi
+            (codes "total " ++ decimal self.now.all ++ abi_text is_one_of_several abi
             ++ counts_text self.now.allowed self.now.refused self.now.moot) }
     {
         push_words(text, "total ");
         push_number(text, self.all);
-        push_words(text, " abi ");
-        push_number(text, abi);
+        push_abi(text, is_one_of_several, abi);
         push_counts(text, self.allowed, self.refused, self.moot);
     }
 }

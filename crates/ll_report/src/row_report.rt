@@ -2,18 +2,13 @@
 
 ghost use Rattle.std.specs.Prelude.{◌≡◌, IfOk, OnOk};
 ghost use Rattle.std.specs.Io.KnownBytes.{Appends};
-ghost use Rattle.ll_findings.specs.Findings.{Finds};
 ghost use Rattle.ll_report.specs.{Made.text_of, Report.report_status};
-ghost use Rattle.ll_report.specs.Shown.{told_by, told_of};
+ghost use Rattle.ll_report.specs.Shown.{told_by};
 ghost use Rattle.ll_report.specs.Writing.{AppendsBeginning};
 
-use crate::blocks::Blocks;
 use crate::made::Rows;
-use crate::options::Shown;
 use crate::paged::Paged;
-use crate::report::{Report, Totals};
-use ll_findings::Finding;
-use ll_process::Case;
+use crate::report::Report;
 use std::alloc::{AllocError, Global};
 use std::io;
 use std::io::Write;
@@ -70,24 +65,4 @@ impl<R: Rows + Drop> RowReport<R> {
         let RowReport { paged, refused: _ } = self;
         paged.write_to(out)
     }
-}
-
-/// The report on what was found of the records of a case, under its version, as much as is shown of it.
-pub fn text_report(
-    alloc: Global,
-    case: Case,
-    finding: Finding,
-    shown: Shown,
-) -> Result<RowReport<Blocks>, AllocError>
-    requires { Finds shown.explanations case.tree case.abi case.records finding }
-    ensures { IfOk result (λ report. report ≡ told_of shown case.tree case.abi case.records) }
-{
-    let refused = Totals::of(&finding).refused;
-    let blocks = Blocks {
-        case,
-        finding,
-        shown,
-    };
-    let report = RowReport::of(alloc, blocks, refused)?;
-    Ok(report)
 }

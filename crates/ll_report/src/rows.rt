@@ -1,23 +1,26 @@
-//! What is shown of each record over several versions.
+//! What is shown of each record.
 
-ghost use Rattle.std.specs.Prelude.{◌≡◌, ◌+◌, ◌<◌, ◌^◌, ◌&&◌, count_by, length, not};
+ghost use Rattle.std.specs.Prelude.{◌≡◌, ◌+◌, ◌++◌, ◌<◌, ◌^◌, ◌&&◌, ◌||◌, count_by, false, length, not};
 ghost use Rattle.std.specs.List.{range_with_len};
-ghost use Rattle.ll_explain.specs.Buffers.{adding};
+ghost use Rattle.ll_explain.specs.{Buffers.adding, Told.text_told};
+ghost use Rattle.ll_findings.specs.{Alike.AreAlike, Findings.answer_in};
+ghost use Rattle.ll_report.specs.Lines.{line_of, verdict_of};
+ghost use Rattle.ll_report.specs.Report as words;
+ghost use Rattle.ll_report.specs.Report.{line_text};
 ghost use Rattle.ll_report.specs.Rows.{is_row_left_out};
-ghost use Rattle.ll_findings.specs.Alike.{AreAlike};
-ghost use Rattle.ll_report.specs.Scratches.{AreComparable, said_by, verdict_told};
+ghost use Rattle.ll_report.specs.{Scratches.AreComparable, Scratches.said_by, Scratches.verdict_told, Shown.behind_line};
 ghost use Rattle.ll_report.specs.Versions.{IsTellable, answers_in, row_of, some_refuses};
 
-use crate::blocks::{is_hidden, push_block};
 use crate::options::Shown;
-use crate::report::{is_refused, push_record};
+use crate::report::{is_refused, push_line, push_record};
 use crate::sayings::Sayings;
 use crate::scratch::Scratch;
 use crate::spans::Form;
 use crate::telling::{InWords, Verdicts};
-use ll_explain::{TextBuffer, push_words};
+use ll_explain::{TextBuffer, push_found, push_words};
 use ll_findings::{Finding, Findings};
 use ll_trace::Record;
+use ll_tree::Tree;
 
 /// Whether some version refuses the record at an index.
 fn some_refuses(findings: &[Finding], index: usize) -> bool
@@ -74,6 +77,15 @@ fn is_apart_left_out(shown: Shown, sayings: &Sayings<'_>, scratch: &mut Scratch)
     sayings.agree::<Verdicts>(scratch)
 }
 
+/// Whether a record about which versions agree is left out, by what one of them finds.
+fn is_left_out_by(shown: Shown, finding: &Finding, index: usize) -> bool
+    ensures { result ≡ ((shown.refused_alone
+        && not (words.is_refused (verdict_of (answer_in finding.now index))))
+        || shown.differing_alone) }
+{
+    shown.refused_alone && !is_refused(&finding.answer(index)) || shown.differing_alone
+}
+
 /// Whether a record about which versions agree is left out of what is shown.
 fn is_alike_left_out(shown: Shown, sayings: &Sayings<'_>) -> bool
     requires { AreAlike sayings.now.findings.now sayings.now.index }
@@ -81,7 +93,7 @@ fn is_alike_left_out(shown: Shown, sayings: &Sayings<'_>) -> bool
         ≡ is_row_left_out shown (answers_in sayings.now.findings.now) sayings.now.index }
 {
     match sayings.findings.as_slice().split_first() {
-        Some((first, _)) => is_hidden(shown, &first.answer(sayings.index)),
+        Some((first, _)) => is_left_out_by(shown, first, sayings.index),
         None => false,
     }
 }
@@ -100,6 +112,27 @@ pub fn is_left_out(shown: Shown, sayings: &Sayings<'_>, scratch: &mut Scratch) -
     }
 }
 
+/// Adds the line of the record at an index, and its explanation if these are shown, by what is found of it.
+#[tactic(auto, using(ll_explain::proofs::Buffering::adding_both, ll_explain::proofs::Buffering::adding_nothing))]
+fn push_block(
+    text: &mut TextBuffer,
+    explains: bool,
+    tree: &Tree,
+    records: &[Record],
+    finding: &Finding,
+    index: usize,
+    record: &Record,
+)
+    ensures { text.new ≡ adding text.old
+        (line_text (line_of «record».now (answer_in finding.now index))
+        ++ behind_line explains (text_told tree.now records.now finding.now index)) }
+{
+    push_line(text, record, &finding.answer(index));
+    if explains {
+        push_found(text, tree, records, finding, index);
+    }
+}
+
 /// A record, and what there is to say of it. The oldest version has this number.
 #[derive(Clone, Copy)]
 pub(crate) struct Row<'f> {
@@ -112,7 +145,9 @@ pub(crate) struct Row<'f> {
 impl<'f> Row<'f> {
     /// Adds what is shown of the record, where all versions find the same.
     fn push_alike(&self, text: &mut TextBuffer)
-        requires { AreAlike self.now.sayings.findings.now self.now.sayings.index }
+        requires alike { AreAlike self.now.sayings.findings.now self.now.sayings.index }
+        requires shows { is_row_left_out self.now.shown
+            (answers_in self.now.sayings.findings.now) self.now.sayings.index ≡ false }
         ensures { text.new ≡ adding text.old (row_of self.now) }
     {
         let Some((first, _)) = self.sayings.findings.as_slice().split_first() else {
@@ -124,18 +159,18 @@ impl<'f> Row<'f> {
             index,
             ..
         } = self.sayings;
-        push_block(text, self.shown, tree, records, first, index, self.record);
+        let explains = self.shown.explanations;
+        push_block(text, explains, tree, records, first, index, self.record);
     }
 
     /// Adds what is shown of the record, where versions may differ.
     fn push_apart(&self, text: &mut TextBuffer, scratch: &mut Scratch)
-        requires { IsTellable scratch.old self.now }
+        requires tellable { IsTellable scratch.old self.now }
+        requires shows { is_row_left_out self.now.shown
+            (answers_in self.now.sayings.findings.now) self.now.sayings.index ≡ false }
         ensures text { text.new ≡ adding text.old (row_of self.now) }
         ensures scratch { scratch.new ≡ scratch.old }
     {
-        if is_apart_left_out(self.shown, &self.sayings, scratch) {
-            return;
-        }
         push_record(
             text,
             self.record.line,
@@ -157,6 +192,9 @@ impl<'f> Row<'f> {
         ensures text { text.new ≡ adding text.old (row_of self.now) }
         ensures scratch { scratch.new ≡ scratch.old }
     {
+        if is_left_out(self.shown, &self.sayings, scratch) {
+            return;
+        }
         if self.sayings.is_apart() {
             self.push_apart(text, scratch);
         } else {

@@ -1,8 +1,8 @@
-//! The report over several versions, as rows.
+//! The report, as rows.
 
 ghost use Rattle.std.specs.Prelude.{◌≡◌, ◌+◌, ◌<◌, ◌^◌, IfOk, length};
 ghost use Rattle.ll_explain.specs.Buffers.{adding};
-ghost use Rattle.ll_report.specs.Rows.{refused_under_some, rows_text, total_under_text, totals_from};
+ghost use Rattle.ll_report.specs.Rows.{refused_under_some, rows_text, total_under_text, totals_from, totals_text};
 ghost use Rattle.ll_report.specs.Versions.{answered, answers_in, founds_in, rows_made};
 
 use crate::made::Rows;
@@ -47,23 +47,33 @@ impl Model for VersionRows {
         × (rows.oldest + length rows.findings < 2 ^ 64) };
 }
 
-/// Adds the last line of a version.
-fn push_total_under(text: &mut TextBuffer, abi: u64, finding: &Finding)
-    ensures { text.new ≡ adding text.old (total_under_text abi (answered finding.now)) }
+/// Adds the last line of a version, with its number if it is one of several.
+fn push_total(text: &mut TextBuffer, is_one_of_several: bool, abi: u64, finding: &Finding)
+    ensures { text.new ≡ adding text.old
+        (total_under_text is_one_of_several abi (answered finding.now)) }
 {
-    Totals::of(finding).push_under(text, abi);
+    Totals::of(finding).push_to(text, is_one_of_several, abi);
 }
 
-/// Adds the last lines, one a version, of which the first has this number.
-fn push_totals(text: &mut TextBuffer, oldest: u64, findings: &[Finding])
+/// Adds the last lines of versions, of which the first has this number, with their numbers if they are some of several.
+fn push_totals_from(text: &mut TextBuffer, are_of_several: bool, oldest: u64, findings: &[Finding])
     requires { oldest + length findings.now < 2 ^ 64 }
-    ensures { text.new ≡ adding text.old (totals_from oldest (answers_in findings.now)) }
+    ensures { text.new
+        ≡ adding text.old (totals_from are_of_several oldest (answers_in findings.now)) }
 {
     let mut abi = oldest;
     for finding in findings {
-        push_total_under(text, abi, finding);
+        push_total(text, are_of_several, abi, finding);
         abi += 1;
     }
+}
+
+/// Adds the last lines, one a version, of which the oldest has this number.
+fn push_totals(text: &mut TextBuffer, oldest: u64, findings: &[Finding])
+    requires { oldest + length findings.now < 2 ^ 64 }
+    ensures { text.new ≡ adding text.old (totals_text oldest (answers_in findings.now)) }
+{
+    push_totals_from(text, findings.len() > 1, oldest, findings);
 }
 
 impl Rows for VersionRows {

@@ -1,10 +1,10 @@
 //! Writing bytes so that a failure leaves a beginning of them.
 
-ghost use Rattle.std.specs.Prelude.{◌≡◌, OnOk};
+ghost use Rattle.std.specs.Prelude.{◌≡◌, OnErr, OnOk};
 ghost use Rattle.std.specs.Io.{WritesAtMost};
 ghost use Rattle.std.specs.Io.KnownBytes.{Appends, WriteAppends};
 ghost use Rattle.std.specs.List.{flat_map};
-ghost use Rattle.ll_report.specs.Writing.{AppendsBeginning};
+ghost use Rattle.ll_report.specs.Writing.{AppendsBeginning, AppendsPart};
 
 use std::io;
 use std::io::{ErrorKind, Write};
@@ -18,12 +18,14 @@ pub fn write_whole<O: Write>(out: &mut O, bytes: &[u8]) -> io::Result<()>
     out.flush()
 }
 
-/// Writes texts, one behind the other. Where that fails a beginning of all of them was written.
+/// Writes texts, one behind the other. Where that fails a beginning of all of them was written, but not all.
 pub fn write_texts<O: Write>(out: &mut O, texts: &[&str]) -> io::Result<()>
     ensures whole { OnOk result (Appends (O.contents out.old) (O.contents out.new)
         (flat_map (λ text. text.now) texts.now)) }
     ensures beginning { AppendsBeginning (O.contents out.old) (O.contents out.new)
         (flat_map (λ text. text.now) texts.now) }
+    ensures cut { OnErr result (AppendsPart (O.contents out.old) (O.contents out.new)
+        (flat_map (λ text. text.now) texts.now)) }
 {
     for text in texts {
         write_bytes(out, text.as_bytes())?;
@@ -36,6 +38,7 @@ pub fn write_texts<O: Write>(out: &mut O, texts: &[&str]) -> io::Result<()>
 pub(crate) fn write_bytes<O: Write>(out: &mut O, bytes: &[u8]) -> io::Result<()>
     ensures whole { OnOk result (Appends (O.contents out.old) (O.contents out.new) bytes.now) }
     ensures beginning { AppendsBeginning (O.contents out.old) (O.contents out.new) bytes.now }
+    ensures cut { OnErr result (AppendsPart (O.contents out.old) (O.contents out.new) bytes.now) }
 {
     let mut rest = bytes;
     for _ in 0..u64::MAX {
@@ -44,6 +47,9 @@ pub(crate) fn write_bytes<O: Write>(out: &mut O, bytes: &[u8]) -> io::Result<()>
         }
         let count = write_some(out, rest)?;
         rest = &rest[count..];
+    }
+    if rest.is_empty() {
+        return Ok(());
     }
     Err(ErrorKind::Interrupted.into())
 }

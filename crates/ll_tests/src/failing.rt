@@ -1,7 +1,6 @@
 //! A source that fails.
 
-ghost use Rattle.std.specs.Prelude.{◌≡◌, Some};
-ghost use Rattle.ll_audit.specs.Inputs.{files_of};
+ghost use Rattle.std.specs.Prelude.{◌≡◌, None};
 
 use ll_audit::{MemorySource, Source, SourceFault};
 use std::alloc::Global;
@@ -37,7 +36,7 @@ impl<'a> FailingSource<'a> {
 }
 
 impl<'a> Source for FailingSource<'a> {
-    ghost files = { λ source. Some (files_of source.files.now) };
+    ghost files = { λ _. None };
 
     ghost failed = { λ source. source.failures };
 

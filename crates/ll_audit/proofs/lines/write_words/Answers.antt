@@ -13,4 +13,4 @@ pub returns : goal.returns
 unfolding WritesLine
 returns g c =
     subst (WritesLine c.write_texts.result (g.W.Write.contents c.args.err.now) (g.W.Write.contents c.write_texts.new.out))
-    (texts_of_line c.args.file.now c.args.line.now c.args.cause.now) (c.write_texts.ensures.whole, c.write_texts.ensures.beginning)
+    (texts_of_line c.args.file.now c.args.line.now c.args.cause.now) (c.write_texts.ensures.whole, c.write_texts.ensures.cut)

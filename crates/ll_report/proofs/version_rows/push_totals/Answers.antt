@@ -1,21 +1,12 @@
-use Rattle.std.proofs.Common.{◌∙◌, ◌+◌, sym, ap, arith, drop}
+use Rattle.std.proofs.Common.{◌∙◌, ap, sym}
 use Rattle.ll_explain.specs.Buffers.{adding}
-use Rattle.ll_explain.proofs.Buffering.{adding_nothing, goes_on}
 use Rattle.ll_report.specs.Rows.{totals_from}
 use Rattle.ll_report.specs.Versions.{answers_in}
-use Rattle.ll_report.proofs.RowsSaid.{totals_last, totals_next}
+use Rattle.ll_report.proofs.RowsSaid.{several_alone}
 use Rattle.ll_report.proofs.version_rows.push_totals.Goals as goal
-
-pub loop-finding-preserved : goal.loop-finding-preserved
-loop-finding-preserved c =
-    let l = c.loop-finding in
-    let next = totals_next c.args.findings.now l.finding-index l.abi c.finding-item.result c.loop-finding-test.true c.finding-item.is in (
-      goes_on l.text c.push_total_under.new.text _ _ (totals_from (l.abi + 1) (answers_in (drop (l.finding-index + 1) c.args.findings.now)))
-          (ap (adding l.text) (sym next) ∙ l.invariant.0) c.push_total_under.ensures,
-      omega (arith, l.invariant.1),
-    )
 
 pub returns : goal.returns
 returns c =
-    let l = c.loop-finding in
-    adding_nothing l.text ∙ ap (adding l.text) (sym (totals_last c.args.findings.now l.finding-index l.abi c.loop-finding-test.false)) ∙ l.invariant.0
+    c.push_totals_from.ensures
+    ∙ ap (λ several. adding c.args.text.now (totals_from several c.args.oldest (answers_in c.args.findings.now)))
+    (sym (several_alone c.args.findings.now))

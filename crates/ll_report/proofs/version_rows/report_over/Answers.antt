@@ -2,7 +2,7 @@ use Rattle.std.proofs.Common.{◌∙◌, ◌++◌, List, ℕ, length, ap, count_
 use Rattle.std.specs.List.{range_with_len}
 use Rattle.ll_trace.specs.declared.op.Record.{Record}
 use Rattle.ll_report.specs.Found.{Found}
-use Rattle.ll_report.specs.Rows.{totals_from}
+use Rattle.ll_report.specs.Rows.{totals_text}
 use Rattle.ll_report.specs.Shown.{Told}
 use Rattle.ll_report.specs.Versions.{founds_in, some_refuses}
 use Rattle.ll_report.proofs.Making.{rows_are}
@@ -14,7 +14,7 @@ returns-clause-text g c =
     let records : List Record = c.args.located.trace in
     let founds : List Found = founds_in c.args.shown.explanations c.args.located.tree records c.args.findings in
     ap (λ (t : Told). t.text) c.in_ok-report.ensures
-    ∙ ap (λ (rows : List ℕ). rows ++ totals_from c.args.oldest founds) (rows_are c.args.shown c.args.oldest founds 0 records)
+    ∙ ap (λ (rows : List ℕ). rows ++ totals_text c.args.oldest founds) (rows_are c.args.shown c.args.oldest founds 0 records)
 
 pub returns-clause-refused : goal.returns-clause-refused
 returns-clause-refused g c =

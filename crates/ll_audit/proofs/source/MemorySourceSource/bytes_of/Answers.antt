@@ -17,3 +17,6 @@ pub returns-in-Ok-clause-bytes : goal.returns-in-Ok-clause-bytes
 returns-in-Ok-clause-bytes c =
     sym (found_by_name c.args.self.now.files.now c.args.name.now)
     ∙ (sym c.in-Some.ensures ∙ ap Some (sym c.in-Ok.ensures.items))
+
+pub returns-in-None-clause-missing : goal.returns-in-None-clause-missing
+returns-in-None-clause-missing c = λ refused. sym (found_by_name c.args.self.now.files.now c.args.name.now) ∙ sym c.in-None.ensures

@@ -9,4 +9,4 @@ returns c =
     let s = row.sayings in
     c.push_block.ensures
     ∙ ap (adding c.args.text.now) (shown_alike row.shown row.oldest s.tree.now s.records.now s.findings.now s.index row.record.now
-    c.in-Some.first.now _ (sym c.as_slice.ensures ∙ c.in-Some.ensures.cases.0) c.requires)
+    c.in-Some.first.now _ (sym c.as_slice.ensures ∙ c.in-Some.ensures.cases.0) c.requires.alike c.requires.shows)

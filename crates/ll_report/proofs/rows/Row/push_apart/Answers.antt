@@ -1,4 +1,4 @@
-use Rattle.std.proofs.Common.{◌∙◌, List, ℕ, [], codes, sym, ap}
+use Rattle.std.proofs.Common.{◌∙◌, List, ℕ, [], codes, ap}
 use Rattle.ll_explain.specs.Buffers.{adding}
 use Rattle.ll_explain.specs.Told.{text_told}
 use Rattle.ll_explain.proofs.Appending.{appended_4}
@@ -8,16 +8,8 @@ use Rattle.ll_report.specs.Rows.{told_of}
 use Rattle.ll_report.specs.Scratches.{told_under, verdict_told}
 use Rattle.ll_report.specs.Spans.{versions_text}
 use Rattle.ll_report.specs.declared.spans.Form.TheVariants.{Answers, Explanations}
-use Rattle.ll_report.proofs.RowsSaid.{apart_out, apart_shown, behind_none, behind_told}
+use Rattle.ll_report.proofs.RowsSaid.{apart_shown, behind_none, behind_told}
 use Rattle.ll_report.proofs.rows.Row.push_apart.Goals as goal
-
-pub returns-then-is_apart_left_out-clause-text : goal.returns-then-is_apart_left_out-clause-text
-returns-then-is_apart_left_out-clause-text c =
-    let row = c.args.self.now in
-    let s = row.sayings in
-    adding_nothing c.args.text.now
-    ∙ ap (adding c.args.text.now) (apart_out row.shown row.oldest s.tree.now s.records.now s.findings.now s.index row.record.now
-    (sym c.is_apart_left_out.ensures.out ∙ c.if-is_apart_left_out.true))
 
 pub returns-then-self-clause-text : goal.returns-then-self-clause-text
 returns-then-self-clause-text c =
@@ -30,7 +22,7 @@ returns-then-self-clause-text c =
     (c.push_record.ensures ∙ ap (λ (op : List ℕ). adding c.args.text.now (record_text row.record.now.line row.record.now.pid op)) c.name.ensures)
     c.push_versions.ensures.text c.push_words.ensures c.push_versions-then-self.ensures.text
     ∙ ap (adding c.args.text.now) (apart_shown row.shown row.oldest s.tree.now s.records.now s.findings.now s.index row.record.now texts
-    (sym c.is_apart_left_out.ensures.out ∙ c.if-is_apart_left_out.false)
+    c.requires.shows
     (behind_told row.shown.explanations row.oldest s.tree.now s.records.now s.findings.now s.index c.if-self.true))
 
 pub returns-else-self-clause-text : goal.returns-else-self-clause-text
@@ -43,5 +35,5 @@ returns-else-self-clause-text c =
     (c.push_record.ensures ∙ ap (λ (op : List ℕ). adding c.args.text.now (record_text row.record.now.line row.record.now.pid op)) c.name.ensures)
     c.push_versions.ensures.text c.push_words.ensures (adding_nothing c.push_words.new.text)
     ∙ ap (adding c.args.text.now) (apart_shown row.shown row.oldest s.tree.now s.records.now s.findings.now s.index row.record.now []
-    (sym c.is_apart_left_out.ensures.out ∙ c.if-is_apart_left_out.false)
+    c.requires.shows
     (behind_none row.shown.explanations _ c.if-self.false))

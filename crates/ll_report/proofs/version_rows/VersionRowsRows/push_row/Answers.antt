@@ -4,7 +4,7 @@ use Rattle.ll_explain.proofs.Buffering.{adding_nothing}
 use Rattle.ll_trace.specs.declared.op.Record.{Record}
 use Rattle.ll_report.specs.Found.{Found}
 use Rattle.ll_report.specs.Made.{Made, row_at}
-use Rattle.ll_report.specs.Rows.{row_text, told_of, totals_from}
+use Rattle.ll_report.specs.Rows.{row_text, told_of, totals_text}
 use Rattle.ll_report.specs.Versions.{founds_in}
 use Rattle.ll_report.proofs.Making.{found_row, no_row}
 use Rattle.ll_report.proofs.version_rows.VersionRowsRows.push_row.Goals as goal
@@ -15,7 +15,7 @@ returns-in-Some-clause-row c =
     let records : List Record = rows.located.trace in
     let founds : List Found = founds_in rows.shown.explanations rows.located.tree records rows.findings in
     let row = found_row (λ k r. row_text rows.shown rows.oldest founds k (told_of r)) c.args.index records c.records-records.result.now
-    (totals_from rows.oldest founds) c.in-Some.record.now c.records-records.ensures.value
+    (totals_text rows.oldest founds) c.in-Some.record.now c.records-records.ensures.value
     c.in-Some.ensures.lookup.0 c.in-Some.ensures.lookup.1 in
     c.push_to.ensures.text
     ∙ ap (λ (rs : List Record). adding c.args.text.now (row_text rows.shown rows.oldest
@@ -29,7 +29,7 @@ returns-in_default-clause-row c =
     let records : List Record = rows.located.trace in
     let founds : List Found = founds_in rows.shown.explanations rows.located.tree records rows.findings in
     let none = no_row (λ k r. row_text rows.shown rows.oldest founds k (told_of r)) c.args.index records c.records-records.result.now
-    (totals_from rows.oldest founds) c.records-records.ensures.value c.in_default.ensures.lookup.0 in
+    (totals_text rows.oldest founds) c.records-records.ensures.value c.in_default.ensures.lookup.0 in
     adding_nothing c.args.text.now
     ∙ ap (adding c.args.text.now) (sym none)
     ∙ ap (λ (m : Made). adding c.args.text.now (row_at m c.args.index)) c.self.view_is

@@ -1,0 +1,13 @@
+use Rattle.std.proofs.Common.{◌∙◌, ap, sym}
+use Rattle.ll_explain.specs.Buffers.{adding}
+use Rattle.ll_explain.proofs.Buffering.{adding_nothing}
+use Rattle.ll_report.proofs.RowsSaid.{apart_out}
+use Rattle.ll_report.proofs.rows.Row.push_to.Goals as goal
+
+pub returns-then-is_left_out-clause-text : goal.returns-then-is_left_out-clause-text
+returns-then-is_left_out-clause-text c =
+    let row = c.args.self.now in
+    let s = row.sayings in
+    adding_nothing c.args.text.now
+    ∙ ap (adding c.args.text.now) (apart_out row.shown row.oldest s.tree.now s.records.now s.findings.now s.index row.record.now
+    (sym c.is_left_out.ensures.out ∙ c.if-is_left_out.true))
