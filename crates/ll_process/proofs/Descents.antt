@@ -1,12 +1,19 @@
 -- How far the judging of a process and its descendants has come.
-use Rattle.std.proofs.Common.{◌≡◌, ℕ, ◌+◌, cond, eqb, List, ◌∷◌, ◌++◌, arith, ◌<◌, [], sym, ap, ◌∙◌, append_assoc, ◌⊎◌, zero, suc, Some, map, refl, subst, inl}
+use Rattle.std.proofs.Common.{◌≡◌, ℕ, ◌+◌, ◌≤◌, Bool, cond, eqb, List, ◌∷◌, ◌++◌, arith, ◌<◌, [], sym, ap, ◌∙◌, append_assoc}
+use Rattle.std.proofs.Common.{◌⊎◌, zero, suc, Some, refl, subst, inl}
 use Rattle.std.proofs.Common.{inr}
 use Rattle.std.specs.Prelude.{sum_by, slice_get}
+use Rattle.std.proofs.lemmas.Bool.{cases_Bool, eqb-true, eq-eqb}
 use Rattle.std.proofs.lemmas.List.Sums.{sum_by-append, sum_by-cons, sum_by_push}
 use Rattle.ll_trace.specs.declared.op.Record.{Record}
 use Rattle.ll_trace.specs.Processes.{kids, times, process_count, children, numbers}
 use Rattle.ll_trace.proofs.EachOnce.{equal_weights, times-append}
-use Rattle.ll_process.specs.Jobs.{SharesOut, KeepsMore, processes_of, AreJobsOf, HandedOut, weight, weight_of}
+use Rattle.ll_process.specs.Jobs.{SharesOut, KeepsMore, HandedOut, weight, weight_of}
+use Rattle.ll_process.specs.Progresses.{children_from}
+use Rattle.ll_process.specs.Descending.{AreOf, ArePut, Descended, waiting, forking, is_first, with_done, work, work_of}
+use Rattle.ll_process.specs.declared.piece.Piece.{Piece}
+use Rattle.ll_process.specs.declared.progress.Progress.{Progress}
+use Rattle.ll_process.proofs.Weighing.{weight_of-children}
 use Rattle.std.proofs.lemmas.List.{append-nil, map-append}
 use Rattle.std.proofs.lemmas.List.Elements.{All-append, All-nil, All-push, All-pop}
 use Rattle.std.specs.List.{flat_map}
@@ -14,8 +21,7 @@ use Rattle.std.proofs.lemmas.Grind.{flat_map-append}
 use Rattle.std.proofs.lemmas.Option.{none-some, same_Some}
 use Rattle.ll_trace.specs.declared.op.ProcessId.{ProcessId}
 use Rattle.ll_semantics.specs.declared.answer.Answer.{Answer}
-use Rattle.ll_process.specs.declared.job.Job.{Job}
-use Rattle.ll_process.specs.Cases.{CaseValue, own_answers}
+use Rattle.ll_process.specs.Cases.{CaseValue, IsCase, own_answers}
 
 -- ---- what is shared out, by counts and by weights
 
@@ -52,6 +58,11 @@ module _ (records : List Record) where
     there = All-append (λ (p : ℕ). p < process_count records) one.newly two.newly one.there two.there;
   }
 
+-- all children of a process
+pub all_children : (records : List Record) (process : ℕ) → children_from records process 0 ≡ children records process
+unfolding children_from children
+all_children records process = refl
+
 -- ---- how far it has come
 
 module _ (cv : CaseValue) where
@@ -59,103 +70,239 @@ module _ (cv : CaseValue) where
   abbrev pub AllThere : List ProcessId → Type 0
   AllThere processes = (k : ℕ) (process : ProcessId) → slice_get processes k ≡ Some process → process.0 < process_count cv.records
 
-  there_push : (processes : List ProcessId) (next : ProcessId) → AllThere processes → next.0 < process_count cv.records → AllThere (processes ++ next ∷ [])
+  pub there_push : (processes : List ProcessId) (next : ProcessId) → AllThere processes → next.0 < process_count cv.records → AllThere (processes ++ next ∷ [])
   there_push [] next all there zero process eq = subst (λ (p : ProcessId). p.0 < process_count cv.records) (same_Some next process eq) there
   there_push [] next all there (suc k) process eq = absurd (none-some process eq)
   there_push (p ∷ ps) next all there zero process eq = all 0 process eq
   there_push (p ∷ ps) next all there (suc k) process eq = there_push ps next (λ m q is. all (suc m) q is) there k process eq
 
-  kids-push : (judged : List ℕ) (p : ℕ) → kids cv.records (judged ++ p ∷ []) ≡ kids cv.records judged ++ children cv.records p
+  pub kids-push : (judged : List ℕ) (p : ℕ) → kids cv.records (judged ++ p ∷ []) ≡ kids cv.records judged ++ children cv.records p
   unfolding kids
   kids-push judged p =
       flat_map-append (children cv.records) judged (p ∷ []) ∙ ap (λ xs. flat_map (children cv.records) judged ++ xs) (append-nil (children cv.records p))
 
-  -- the first process was judged, or its job alone is to do
-  abbrev IsFirst : ProcessId → List ProcessId → List Job → Type 0
-  IsFirst first processes todo = (slice_get processes 0 ≡ Some first) ⊎ ((processes ≡ []) × (map (λ (j : Job). j.process) todo ≡ first ∷ []))
+  -- ---- one process more is done
 
-  first_taken : (first : ProcessId) (processes : List ProcessId) (rest : List Job) (job : Job) → IsFirst first processes (rest ++ job ∷ [])
-      → slice_get (processes ++ job.process ∷ []) 0 ≡ Some first
-  first_taken first [] rest job (inl eq) = absurd (none-some first eq)
-  first_taken first (p ∷ ps) rest job (inl eq) = eq
-  first_taken first processes [] job (inr (none, alone)) = rw none (let same : job.process ≡ first = cc in rw same refl)
-  first_taken first processes (one ∷ rest) job (inr (none, alone)) = absurd (nothing rest (cc))
-    where
-      nothing : (rest : List Job) → map (λ (j : Job). j.process) (rest ++ job ∷ []) ≡ [] → ⊥
-      nothing [] is = cc
-      nothing (one ∷ rest) is = cc
+  pub answered_push : (processes : List ProcessId) (answers more : List (ℕ × Answer)) (next : ProcessId)
+      → answers ≡ flat_map (own_answers cv) (numbers processes)
+      → more ≡ own_answers cv next.0 → answers ++ more ≡ flat_map (own_answers cv) (numbers (processes ++ next ∷ []))
+  answered_push processes answers more next so_far its =
+      rw (
+        map-append (λ (p : ProcessId). p.0) processes (next ∷ []),
+        flat_map-append (own_answers cv) (numbers processes) (next.0 ∷ []),
+        append-nil (own_answers cv next.0),
+        its,
+      ) (ap (λ xs. xs ++ own_answers cv next.0) so_far)
 
-  pub record Descended (first : ProcessId) (processes : List ProcessId) (answers : List (ℕ × Answer)) (kept_before kept : List ℕ)
-      (todo : List Job) : Type 0 where
-    pub first_is : IsFirst first processes todo
-    pub answered : answers ≡ flat_map (own_answers cv) (numbers processes)
-    pub shared : (weight : ℕ → ℕ) → sum_by weight (numbers processes) + sum_by weight kept + sum_by weight (processes_of todo)
-        ≡ sum_by weight (first.0 ∷ kids cv.records (numbers processes)) + sum_by weight kept_before
-    pub there : AllThere processes
-    pub of_case : AreJobsOf cv todo
+  pub answered_front : (processes : List ProcessId) (answers more : List (ℕ × Answer)) (next : ProcessId)
+      → answers ≡ flat_map (own_answers cv) (numbers processes)
+      → more ≡ own_answers cv next.0 → more ++ answers ≡ flat_map (own_answers cv) (numbers (next ∷ processes))
+  answered_front processes answers more next so_far its = rw (its, so_far) refl
 
-  -- nothing is judged yet
-  pub descended_none : (job : Job) (kept : List ℕ) → job.case.now ≡ cv → Descended job.process [] [] kept kept (job ∷ [])
-  unfolding kids
-  descended_none job kept its = record {
-    first_is = inr (refl, refl);
-    answered = refl;
-    shared = λ w. omega arith;
-    there = λ k process eq. absurd (none-some process eq);
-    of_case = All-push (λ (j : Job). j.case.now ≡ cv) [] job (All-nil (λ (j : Job). j.case.now ≡ cv)) its;
-  }
+  pub there_front : (processes : List ProcessId) (next : ProcessId) → AllThere processes → next.0 < process_count cv.records → AllThere (next ∷ processes)
+  there_front processes next all there zero process eq = subst (λ (p : ProcessId). p.0 < process_count cv.records) (same_Some next process eq) there
+  there_front processes next all there (suc k) process eq = all k process eq
 
-  module _ (job : Job) (todo rest : List Job) (popped : todo ≡ rest ++ job ∷ []) where
-    pub taken : AreJobsOf cv todo → AreJobsOf cv rest × (job.case.now ≡ cv)
-    taken all = All-pop (λ (j : Job). j.case.now ≡ cv) todo rest (Some job) popped all
+  -- ---- what waits on the stack
 
-    todo_is : processes_of todo ≡ processes_of rest ++ job.process.0 ∷ []
-    todo_is = ap (λ (xs : List Job). processes_of xs) popped ∙ map-append (λ (j : Job). j.process.0) rest (job ∷ [])
-
-    pub weighs_less : (todo_after : List Job) → weight_of (process_count cv.records) (processes_of todo_after)
-        < weight_of (process_count cv.records) (processes_of rest) + weight (process_count cv.records) job.process.0 →
-        weight_of (process_count cv.records) (processes_of todo_after) < weight_of (process_count cv.records) (processes_of todo)
-    unfolding weight_of
-    weighs_less todo_after less = omega (
+  module _ (f : Progress → ℕ) where
+    put_sum : (stack after : List Progress) (one other : Progress) → ArePut stack one other after → sum_by f after ≡ sum_by f stack + f one + f other
+    put_sum stack after one other (inl put) = omega (
       arith,
-      less,
-      ap (λ xs. sum_by (weight (process_count cv.records)) xs) todo_is,
-      sum_by_push (weight (process_count cv.records)) (processes_of rest) job.process.0,
+      ap (λ (xs : List Progress). sum_by f xs) put,
+      sum_by-append f stack (one ∷ other ∷ []),
+      sum_by-cons f one (other ∷ []),
+      sum_by-cons f other [],
+    )
+    put_sum stack after one other (inr put) = omega (
+      arith,
+      ap (λ (xs : List Progress). sum_by f xs) put,
+      sum_by-append f stack (other ∷ one ∷ []),
+      sum_by-cons f other (one ∷ []),
+      sum_by-cons f one [],
     )
 
-    -- one process more
-    pub descended_more : (first : ProcessId) (processes : List ProcessId) (answers : List (ℕ × Answer)) (kept_before kept kept_after : List ℕ)
-        (todo_after : List Job) → Descended first processes answers kept_before kept todo →
-        job.process.0 < process_count cv.records → HandedOut (children cv.records job.process.0)
-        (record { kept = kept; todo = processes_of rest }) (record { kept = kept_after; todo = processes_of todo_after })
-        → AreJobsOf cv todo_after →
-        Descended first (processes ++ job.process ∷ []) (answers ++ own_answers cv job.process.0) kept_before kept_after todo_after
-    descended_more first processes answers kept_before kept kept_after todo_after so_far there handed all =
-        let p : ℕ = job.process.0 in
-        let judged_is : numbers (processes ++ job.process ∷ []) ≡ numbers processes ++ p ∷ [] =
-        map-append (λ (p : ProcessId). p.0) processes (job.process ∷ []) in
-        record {
-          first_is = inl (first_taken first processes rest job (subst (λ (xs : List Job). IsFirst first processes xs) popped so_far.first_is));
-          answered = rw (judged_is, flat_map-append (own_answers cv) (numbers processes) (p ∷ []), append-nil (own_answers cv p))
-              (ap (λ xs. xs ++ own_answers cv p) so_far.answered);
-          shared = λ w. rw (judged_is, kids-push (numbers processes) p) (omega (
-            arith,
-            so_far.shared w,
-            handed.shared w,
-            ap (λ xs. sum_by w xs) todo_is,
-            sum_by_push w (processes_of rest) p,
-            sum_by_push w (numbers processes) p,
-            sum_by-cons w first.0 (kids cv.records (numbers processes)),
-            sum_by-cons w first.0 (kids cv.records (numbers processes) ++ children cv.records p),
-            sum_by-append w (kids cv.records (numbers processes)) (children cv.records p),
-          ));
-          there = there_push processes job.process so_far.there there;
-          of_case = all;
-        }
+  pub put_of : (stack after : List Progress) (one other : Progress) → ArePut stack one other after → AreOf cv stack → one.case.now ≡ cv
+      → other.case.now ≡ cv → AreOf cv after
+  put_of stack after one other put all its others = elim put [
+    | inl is ↦ subst (λ (xs : List Progress). AreOf cv xs) (sym is) (both one other its others)
+    | inr is ↦ subst (λ (xs : List Progress). AreOf cv xs) (sym is) (both other one others its)
+  ]
+    where
+      both : (one other : Progress) → one.case.now ≡ cv → other.case.now ≡ cv → AreOf cv (stack ++ one ∷ other ∷ [])
+      both one other its others =
+          All-append (λ (p : Progress). p.case.now ≡ cv) stack (one ∷ other ∷ []) all (All-push (λ (p : Progress). p.case.now ≡ cv) (one ∷ []) other
+          (All-push (λ (p : Progress). p.case.now ≡ cv) [] one (All-nil (λ (p : Progress). p.case.now ≡ cv)) its) others)
 
-  -- nothing is still to do
-  module _ (first : ProcessId) (processes : List ProcessId) (answers : List (ℕ × Answer)) (kept_before kept : List ℕ) (todo : List Job)
-      (all : Descended first processes answers kept_before kept todo) (none : todo ≡ []) where
-    pub shares_out : SharesOut cv.records first.0 (numbers processes) kept_before kept
-    shares_out = counted cv.records first.0 (numbers processes) kept_before kept
-        (λ weight. omega (arith, all.shared weight, ap (λ (xs : List Job). sum_by weight (processes_of xs)) none))
+  pub popped_of : (stack rest : List Progress) (next : Progress) → stack ≡ rest ++ next ∷ [] → AreOf cv stack → AreOf cv rest × (next.case.now ≡ cv)
+  popped_of stack rest next popped all = All-pop (λ (p : Progress). p.case.now ≡ cv) stack rest (Some next) popped all
+
+  module _ (next progress : Progress) (kept kept_after : List ℕ) (same : progress.process ≡ next.process) where
+    -- a child came back
+    module _ (number : ℕ) (child : Progress) (its : child.process.0 ≡ number) (begun : child.at ≡ 0) (stack after : List Progress)
+        (put : ArePut stack progress child after)
+        (handed : HandedOut (children_from cv.records next.process.0 next.at) (record { kept = kept; todo = [] })
+        (record { kept = kept_after; todo = number ∷ children_from cv.records next.process.0 progress.at })) where
+      pub descended_forked : (first : ProcessId) (done : Piece) (kept_before : List ℕ) → Descended cv first done kept_before kept (stack ++ next ∷ [])
+          → Descended cv first done kept_before kept_after after
+      unfolding waiting forking is_first
+      descended_forked first done kept_before so_far = record {
+        shared = λ w. omega (
+          arith,
+          so_far.shared w,
+          handed.shared w,
+          put_sum (waiting cv.records w) stack after progress child put,
+          put_sum (forking cv.records w) stack after progress child put,
+          sum_by_push (waiting cv.records w) stack next,
+          sum_by_push (forking cv.records w) stack next,
+          sum_by-cons w number (children_from cv.records next.process.0 progress.at),
+          ap w its,
+          ap (λ (p : ProcessId). w p.0) same,
+          ap (λ (p : ProcessId). sum_by w (children_from cv.records p.0 progress.at)) same,
+          ap (λ (p : ProcessId). sum_by w (children cv.records p.0)) same,
+          ap (λ (n : ℕ). sum_by w (children_from cv.records child.process.0 n)) begun,
+          ap (λ xs. sum_by w xs) (all_children cv.records child.process.0),
+        );
+        in_front = elim so_far.in_front [
+          | inl there ↦ inl there
+          | inr waits ↦ inr (omega (
+            arith,
+            waits,
+            put_sum (is_first first) stack after progress child put,
+            sum_by_push (is_first first) stack next,
+            ap {B = ℕ} (λ (p : ProcessId). cond (eqb p.0 first.0) 1 0) same,
+          ))
+        ];
+      }
+
+      pub less_forked : IsCase cv → KeepsMore cv.records kept kept_after → work_of cv.records after < work_of cv.records (stack ++ next ∷ [])
+      unfolding work_of work weight_of
+      less_forked case keeps =
+          let w = weight (process_count cv.records) in
+          omega (
+            arith,
+            handed.shared w,
+            put_sum (work cv.records) stack after progress child put,
+            sum_by_push (work cv.records) stack next,
+            weight_of-children cv.records child.process.0 (process_count cv.records) case.numbered (omega arith),
+            sum_by-cons w number (children_from cv.records next.process.0 progress.at),
+            ap w its,
+            ap (λ xs. sum_by w xs) keeps.grown,
+            sum_by-append w kept keeps.newly,
+            ap (λ (p : ProcessId). sum_by w (children_from cv.records p.0 progress.at)) same,
+            ap (λ (n : ℕ). sum_by w (children_from cv.records child.process.0 n)) begun,
+            ap (λ xs. sum_by w xs) (all_children cv.records child.process.0),
+          )
+
+    -- a process is done
+    module _ (stack : List Progress) (done after : Piece) (first : ProcessId)
+        (added : after.processes.items ≡ with_done first done.processes.items progress.process)
+        (handed : HandedOut (children_from cv.records next.process.0 next.at) (record { kept = kept; todo = [] })
+        (record { kept = kept_after; todo = children_from cv.records next.process.0 progress.at }))
+        (over : children_from cv.records next.process.0 progress.at ≡ []) where
+      done_sum : (w : ℕ → ℕ) (done : List ProcessId)
+          → sum_by w (numbers (with_done first done progress.process)) ≡ sum_by w (numbers done) + w progress.process.0
+      done_sum w done = elim (cases_Bool (eqb progress.process.0 first.0)) [
+        | inl is ↦ rw is (omega (arith, sum_by-cons w progress.process.0 (numbers done)))
+        | inr other ↦ rw other (rw (map-append (λ (p : ProcessId). p.0) done (progress.process ∷ [])) (sum_by_push w (numbers done) progress.process.0))
+      ]
+
+      kids_sum : (w : ℕ → ℕ) (done : List ProcessId) → sum_by w (kids cv.records (numbers (with_done first done progress.process)))
+          ≡ sum_by w (kids cv.records (numbers done)) + sum_by w (children cv.records progress.process.0)
+      unfolding kids
+      kids_sum w done = elim (cases_Bool (eqb progress.process.0 first.0)) [
+        | inl is ↦ rw is (omega (arith, sum_by-append w (children cv.records progress.process.0) (kids cv.records (numbers done))))
+        | inr other ↦
+            rw other (rw (map-append (λ (p : ProcessId). p.0) done (progress.process ∷ []), kids-push (numbers done) progress.process.0)
+            (sum_by-append w (kids cv.records (numbers done)) (children cv.records progress.process.0)))
+      ]
+
+      front_is : (slice_get done.processes.items 0 ≡ Some first) ⊎ (1 ≤ sum_by (is_first first) (stack ++ next ∷ []))
+          → (slice_get (with_done first done.processes.items progress.process) 0 ≡ Some first) ⊎ (1 ≤ sum_by (is_first first) stack)
+      unfolding is_first
+      front_is was = elim (cases_Bool (eqb progress.process.0 first.0)) [
+        | inl is ↦
+            (let it : progress.process ≡ first = ap {B = ProcessId} (λ (n : ℕ). record { 0 = n }) (eqb-true progress.process.0 first.0 is) in
+            inl (rw is (ap (λ (p : ProcessId). Some p) it)))
+        | inr other ↦ elim was [
+          | inl there ↦ inl (rw other (front_stays done.processes.items there))
+          | inr waits ↦ inr (omega (
+            arith,
+            waits,
+            sum_by_push (is_first first) stack next,
+            ap {B = ℕ} (λ (p : ProcessId). cond (eqb p.0 first.0) 1 0) same,
+            ap {B = ℕ} (λ (b : Bool). cond b 1 0) other,
+          ))
+        ]
+      ]
+        where
+          front_stays : (done : List ProcessId) → slice_get done 0 ≡ Some first → slice_get (done ++ progress.process ∷ []) 0 ≡ Some first
+          front_stays [] there = absurd (none-some first there)
+          front_stays (p ∷ ps) there = there
+
+      pub descended_done : (kept_before : List ℕ) → Descended cv first done kept_before kept (stack ++ next ∷ [])
+          → Descended cv first after kept_before kept_after stack
+      unfolding waiting forking
+      descended_done kept_before so_far = record {
+        shared = λ w. omega (
+          arith,
+          so_far.shared w,
+          handed.shared w,
+          ap (λ xs. sum_by w xs) over,
+          ap (λ (xs : List ProcessId). sum_by w (numbers xs)) added,
+          ap (λ (xs : List ProcessId). sum_by w (kids cv.records (numbers xs))) added,
+          done_sum w done.processes.items,
+          kids_sum w done.processes.items,
+          sum_by_push (waiting cv.records w) stack next,
+          sum_by_push (forking cv.records w) stack next,
+          ap (λ (p : ProcessId). w p.0) same,
+          ap (λ (p : ProcessId). sum_by w (children cv.records p.0)) same,
+        );
+        in_front = rw added (front_is so_far.in_front);
+      }
+
+  pub less_done : (stack : List Progress) (next : Progress) → work_of cv.records stack < work_of cv.records (stack ++ next ∷ [])
+  unfolding work_of work
+  less_done stack next = omega (arith, sum_by_push (work cv.records) stack next)
+
+  -- ---- the beginning and the end
+
+  pub descended_none : (first : ProcessId) (done : Piece) (kept : List ℕ) (begun : Progress) → done.processes.items ≡ [] → begun.process ≡ first → begun.at ≡ 0
+      → Descended cv first done kept kept (begun ∷ [])
+  unfolding waiting forking is_first kids
+  descended_none first done kept begun none its start = record {
+    shared = λ w. omega (
+      arith,
+      ap (λ (xs : List ProcessId). sum_by w (numbers xs)) none,
+      ap (λ (xs : List ProcessId). sum_by w (kids cv.records (numbers xs))) none,
+      sum_by-cons (waiting cv.records w) begun [],
+      sum_by-cons (forking cv.records w) begun [],
+      ap (λ (p : ProcessId). w p.0) its,
+      ap (λ (n : ℕ). sum_by w (children_from cv.records begun.process.0 n)) start,
+      ap (λ xs. sum_by w xs) (all_children cv.records begun.process.0),
+    );
+    in_front = inr (omega (
+      arith,
+      sum_by-cons (is_first first) begun [],
+      ap {B = ℕ} (λ (p : ProcessId). cond (eqb p.0 first.0) 1 0) its,
+      ap {B = ℕ} (λ (b : Bool). cond b 1 0) (eq-eqb first.0 first.0 refl),
+    ));
+  }
+
+  module _ (first : ProcessId) (done : Piece) (kept_before kept : List ℕ) (stack : List Progress) (all : Descended cv first done kept_before kept stack)
+      (none : stack ≡ []) where
+    pub shares_out : SharesOut cv.records first.0 (numbers done.processes.items) kept_before kept
+    shares_out = counted cv.records first.0 (numbers done.processes.items) kept_before kept
+        (λ w. omega (
+          arith,
+          all.shared w,
+          ap (λ (xs : List Progress). sum_by (waiting cv.records w) xs) none,
+          ap (λ (xs : List Progress). sum_by (forking cv.records w) xs) none,
+          sum_by-cons w first.0 (kids cv.records (numbers done.processes.items)),
+        ))
+
+    pub first_there : slice_get done.processes.items 0 ≡ Some first
+    first_there = elim all.in_front [
+      | inl there ↦ there
+      | inr waits ↦ absurd (omega (arith, waits, ap (λ (xs : List Progress). sum_by (is_first first) xs) none))
+    ]

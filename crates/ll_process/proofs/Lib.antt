@@ -1,7 +1,7 @@
 pub mod Walks
 pub mod Weighing
 pub mod OwnSteps
-pub mod Walked
+pub mod Going
 pub mod Descents
 pub mod Roots
 pub mod Crossing

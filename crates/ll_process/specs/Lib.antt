@@ -3,6 +3,8 @@ pub mod Judging
 pub mod Cases
 pub mod Jobs
 pub mod Own
+pub mod Progresses
+pub mod Descending
 pub mod AgreesOnce
 pub mod TakenLater
 pub mod RightCalls

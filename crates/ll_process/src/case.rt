@@ -9,6 +9,7 @@ ghost use Rattle.ll_trace.specs.FirstPlaces.{AreFirstPlaces, first_place};
 ghost use Rattle.ll_trace.specs.Processes.{process_count, own_records, forked_at};
 
 use crate::past::{PastCase, calls_of_rights};
+use crate::sizes::sizes_of;
 use ll_rights::Abi;
 use ll_rulebook::Rulebook;
 use ll_rules::{Layer, NoMemory};
@@ -28,6 +29,7 @@ pub struct Case {
     outcomes: Vec<RulesetOutcome>,
     layers: Vec<Layer>,
     places: Vec<Place>,
+    sizes: Vec<u32>,
     ghost are_first: { AreFirstPlaces tree trace places.items },
 }
 
@@ -86,6 +88,7 @@ impl Case {
             places,
         } = located;
         let book = Rulebook::of(alloc, &tree, &trace, abi)?;
+        let sizes = sizes_of(alloc, &trace)?;
         Ok(Case {
             tree,
             trace,
@@ -93,6 +96,7 @@ impl Case {
             outcomes: book.outcomes,
             layers: book.layers,
             places,
+            sizes,
         })
     }
 
@@ -124,6 +128,7 @@ impl Case {
             outcomes,
             layers,
             places,
+            ..
         } = self;
         let calls = calls_of_rights(alloc, &trace)?;
         let past = PastCase {
@@ -193,6 +198,11 @@ impl Case {
             → one ≡ first_place self.now.tree r.op) }
     {
         self.places.get(index).copied()
+    }
+
+    /// How many records a process has with its descendants; a process that isn't there has none. No answer rests on it.
+    pub(crate) fn size_of(&self, process: ProcessId) -> u32 {
+        self.sizes.get(process.0 as usize).copied().unwrap_or(0)
     }
 
     /// The indices of a process's own records.

@@ -1,10 +1,10 @@
 //! Children: the state with which they begin, and who gets their jobs.
 
-ghost use Rattle.std.specs.Prelude.{◌≡◌, false, IfOk, IfSome, None, OnOk, option_to_list};
+ghost use Rattle.std.specs.Prelude.{◌≡◌, [], false, IfOk, IfSome, None, option_to_list};
 ghost use Rattle.std.specs.Option.{option_map};
 ghost use Rattle.ll_trace.specs.Processes.{forked_at};
 ghost use Rattle.ll_process.specs.Own.{IsOwn, Leaves};
-ghost use Rattle.ll_process.specs.Jobs.{AreJobsOf, HandedOut, KeepsMore, processes_of};
+ghost use Rattle.ll_process.specs.Jobs.{HandedOut, KeepsMore};
 
 use crate::case::Case;
 use crate::hand::Hand;
@@ -43,33 +43,27 @@ pub(crate) fn child_job<'c>(
     }))
 }
 
-/// Offers the job of a child of a case, if there is one, to the hand, and marks it as still to do if it comes back.
+/// Offers the job of a child of a case, if there is one, to the hand, which may give it back.
 pub(crate) fn offer<'c, H: Hand<'c>>(
     case: &'c Case,
     child: Option<Job<'c>>,
     hand: &mut H,
-    todo: &mut Vec<Job<'c>>,
-) -> Result<(), NoMemory>
+) -> Option<Job<'c>>
     requires its { IfSome child (λ job. job.case.now ≡ case.now) }
-    requires of_case { AreJobsOf case.now todo.old.items }
     requires suits { H.suits hand.old case.now }
-    ensures handed { OnOk result
-        (HandedOut (option_to_list (option_map (λ job. job.process.0) child.entry))
-        (record { kept = H.kept hand.old; todo = processes_of todo.old.items })
-        (record { kept = H.kept hand.new; todo = processes_of todo.new.items })) }
-    ensures of_case { OnOk result (AreJobsOf case.now todo.new.items) }
+    ensures handed { HandedOut (option_to_list (option_map (λ job. job.process.0) child.entry))
+        (record { kept = H.kept hand.old; todo = [] })
+        (record {
+          kept = H.kept hand.new;
+          todo = option_to_list (option_map (λ job. job.process.0) result);
+        }) }
+    ensures of_case { IfSome result (λ job. job.case.now ≡ case.now) }
     ensures keeps { KeepsMore case.now.records (H.kept hand.old) (H.kept hand.new) }
     ensures suits { H.suits hand.new case.now }
     ensures stays { (before : H) → H.stays before hand.old → H.stays before hand.new }
 {
-    let Some(job) = child else {
-        return Ok(());
-    };
-    let Some(back) = hand.give(job) else {
-        return Ok(());
-    };
-    match todo.push(back) {
-        Ok(()) => Ok(()),
-        Err(_) => Err(NoMemory),
+    match child {
+        None => None,
+        Some(job) => hand.give(job),
     }
 }

@@ -1,108 +1,95 @@
 //! Judges one process, and those of its descendants that no hand keeps.
 
-ghost use Rattle.std.specs.Prelude.{◌≡◌, ◌<◌, ◌+◌, ◌++◌, ◌∷◌, [], false, Some, None, OnOk, IfOk, slice_get, option_to_list};
-ghost use Rattle.ll_trace.specs.Processes.{process_count, numbers, children, forked_at};
-ghost use Rattle.ll_process.specs.{Cases.own_answers, Judging.answer_at};
-ghost use Rattle.ll_process.specs.Own.{IsOwn, Meets, Leaves};
-ghost use Rattle.ll_process.specs.Jobs.{processes_of, AreJobsOf, HandedOut, KeepsMore, SharesOut, weight, weight_of};
+ghost use Rattle.std.specs.Prelude.{◌≡◌, ◌<◌, ◌++◌, ◌∷◌, ℕ, [], List, Some, OnOk, IfOk, length, slice_get};
+ghost use Rattle.ll_trace.specs.Processes.{numbers, own_records};
+ghost use Rattle.ll_process.specs.Jobs.{KeepsMore, SharesOut};
+ghost use Rattle.ll_process.specs.Descending.{AreOf, ArePut, Descended, with_done, work_of};
 
-use crate::ahead::Ahead;
+use crate::adding::append;
 use crate::case::Case;
-use crate::child::{child_job, offer};
 use crate::hand::Hand;
 use crate::job::Job;
 use crate::piece::Piece;
-use crate::walk::answer_own;
+use crate::progress::Progress;
 use ll_rules::NoMemory;
-use ll_semantics::Answer;
-use ll_state::OwnState;
 use ll_trace::ProcessId;
 use std::alloc::Global;
 
-/// Adds an item at the end.
-pub(crate) fn append<T: Drop>(items: &mut Vec<T>, item: T) -> Result<(), NoMemory>
-    ensures { OnOk result (items.new.items ≡ items.old.items ++ item ∷ []) }
+/// Puts two progresses on a stack, with the one on top of which less is left. So each of a stack has at least as much
+/// left as all those above it together, and few wait at a time, however processes fork.
+fn put_both<'c>(
+    stack: &mut Vec<Progress<'c>>,
+    one: Progress<'c>,
+    other: Progress<'c>,
+) -> Result<(), NoMemory>
+    ensures { OnOk result (ArePut stack.old.items one.entry other.entry stack.new.items) }
 {
-    match items.push(item) {
-        Ok(()) => Ok(()),
-        Err(_) => Err(NoMemory),
+    if one.left() < other.left() {
+        append(stack, other)?;
+        append(stack, one)
+    } else {
+        append(stack, one)?;
+        append(stack, other)
     }
 }
 
-/// Judges one of a process's own records, and adds it with its answer at the end. The child that it forks is offered to
-/// the hand; if it comes back, it is still to do.
-fn judge_record<'c, H: Hand<'c>>(
+/// Adds a process that is judged to those that are done. The first process stands in front of the others.
+fn finish<'c>(
+    alloc: Global,
+    first: ProcessId,
+    judged: Progress<'c>,
+    done: Piece<'c>,
+) -> Result<Piece<'c>, NoMemory>
+    requires its { judged.case.now ≡ done.case.now }
+    requires over { judged.at ≡ length (own_records judged.case.now.records judged.process.0) }
+    ensures case { IfOk result (λ piece. piece.case.now ≡ done.entry.case.now) }
+    ensures processes { IfOk result (λ piece. piece.processes.items
+        ≡ with_done first done.entry.processes.items judged.entry.process) }
+{
+    if judged.process.0 == first.0 {
+        done.after(alloc, judged)
+    } else {
+        done.and(judged)
+    }
+}
+
+/// Judges on from a progress, until a child comes back from the hand, which is then to do like what is left of its
+/// parent, or to the end of the process, which is then added to those that are done. The first process stands in front.
+fn judge_on<'c, H: Hand<'c>>(
+    alloc: Global,
     case: &'c Case,
-    process: ProcessId,
-    index: u32,
-    may_fork: bool,
-    own: &mut OwnState,
+    first: ProcessId,
+    next: Progress<'c>,
     hand: &mut H,
-    todo: &mut Vec<Job<'c>>,
-    answers: &mut Vec<(u32, Answer)>,
-) -> Result<(), NoMemory>
-    requires own { IsOwn case.now index process.0 }
-    requires meets { Meets case.now index process.0 own.old }
-    requires known { may_fork ≡ false → forked_at case.now.records index ≡ None }
-    requires of_case { AreJobsOf case.now todo.old.items }
+    stack: &mut Vec<Progress<'c>>,
+    done: Piece<'c>,
+) -> Result<Piece<'c>, NoMemory>
     requires suits { H.suits hand.old case.now }
-    ensures answered { OnOk result (answers.new.items ≡ answers.old.items
-        ++ (index, answer_at case.now.tree case.now.abi case.now.records index) ∷ []) }
-    ensures leaves { OnOk result (Leaves case.now index process.0 own.new) }
-    ensures handed { OnOk result
-        (HandedOut (option_to_list (forked_at case.now.records index))
-        (record { kept = H.kept hand.old; todo = processes_of todo.old.items })
-        (record { kept = H.kept hand.new; todo = processes_of todo.new.items })) }
-    ensures of_case { OnOk result (AreJobsOf case.now todo.new.items) }
+    requires its { (next.case.now ≡ case.now) × (done.case.now ≡ case.now) }
+    requires of_case { AreOf case.now stack.old.items }
+    ensures descended { IfOk result (λ piece. (kept : List ℕ) →
+        Descended case.now first done.entry kept (H.kept hand.old)
+        (stack.old.items ++ next.entry ∷ [])
+        → Descended case.now first piece kept (H.kept hand.new) stack.new.items) }
+    ensures case { IfOk result (λ piece. piece.case.now ≡ case.now) }
+    ensures of_case { IfOk result (λ piece. AreOf case.now stack.new.items) }
+    ensures less { IfOk result (λ piece. work_of case.now.records stack.new.items
+        < work_of case.now.records (stack.old.items ++ next.entry ∷ [])) }
     ensures keeps { KeepsMore case.now.records (H.kept hand.old) (H.kept hand.new) }
     ensures suits { H.suits hand.new case.now }
     ensures stays { (before : H) → H.stays before hand.old → H.stays before hand.new }
 {
-    let answer = answer_own(case, process, index, own)?;
-    append(answers, (index, answer))?;
-    let child = child_job(case, process, index, may_fork, own)?;
-    offer(case, child, hand, todo)
-}
-
-/// Judges one process, and adds its records with their answers at the end. Each child that it forks
-/// is offered to the hand; those that come back are still to do.
-fn judge_own<'c, H: Hand<'c>>(
-    case: &'c Case,
-    job: Job<'c>,
-    hand: &mut H,
-    todo: &mut Vec<Job<'c>>,
-    answers: &mut Vec<(u32, Answer)>,
-) -> Result<(), NoMemory>
-    requires its { job.case.now ≡ case.now }
-    requires of_case { AreJobsOf case.now todo.old.items }
-    requires suits { H.suits hand.old case.now }
-    ensures answered { OnOk result
-        (answers.new.items ≡ answers.old.items ++ own_answers case.now job.entry.process.0) }
-    ensures handed { OnOk result
-        (HandedOut (children case.now.records job.entry.process.0)
-        (record { kept = H.kept hand.old; todo = processes_of todo.old.items })
-        (record { kept = H.kept hand.new; todo = processes_of todo.new.items })) }
-    ensures less { OnOk result
-        (weight_of (process_count case.now.records) (processes_of todo.new.items)
-        < weight_of (process_count case.now.records) (processes_of todo.old.items)
-        + weight (process_count case.now.records) job.entry.process.0) }
-    ensures of_case { OnOk result (AreJobsOf case.now todo.new.items) }
-    ensures keeps { KeepsMore case.now.records (H.kept hand.old) (H.kept hand.new) }
-    ensures suits { H.suits hand.new case.now }
-    ensures stays { (before : H) → H.stays before hand.old → H.stays before hand.new }
-{
-    let Job {
-        process,
-        mut own,
-        ..
-    } = job;
-    let indices = case.own_records(process);
-    let mut ahead = Ahead::new(case, indices);
-    for (at, index) in indices.iter().enumerate() {
-        let forks = ahead.may_fork(at);
-        judge_record(case, process, *index, forks, &mut own, hand, todo, answers)?;
+    let (progress, child) = next.go_on(hand)?;
+    match child {
+        Some(job) => {
+            put_both(stack, progress, Progress::begin(alloc, job))?;
+            Ok(done)
+        }
+        None => {
+            let finished = finish(alloc, first, progress, done)?;
+            Ok(finished)
+        }
     }
-    Ok(())
 }
 
 /// Judges the job's process, and each descendant whose job the hand gives back. The first process of the
@@ -125,17 +112,12 @@ pub fn judge<'c, H: Hand<'c>>(
     ensures stays { (before : H) → H.stays before hand.old → H.stays before hand.new }
 {
     let case = job.case;
-    let mut todo = Vec::new(alloc);
-    let mut processes = Vec::new(alloc);
-    let mut answers = Vec::new(alloc);
-    append(&mut todo, job)?;
-    while let Some(next) = todo.pop() {
-        append(&mut processes, next.process)?;
-        judge_own(case, next, hand, &mut todo, &mut answers)?;
+    let first = job.process;
+    let mut done = Piece::none(alloc, case);
+    let mut stack = Vec::new(alloc);
+    append(&mut stack, Progress::begin(alloc, job))?;
+    while let Some(next) = stack.pop() {
+        done = judge_on(alloc, case, first, next, hand, &mut stack, done)?;
     }
-    Ok(Piece {
-        case,
-        processes,
-        answers,
-    })
+    Ok(done)
 }

@@ -1,6 +1,7 @@
 //! Judging one process at a time.
 #![tactic(auto)]
 
+mod adding;
 mod ahead;
 mod case;
 mod child;
@@ -10,6 +11,8 @@ mod job;
 mod laws;
 mod past;
 mod piece;
+mod progress;
+mod sizes;
 mod starting;
 mod view;
 mod walk;

@@ -1,14 +1,18 @@
 //! Pieces: the answers to some processes.
 
-ghost use Rattle.std.specs.Prelude.{◌≡◌, ◌<◌, ℕ, Some, slice_get};
+ghost use Rattle.std.specs.Prelude.{◌≡◌, ◌<◌, ◌++◌, ◌∷◌, [], ℕ, Some, IfOk, length, slice_get};
 ghost use Rattle.std.specs.List.{flat_map};
 ghost use Rattle.ll_trace.specs.declared.op.ProcessId.{ProcessId as Process};
-ghost use Rattle.ll_trace.specs.Processes.{process_count, numbers};
+ghost use Rattle.ll_trace.specs.Processes.{process_count, numbers, own_records};
 ghost use Rattle.ll_process.specs.Cases.{own_answers};
 
+use crate::adding::{append, append_all};
 use crate::case::Case;
+use crate::progress::Progress;
+use ll_rules::NoMemory;
 use ll_semantics::Answer;
 use ll_trace::ProcessId;
+use std::alloc::Global;
 
 /// Some processes of a case, with the answers to their records: one process after another, each
 /// record by its index in the trace, with the answer that it has in the whole trace.
@@ -24,6 +28,71 @@ pub struct Piece<'c> {
 }
 
 impl<'c> Piece<'c> {
+    /// No process of a case.
+    pub(crate) fn none(alloc: Global, case: &'c Case) -> Piece<'c>
+        ensures case { result.case.now ≡ case.now }
+        ensures processes { result.processes.items ≡ [] }
+    {
+        Piece {
+            case,
+            processes: Vec::new(alloc),
+            answers: Vec::new(alloc),
+        }
+    }
+
+    /// These processes and one more, which is judged.
+    pub(crate) fn and(self, judged: Progress<'c>) -> Result<Piece<'c>, NoMemory>
+        requires its { judged.case.now ≡ self.case.now }
+        requires over { judged.at
+            ≡ length (own_records judged.case.now.records judged.process.0) }
+        ensures case { IfOk result (λ piece. piece.case.now ≡ self.entry.case.now) }
+        ensures processes { IfOk result (λ piece. piece.processes.items
+            ≡ self.entry.processes.items ++ judged.entry.process ∷ []) }
+    {
+        let Piece {
+            case,
+            mut processes,
+            mut answers,
+        } = self;
+        append(&mut processes, judged.process)?;
+        append_all(&mut answers, judged.answers)?;
+        Ok(Piece {
+            case,
+            processes,
+            answers,
+        })
+    }
+
+    /// One process that is judged, and these after it.
+    pub(crate) fn after(self, alloc: Global, judged: Progress<'c>) -> Result<Piece<'c>, NoMemory>
+        requires its { judged.case.now ≡ self.case.now }
+        requires over { judged.at
+            ≡ length (own_records judged.case.now.records judged.process.0) }
+        ensures case { IfOk result (λ piece. piece.case.now ≡ self.entry.case.now) }
+        ensures processes { IfOk result (λ piece. piece.processes.items
+            ≡ judged.entry.process ∷ self.entry.processes.items) }
+    {
+        let Piece {
+            case,
+            processes: others,
+            answers: more,
+        } = self;
+        let Progress {
+            process,
+            mut answers,
+            ..
+        } = judged;
+        let mut processes = Vec::new(alloc);
+        append(&mut processes, process)?;
+        append_all(&mut processes, others)?;
+        append_all(&mut answers, more)?;
+        Ok(Piece {
+            case,
+            processes,
+            answers,
+        })
+    }
+
     /// The processes that were judged, the first one first.
     pub fn processes(&self) -> &[ProcessId]
         ensures { result.now ≡ self.now.processes.items }

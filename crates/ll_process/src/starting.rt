@@ -5,8 +5,8 @@ ghost use Rattle.std.specs.Option.{option_map};
 ghost use Rattle.ll_trace.specs.Processes.{root_at, roots, IsNumbered};
 ghost use Rattle.ll_process.specs.Jobs.{processes_of, AreJobsOf};
 
+use crate::adding::append;
 use crate::case::Case;
-use crate::descend::append;
 use crate::job::Job;
 use ll_rules::NoMemory;
 use ll_state::OwnState;
