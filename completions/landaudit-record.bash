@@ -3,7 +3,7 @@
 # The options of a subcommand, or what can come instead of one.
 _landaudit_record_words() {
     case $1 in
-        run) echo '-h --help --watch --policy --abi --port-rules --set --readlink --witness --' ;;
+        run) echo '-h --help --watch --policy --abi --port-rules --set --readlink --witness --by --pid --cgroup --for --' ;;
         convert) echo '-h --help --port-rules --set' ;;
         apply) echo '-h --help --out --tree --set --program --abi' ;;
         audit) echo '-h --help --policy --accepted --set --program --abi --as-recorded --all --json --html --landaudit' ;;

@@ -11,8 +11,10 @@ _landaudit_witness() {
     done
     if [[ $before == --by ]]; then
         mapfile -t COMPREPLY < <(compgen -W 'fexit lsm' -- "$word")
+    elif [[ $before == --cgroup ]]; then
+        mapfile -t COMPREPLY < <(compgen -d -- "$word")
     elif [[ $word == -* ]]; then
-        mapfile -t COMPREPLY < <(compgen -W '-h --help --beside --by --' -- "$word")
+        mapfile -t COMPREPLY < <(compgen -W '-h --help --beside --children --pid --cgroup --landlock --by --' -- "$word")
     else
         mapfile -t COMPREPLY < <(compgen -f -- "$word")
     fi

@@ -29,7 +29,11 @@ enum hook {
     SOCKET_CONNECT,
     PTRACE_ACCESS_CHECK,
     TASK_KILL,
+    CREATE,
+    ADD_PATH,
+    ADD_PORT,
     RESTRICT,
+    JOINED,
     FORK,
     EXEC,
     EXIT,
@@ -44,6 +48,8 @@ struct event {
     __u32 pid, tid;
     __u32 hook;
     __s32 answer;
+    __s32 own; /* Landlock's own answer, if it was heard */
+    __u32 has_own;
     __u32 nodes;
     __u32 cut;
     char comm[16];

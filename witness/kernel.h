@@ -12,6 +12,7 @@ typedef __u8 u8;
 typedef __u16 u16;
 typedef __u32 u32;
 typedef __u64 u64;
+typedef __s32 s32;
 
 #pragma clang attribute push(__attribute__((preserve_access_index)), apply_to = record)
 
@@ -35,6 +36,7 @@ struct cred;
 
 struct task_struct {
     int tgid;
+    unsigned long atomic_flags;
     struct task_struct *real_parent;
     struct pid *thread_pid;
     struct signal_struct *signal;

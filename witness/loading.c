@@ -10,6 +10,7 @@
 
 #define FUNCTION "fexit/"
 #define QUESTION "security_"
+#define OWN "hook_"
 #define CAP_SYS_ADMIN 21
 #define CAP_PERFMON 38
 #define CAP_BPF 39
@@ -81,12 +82,16 @@ static int is_privileged(void)
     return held >> CAP_SYS_ADMIN & 1 || (held >> CAP_BPF & 1 && held >> CAP_PERFMON & 1);
 }
 
-/* Leaves out a program whose function this kernel does not have; such a kernel does not ask the question. */
-static void leave_out_absent(struct bpf_program *program, const struct btf *kernel)
+/* Leaves out a program whose function this kernel does not have; such a kernel does not ask the question. Programs at
+ * Landlock's own functions are left out too if they are not wanted. */
+static void leave_out(const struct loaded *loaded, struct bpf_program *program, const struct btf *kernel)
 {
     const char *function = function_of(program);
+    int is_own = function && !strncmp(function, OWN, strlen(OWN));
 
-    if (function && btf__find_by_name_kind(kernel, function, BTF_KIND_FUNC) < 0)
+    if (is_own && (!loaded->own || loaded->way == AS_MODULE))
+        bpf_program__set_autoload(program, false);
+    else if (function && btf__find_by_name_kind(kernel, function, BTF_KIND_FUNC) < 0)
         bpf_program__set_autoload(program, false);
 }
 
@@ -126,7 +131,7 @@ static int prepare(struct loaded *loaded)
     bpf_object__for_each_program(program, loaded->programs->obj) {
         if (!done)
             break;
-        leave_out_absent(program, kernel);
+        leave_out(loaded, program, kernel);
         if (loaded->way == AS_MODULE)
             done = make_module_program(loaded, program);
     }

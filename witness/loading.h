@@ -11,6 +11,7 @@ enum way { ANY_WAY, AT_FUNCTIONS, AS_MODULE };
 struct loaded {
     struct witness *programs;
     enum way way;
+    int own; /* whether Landlock's own functions are to be heard too, which needs AT_FUNCTIONS */
     const char *unheard[64]; /* functions that can't be heard, though this kernel has them */
     int unheard_number;
 };

@@ -1,6 +1,9 @@
 #include "printing.h"
+#include <limits.h>
 #include <string.h>
 #include <sys/stat.h>
+#include <time.h>
+#include <unistd.h>
 #include "event.h"
 
 #define MOST_NODES 512
@@ -35,7 +38,11 @@ static const char *const names[HOOKS] = {
     [SOCKET_CONNECT] = "socket_connect",
     [PTRACE_ACCESS_CHECK] = "ptrace_access_check",
     [TASK_KILL] = "task_kill",
+    [CREATE] = "create",
+    [ADD_PATH] = "add_path",
+    [ADD_PORT] = "add_port",
     [RESTRICT] = "restrict",
+    [JOINED] = "joined",
     [FORK] = "fork",
     [EXEC] = "exec",
     [EXIT] = "exit",
@@ -48,7 +55,7 @@ const char *hook_name(unsigned int hook)
 
 void print_text(FILE *out, const char *text, size_t length)
 {
-    putc('"', out);
+    putc_unlocked('"', out);
     for (size_t at = 0; at < length && text[at]; at++) {
         unsigned char byte = text[at];
 
@@ -57,9 +64,9 @@ void print_text(FILE *out, const char *text, size_t length)
         else if (byte < 0x20 || byte > 0x7e)
             fprintf(out, "\\u%s%02x", byte > 0x7e ? "dc" : "00", byte);
         else
-            putc(byte, out);
+            putc_unlocked(byte, out);
     }
-    putc('"', out);
+    putc_unlocked('"', out);
 }
 
 static const char *kind(unsigned int mode)
@@ -171,6 +178,37 @@ static void print_socket(FILE *out, const __u64 *values)
             (unsigned long long)values[3] & 0xffffffff);
 }
 
+/* Writes a ruleset, and its rights or those of a rule as the kernel's bits. */
+static void print_ruleset(FILE *out, const struct event *event, unsigned long long secret)
+{
+    const __u64 *values = event->values;
+
+    fprintf(out, ",\"ruleset\":\"%llx\"", (unsigned long long)event->file ^ secret);
+    if (event->hook == RESTRICT)
+        fprintf(out, ",\"nnp\":%s", values[0] ? "true" : "false");
+    else if (event->hook == CREATE)
+        fprintf(out, ",\"fs\":%llu,\"net\":%llu,\"scoped\":%llu", (unsigned long long)values[0],
+                (unsigned long long)values[1], (unsigned long long)values[2]);
+    else
+        fprintf(out, ",\"allowed\":%llu", (unsigned long long)values[0]);
+    if (event->hook == ADD_PORT)
+        fprintf(out, ",\"port\":%llu", (unsigned long long)values[1]);
+}
+
+/* Writes the program that a process runs, if it still does. */
+static void print_program(FILE *out, pid_t process)
+{
+    char link[64], path[PATH_MAX];
+    ssize_t length;
+
+    snprintf(link, sizeof(link), "/proc/%d/exe", process);
+    length = readlink(link, path, sizeof(path));
+    if (length <= 0)
+        return;
+    fputs(",\"program\":", out);
+    print_text(out, path, length);
+}
+
 static void print_target(FILE *out, const struct event *event)
 {
     fprintf(out, ",\"target\":%llu,\"followed\":%s", (unsigned long long)event->values[0],
@@ -204,11 +242,45 @@ static void print_values(FILE *out, const struct event *event, unsigned long lon
     case TASK_KILL:
         print_target(out, event);
         break;
+    case CREATE:
+    case ADD_PATH:
+    case ADD_PORT:
+    case RESTRICT:
+        print_ruleset(out, event, secret);
+        break;
+    case EXIT:
+        fprintf(out, ",\"last\":%s", event->values[0] ? "true" : "false");
+        break;
+    case JOINED:
+        print_program(out, event->pid);
+        break;
     case FORK:
         fprintf(out, ",\"child\":%llu,\"thread\":%llu", (unsigned long long)event->values[0],
                 (unsigned long long)event->values[1]);
         break;
     }
+}
+
+void print_found(FILE *out, pid_t process)
+{
+    struct timespec now;
+    char file[64], comm[16];
+    size_t length = 0;
+    FILE *in;
+
+    snprintf(file, sizeof(file), "/proc/%d/comm", process);
+    in = fopen(file, "re");
+    if (in) {
+        length = fread(comm, 1, sizeof(comm), in);
+        fclose(in);
+    }
+    clock_gettime(CLOCK_MONOTONIC, &now);
+    fprintf(out, "{\"time\":%llu,\"pid\":%d,\"tid\":%d,\"comm\":",
+            (unsigned long long)now.tv_sec * 1000000000 + now.tv_nsec, process, process);
+    print_text(out, comm, length ? length - 1 : 0); /* it ends with a line feed */
+    fputs(",\"hook\":\"found\",\"answer\":0", out);
+    print_program(out, process);
+    fputs("}\n", out);
 }
 
 void print_event(FILE *out, const void *data, size_t size, unsigned long long secret)
@@ -219,6 +291,8 @@ void print_event(FILE *out, const void *data, size_t size, unsigned long long se
             event->tid);
     print_text(out, event->comm, sizeof(event->comm));
     fprintf(out, ",\"hook\":\"%s\",\"answer\":%d", hook_name(event->hook), event->answer);
+    if (event->has_own)
+        fprintf(out, ",\"landlock\":%d", event->own);
     if (event->cut)
         fputs(",\"cut\":true", out);
     print_values(out, event, secret);

@@ -24,6 +24,7 @@ char LICENSE[] SEC("license") = "GPL";
 #define HEARD_ITSELF 1
 #define PIDTYPE_TGID 1
 #define MNT_INTERNAL 0x4000
+#define PFA_NO_NEW_PRIVS 1
 #define MOST_ERRORS 4096UL /* a pointer above -4096 is an error */
 
 /* A walk from an object up, as is_access_to_paths_allowed() in the kernel's security/landlock/fs.c does it. */
@@ -40,6 +41,8 @@ struct walk {
  */
 struct room {
     struct walk walk;
+    s32 own; /* Landlock's own answer to the question that is being asked */
+    u32 has_own;
     struct event event;
     char nodes[MOST_BYTES + sizeof(struct node) + 256]; /* behind the event, as both are sent */
 };
@@ -74,6 +77,9 @@ struct {
 
 /* The depth of the PID namespace in whose numbers events name processes: that of the witness. */
 __u32 level;
+/* A cgroup all of whose processes are followed, by its number and its depth in the hierarchy; 0 if there is none. */
+__u64 cgroup;
+__u32 cgroup_depth;
 /* How many processes are followed, beside the first. */
 volatile __u64 following;
 
@@ -236,24 +242,22 @@ static __always_inline void go_up_from_name(struct room *room, const struct path
     go_up(room, BPF_CORE_READ(directory, mnt), BPF_CORE_READ(directory, dentry), 0);
 }
 
-/* Begins an event, if the process is one of those that are heard. */
-static __always_inline struct room *begin(u32 hook)
+/* Makes an event of the thread that runs. */
+static __always_inline struct room *event_of(u32 hook)
 {
     struct task_struct *task = bpf_get_current_task_btf();
-    u32 process = bpf_get_current_pid_tgid() >> 32;
-    u32 *generations = bpf_map_lookup_elem(&followed, &process);
-    struct room *room;
+    struct room *room = room_of_thread(BPF_LOCAL_STORAGE_GET_F_CREATE);
     struct event *event;
 
-    if (!generations || *generations != HEARD_ITSELF)
-        return 0;
-    room = room_of_thread(BPF_LOCAL_STORAGE_GET_F_CREATE);
     if (!room) {
         count(ROOMLESS);
         return 0;
     }
     event = &room->event;
     __builtin_memset(event, 0, sizeof(*event));
+    event->own = room->own;
+    event->has_own = room->has_own;
+    room->has_own = 0;
     event->time = bpf_ktime_get_ns();
     event->hook = hook;
     event->pid = process_of(task);
@@ -279,6 +283,39 @@ static __always_inline int end(struct room *room, int answer)
     if (bpf_ringbuf_output(&events, event, sizeof(*event) + used, BPF_RB_NO_WAKEUP))
         count(LOST);
     return 0;
+}
+
+static __always_inline int is_in_cgroup(void)
+{
+    return cgroup && bpf_get_current_ancestor_cgroup_id(cgroup_depth) == cgroup;
+}
+
+/* Follows a process from now on, and says so. */
+static __always_inline int join(u32 process)
+{
+    u32 generations = HEARD_ITSELF;
+    struct room *room;
+
+    if (bpf_map_update_elem(&followed, &process, &generations, BPF_NOEXIST)) {
+        if (bpf_map_lookup_elem(&followed, &process))
+            return 1; /* another thread of it was faster */
+        count(UNFOLLOWED);
+        return 0;
+    }
+    __sync_fetch_and_add(&following, 1);
+    room = event_of(JOINED);
+    return room ? !end(room, 0) : 0;
+}
+
+/* Begins an event, if the process is one of those that are heard. */
+static __always_inline struct room *begin(u32 hook)
+{
+    u32 process = bpf_get_current_pid_tgid() >> 32;
+    u32 *generations = bpf_map_lookup_elem(&followed, &process);
+
+    if (generations ? *generations != HEARD_ITSELF : !is_in_cgroup() || !join(process))
+        return 0;
+    return event_of(hook);
 }
 
 #define BEGIN(HOOK) \
@@ -504,12 +541,103 @@ int BPF_PROG(task_kill, struct task_struct *target, void *info, int signal, cons
     return end(room, answer);
 }
 
+/* Keeps Landlock's own answer for the event of the question, which is sent after all modules have answered. */
+static __always_inline int keep_own(u64 *arguments)
+{
+    u32 process = bpf_get_current_pid_tgid() >> 32;
+    u32 *generations = bpf_map_lookup_elem(&followed, &process);
+    struct room *room;
+    u64 answer = 0;
+
+    if (!generations || *generations != HEARD_ITSELF)
+        return 0;
+    room = room_of_thread(BPF_LOCAL_STORAGE_GET_F_CREATE);
+    if (!room)
+        return 0;
+    bpf_get_func_ret(arguments, &answer);
+    room->own = answer;
+    room->has_own = 1;
+    return 0;
+}
+
+#define OWN(HOOK) \
+    SEC("fexit/hook_" #HOOK) \
+    int own_##HOOK(u64 *arguments) \
+    { \
+        return keep_own(arguments); \
+    }
+
+OWN(file_open)
+OWN(file_truncate)
+OWN(file_ioctl)
+OWN(file_ioctl_compat)
+OWN(path_mknod)
+OWN(path_mkdir)
+OWN(path_symlink)
+OWN(path_unlink)
+OWN(path_rmdir)
+OWN(path_rename)
+OWN(path_link)
+OWN(path_truncate)
+OWN(sb_mount)
+OWN(sb_umount)
+OWN(sb_pivotroot)
+OWN(sb_remount)
+OWN(move_mount)
+OWN(socket_bind)
+OWN(socket_connect)
+
+static __always_inline int answer_of(u64 pointer)
+{
+    return pointer > -MOST_ERRORS ? pointer : 0;
+}
+
+/* A ruleset is made, after all checks; how many kinds of rights it has depends on the kernel. */
+SEC("fexit/landlock_create_ruleset")
+int created(u64 *arguments)
+{
+    u64 ruleset = 0, number;
+
+    BEGIN(CREATE);
+    number = bpf_get_func_arg_cnt(arguments);
+    bpf_get_func_ret(arguments, &ruleset);
+    room->event.file = ruleset;
+    bpf_get_func_arg(arguments, 0, &room->event.values[0]);
+    if (number > 1)
+        bpf_get_func_arg(arguments, 1, &room->event.values[1]);
+    if (number > 2)
+        bpf_get_func_arg(arguments, 2, &room->event.values[2]);
+    return end(room, answer_of(ruleset));
+}
+
+SEC("fexit/landlock_append_fs_rule")
+int BPF_PROG(path_added, struct landlock_ruleset *ruleset, const struct path *path, u64 rights, int answer)
+{
+    BEGIN(ADD_PATH);
+    room->event.file = (u64)ruleset;
+    room->event.values[0] = (u32)rights;
+    go_up_from(room, path, 0);
+    return end(room, answer);
+}
+
+SEC("fexit/landlock_append_net_rule")
+int BPF_PROG(port_added, struct landlock_ruleset *ruleset, u64 port, u64 rights, int answer)
+{
+    BEGIN(ADD_PORT);
+    room->event.file = (u64)ruleset;
+    room->event.values[0] = (u32)rights;
+    room->event.values[1] = (u16)port;
+    return end(room, answer);
+}
+
 /* A thread restricts itself: Landlock joins its domain and a ruleset, after all checks. */
 SEC("fexit/landlock_merge_ruleset")
 int BPF_PROG(restricted, struct landlock_ruleset *domain, struct landlock_ruleset *ruleset, u64 joined)
 {
     BEGIN(RESTRICT);
-    return end(room, joined > -MOST_ERRORS ? joined : 0);
+    room->event.file = (u64)ruleset;
+    room->event.values[0] = BPF_CORE_READ(bpf_get_current_task_btf(), atomic_flags) & PFA_NO_NEW_PRIVS;
+    return end(room, answer_of(joined));
 }
 
 /* Follows a child of a process that is followed; threads are of the same process. */
@@ -552,21 +680,22 @@ static __always_inline void unfollow(struct task_struct *task)
         __sync_fetch_and_add(&following, -1);
 }
 
-static __always_inline int tell_exit(void)
+static __always_inline int tell_exit(struct task_struct *task)
 {
     BEGIN(EXIT);
+    room->event.values[0] = BPF_CORE_READ(task, signal, live.counter) == 0;
     return end(room, 0);
 }
 
 SEC("tp_btf/sched_process_exit")
 int BPF_PROG(exited, struct task_struct *task)
 {
-    tell_exit();
+    tell_exit(task);
     unfollow(task);
     return 0;
 }
 
-/* Run once by the loader: follows its own process or its parent, with the number of generations that it says. */
+/* Run once by the loader: follows its own process or its parent, with the number of generations that it says, if any. */
 __u32 generations, from_parent;
 
 SEC("raw_tp")
@@ -576,5 +705,5 @@ int start(void *context)
     u32 process = from_parent ? BPF_CORE_READ(task, real_parent, tgid) : BPF_CORE_READ(task, tgid);
 
     level = BPF_CORE_READ(task, thread_pid, level);
-    return bpf_map_update_elem(&followed, &process, &generations, BPF_ANY);
+    return generations ? bpf_map_update_elem(&followed, &process, &generations, BPF_ANY) : 0;
 }

@@ -7,6 +7,7 @@
 #include <signal.h>
 #include <stdarg.h>
 #include <stdio.h>
+#include <stdio_ext.h>
 #include <stdlib.h>
 #include <string.h>
 #include <sys/random.h>
@@ -14,6 +15,7 @@
 #include <sys/wait.h>
 #include <unistd.h>
 #include "event.h"
+#include "following.h"
 #include "loading.h"
 #include "printing.h"
 
@@ -21,10 +23,17 @@
 #define UNABLE 4
 #define NOT_FOUND 127
 #define PAUSE_MILLISECONDS 2
+#define BUFFER_BYTES (1 << 20)
+
+/* Whose questions are written: those of a command; of what the children of the parent start, without or with these
+ * children; or of what runs already. */
+enum whom { COMMAND, BESIDE, CHILDREN, RUNNING };
 
 struct options {
     enum way way;
-    int beside;
+    enum whom whom;
+    int own;
+    struct running running;
     const char *out;
     char **command;
 };
@@ -92,13 +101,14 @@ static void write_end(FILE *out, const struct loaded *loaded)
             cut);
 }
 
-/* Lets the BPF side follow this process or its parent, whose descendants are heard from a generation on. */
-static int follow_from(const struct loaded *loaded, int beside)
+/* Lets the BPF side follow this process or its parent, if any, whose descendants are heard from a generation on. */
+static int follow_from(const struct loaded *loaded, enum whom whom)
 {
+    static const unsigned int generations[] = {[COMMAND] = 2, [BESIDE] = 3, [CHILDREN] = 2, [RUNNING] = 0};
     struct bpf_test_run_opts run = {.sz = sizeof(run)};
 
-    loaded->programs->bss->from_parent = beside;
-    loaded->programs->bss->generations = beside ? 3 : 2;
+    loaded->programs->bss->from_parent = whom == BESIDE || whom == CHILDREN;
+    loaded->programs->bss->generations = generations[whom];
     return !bpf_prog_test_run_opts(bpf_program__fd(loaded->programs->progs.start), &run) && run.retval == 0;
 }
 
@@ -129,10 +139,18 @@ static int has_ended(const struct loaded *loaded, const struct options *options,
 {
     if (asked_to_end)
         return 1;
-    if (options->beside)
-        return input_ended();
+    if (options->whom != COMMAND)
+        return input_ended() || (options->running.number && !loaded->programs->bss->following);
     waitpid(child, status, WNOHANG);
     return !loaded->programs->bss->following;
+}
+
+/* Follows what runs already. */
+static int start_running(const struct loaded *loaded, const struct running *running, FILE *out)
+{
+    if (!sees_all_processes() || (running->cgroup && !follow_cgroup(loaded, running->cgroup)))
+        return 0;
+    return follow_running(loaded, running, out) >= 0;
 }
 
 static int follow(const struct loaded *loaded, const struct options *options, struct output *output)
@@ -141,11 +159,13 @@ static int follow(const struct loaded *loaded, const struct options *options, st
     int status = 0;
     pid_t child = 0;
 
-    if (!ring || !follow_from(loaded, options->beside)) {
+    if (!ring || !follow_from(loaded, options->whom)) {
         fprintf(stderr, "landaudit-witness: its programs do not run: %s\n", strerror(errno));
         return UNABLE;
     }
-    if (options->beside) {
+    if (options->whom == RUNNING && !start_running(loaded, &options->running, output->file))
+        return UNABLE;
+    if (options->whom != COMMAND) {
         puts("ready");
         fflush(stdout);
     } else {
@@ -154,7 +174,7 @@ static int follow(const struct loaded *loaded, const struct options *options, st
     while (!has_ended(loaded, options, child, &status))
         if (ring_buffer__consume(ring) == 0)
             usleep(PAUSE_MILLISECONDS * 1000);
-    if (!options->beside && !asked_to_end)
+    if (options->whom == COMMAND && !asked_to_end)
         waitpid(child, &status, 0); /* it has ended, but may not have been a zombie when that was looked for */
     ring_buffer__consume(ring);
     ring_buffer__free(ring);
@@ -162,13 +182,19 @@ static int follow(const struct loaded *loaded, const struct options *options, st
 }
 
 static const char usage[] =
-    "usage: landaudit-witness [--by fexit|lsm] OUT.jsonl -- COMMAND..\n"
-    "       landaudit-witness [--by fexit|lsm] --beside OUT.jsonl\n"
+    "usage: landaudit-witness [--by fexit|lsm] [--landlock] OUT.jsonl -- COMMAND..\n"
+    "       landaudit-witness [--by fexit|lsm] [--landlock] --beside|--children OUT.jsonl\n"
+    "       landaudit-witness [--by fexit|lsm] [--landlock] --pid N..|--cgroup DIR OUT.jsonl\n"
     "\n"
-    "Writes what the kernel asks its security modules about the processes of COMMAND. With --beside it writes what is\n"
-    "asked about the processes that the children of its parent start, from the line 'ready' on standard output until\n"
-    "standard input ends. It needs CAP_BPF and CAP_PERFMON.\n"
+    "Writes what the kernel asks its security modules about the processes of COMMAND, or about processes that run\n"
+    "already, or that its parent starts: then from the line 'ready' on standard output until standard input ends. It\n"
+    "needs CAP_BPF and CAP_PERFMON.\n"
     "\n"
+    "  --beside     about the processes that the children of its parent start\n"
+    "  --children   about the children that its parent starts, and what they start\n"
+    "  --pid N      about a process that runs, its descendants, and what they start\n"
+    "  --cgroup DIR about all processes of a cgroup (version 2), and what they start\n"
+    "  --landlock   with Landlock's own answers, where its functions can be heard\n"
     "  --by fexit   by programs at the functions of the kernel that ask\n"
     "  --by lsm     by programs of the BPF security module\n";
 
@@ -183,10 +209,31 @@ static int read_way(const char *text, enum way *way)
     return 1;
 }
 
+/* Reads an option that says whose questions are written; returns false if it is wrong, or not alone. */
+static int read_whom(int option, const char *text, struct options *options)
+{
+    enum whom whom = option == 's' ? BESIDE : option == 'c' ? CHILDREN : RUNNING;
+    struct running *running = &options->running;
+
+    if (options->whom != COMMAND && (options->whom != RUNNING || whom != RUNNING))
+        return 0;
+    options->whom = whom;
+    if (option == 'g')
+        return !running->cgroup && (running->cgroup = text) != NULL;
+    if (option != 'p')
+        return option == 's' || option == 'c';
+    if (running->number == MOST_NAMED || atoi(text) <= 0)
+        return 0;
+    running->processes[running->number++] = atoi(text);
+    return 1;
+}
+
 /* Reads the command line; returns false if it is wrong. */
 static int read_options(int number, char **words, struct options *options)
 {
     static const struct option known[] = {{"by", required_argument, NULL, 'b'}, {"beside", no_argument, NULL, 's'},
+                                          {"children", no_argument, NULL, 'c'}, {"pid", required_argument, NULL, 'p'},
+                                          {"cgroup", required_argument, NULL, 'g'}, {"landlock", no_argument, NULL, 'l'},
                                           {"help", no_argument, NULL, 'h'}, {}};
     int option;
 
@@ -195,15 +242,15 @@ static int read_options(int number, char **words, struct options *options)
             fputs(usage, stdout);
             exit(0);
         }
-        if (option == 's')
-            options->beside = 1;
-        else if (option != 'b' || !read_way(optarg, &options->way))
+        if (option == 'l')
+            options->own = 1;
+        else if (option == 'b' ? !read_way(optarg, &options->way) : !read_whom(option, optarg, options))
             return 0;
     }
     if (optind >= number)
         return 0;
     options->out = words[optind++];
-    if (options->beside)
+    if (options->whom != COMMAND)
         return optind == number;
     options->command = words + optind + 1;
     return optind + 1 < number && !strcmp(words[optind], "--");
@@ -221,6 +268,7 @@ int main(int number, char **words)
         return USAGE;
     }
     libbpf_set_print(say_libbpf);
+    loaded.own = options.own;
     if (!load(&loaded, options.way) || getrandom(&output.secret, sizeof(output.secret), 0) < 0)
         return UNABLE;
     output.file = fopen(options.out, "wxe");
@@ -228,6 +276,8 @@ int main(int number, char **words)
         fprintf(stderr, "landaudit-witness: cannot write %s: %s\n", options.out, strerror(errno));
         return UNABLE;
     }
+    __fsetlocking(output.file, FSETLOCKING_BYCALLER);
+    setvbuf(output.file, NULL, _IOFBF, BUFFER_BYTES);
     signal(SIGINT, ask_to_end);
     signal(SIGTERM, ask_to_end);
     write_start(output.file, &loaded);

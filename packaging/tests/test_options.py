@@ -107,7 +107,10 @@ class Scripts(unittest.TestCase):
     def test_the_synopsis_of_each_subcommand(self) -> None:
         for script, page in self.pages():
             blocks = section(page, "SYNOPSIS").split(".Nm\n")
-            shown = {words[1]: flags(block) for block in blocks if (words := re.match(r"\.Cm (\w+)\n", block))}
+            shown: dict[str, set[str]] = {}
+            for block in blocks:
+                if words := re.match(r"\.Cm (\w+)\n", block):
+                    shown.setdefault(words[1], set()).update(flags(block))
             wanted = {name: having - {"-h", "--help"} for name, having in options.subcommands(script).items()}
             self.assertEqual(shown, wanted)
 

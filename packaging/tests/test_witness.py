@@ -38,13 +38,13 @@ def made(*words: str, **variables: str) -> subprocess.CompletedProcess[str]:
 class Options(unittest.TestCase):
     def test_the_source_has_the_options_of_its_page(self) -> None:
         page = (MAN / "landaudit-witness.1").read_text(encoding="utf-8")
-        self.assertEqual(OPTIONS, {"--by", "--beside", "--help", "-h"})
+        self.assertEqual(OPTIONS, {"--by", "--beside", "--children", "--pid", "--cgroup", "--landlock", "--help", "-h"})
         self.assertEqual(items(page), OPTIONS)
         self.assertEqual(flags(section(page, "SYNOPSIS")), OPTIONS)
 
     def test_the_usage_names_them(self) -> None:
         usage = SOURCE.partition("static const char usage[]")[2].partition(";\n")[0]
-        self.assertEqual(set(re.findall(r"--\w+", usage)), {"--by", "--beside"})
+        self.assertEqual(set(re.findall(r"--\w+", usage)), OPTIONS - {"--help", "-h"})
 
     @unittest.skipUnless(shutil.which("bash"), "bash is not installed")
     def test_bash(self) -> None:

@@ -184,7 +184,7 @@ class Finished:
     def _of_scopes(self) -> Iterator[str]:
         """The calls that the policy's scopes may refuse: there are no records for them, they are only counted."""
         for scope in self.scoped:
-            if SIGNALS in self.untraced:
+            if SIGNALS in self.untraced or scope in self.untraced:
                 yield f"scoped = {scope}: calls that it may refuse were not traced, so record it again"
             elif self.scopes[scope]:
                 calls = counted(self.scopes[scope], "call")

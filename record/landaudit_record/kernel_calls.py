@@ -36,7 +36,8 @@ class Call:
     """One system call: the records that stand for it, and landaudit's answers to them.
 
     `domain` is the domain of the process by landaudit's answers; `by_kernel` is what only the kernel gave it.
-    `otherwise` has the answers if all that the recording does not know was otherwise.
+    `otherwise` has the answers if all that the recording does not know was otherwise, `own` the answer of Landlock
+    alone if a witness heard it.
     """
 
     records: tuple[Record, ...]
@@ -44,6 +45,7 @@ class Call:
     domain: tuple[Layer, ...]
     by_kernel: ByKernel
     otherwise: tuple[Answer, ...] = ()
+    own: str | None = None
 
     @property
     def other(self) -> Call | None:
@@ -57,8 +59,10 @@ class Call:
 
     @property
     def kernel(self) -> str:
-        """What the kernel answered: `ok`, or the name of an error."""
-        return str(self.records[0]["kernel"])
+        """What the kernel answered, or Landlock alone if that is known: `ok`, or the name of an error."""
+        if self.own is not None:
+            return self.own
+        return next((str(record["kernel"]) for record in self.records if record["kernel"] != "ok"), "ok")
 
     @property
     def op(self) -> str:

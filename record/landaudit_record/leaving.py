@@ -16,7 +16,12 @@ from .trees import ROOT, upwards
 _OP = b'{"op":"'
 _OPEN = b'{"op":"open"'
 _GOES = (b'{"op":"unlink"', b'{"op":"rename"')
-_CREATES = b'"create":true'
+_CREATES = (b'"create":true', b'"cuts":true')
+
+
+def is_cut_again(record: jsonl.Record) -> bool:
+    """Whether a record is an open that makes a file, and that cuts it if it is there."""
+    return record["op"] == "open" and bool(record.get("cuts") or (record.get("create") and record.get("trunc")))
 
 
 def cut_files(traces: Iterable[Path]) -> set[str]:
@@ -26,7 +31,7 @@ def cut_files(traces: Iterable[Path]) -> set[str]:
         for record in _telling(trace):
             path = shown(record, "from" if record["op"] == "rename" else "path") or ROOT
             match record["op"]:
-                case "open" if record.get("create") and record.get("trunc"):
+                case "open" if is_cut_again(record):
                     there.add(path)
                 case "unlink":
                     there.discard(path)
@@ -43,7 +48,7 @@ def _telling(trace: Path) -> Iterator[jsonl.Record]:
             known = line.startswith(_OP)
             if not line.strip() or known and not line.startswith((_OPEN, *_GOES)):
                 continue
-            if line.startswith(_OPEN) and _CREATES not in line:
+            if line.startswith(_OPEN) and not any(creates in line for creates in _CREATES):
                 continue
             record = jsonl.read(trace, number, line)
             if record.get("kernel", "ok") == "ok" and "op" in record and "again" not in record:

@@ -6,7 +6,7 @@ from collections import Counter
 from collections.abc import Callable, Iterable, Iterator, Mapping, Sequence, Set
 from dataclasses import dataclass, field, replace
 
-from . import processes, styling, wants, widening
+from . import leaving, processes, styling, wants, widening
 from .answers import UNSURE, Answer, Closed, Gained, Kept, Missing, Objection
 from .jsonl import Record
 from .objects import Objects
@@ -248,7 +248,7 @@ def _fails_anyway(told: Told) -> bool:
 def _for_the_run_after(recorded: Recorded, record: Record, handled: Rights) -> list[tuple[str | int, Rights]]:
     """What a call that makes and truncates a file will ask on the same file in the next run."""
     path, real = record.get("path"), processes.shown(record, "path")
-    if record["op"] != "open" or not record.get("create") or not record.get("trunc") or real not in recorded.cut:
+    if not leaving.is_cut_again(record) or real not in recorded.cut:
         return []
     return [(directory_of(str(path)), handled & {"truncate"})]
 

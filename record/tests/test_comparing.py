@@ -9,6 +9,7 @@ import os
 import stat
 import tempfile
 import unittest
+from dataclasses import replace
 from pathlib import Path
 from typing import Any
 
@@ -49,8 +50,10 @@ def confined(fs: list[str], net: list[str] | None = None, rs: int = 3) -> list[R
     ]
 
 
-def compared(rows: list[Row], abi: int = 5, standing: dict[str, os.stat_result] | None = None) -> Tally:
-    """Compares a trace of one process, of which `start` and nnp come before the rows."""
+def compared(
+    rows: list[Row], abi: int = 5, standing: dict[str, os.stat_result] | None = None, own: dict[int, str] | None = None
+) -> Tally:
+    """Compares a trace of one process, of which `start` and nnp come before the rows; `own` are Landlock's answers."""
     begun: list[Row] = [({"op": "start"}, "allowed"), ({"op": "nnp"}, "allowed")]
     records = [({"pid": PID, **record}, answer) for record, answer in begun + rows]
     with tempfile.TemporaryDirectory() as folder:
@@ -59,7 +62,9 @@ def compared(rows: list[Row], abi: int = 5, standing: dict[str, os.stat_result] 
         report = write_report(Path(folder, "report.jsonl"), calls, [answer for _, answer in records], alone(abi))
         tally = Tally()
         classes = Classes(TREE, abi, (standing or {}).get)
-        list(comparing.compare(judged_calls(judged(trace, report, abi), abi), classes, tally))
+        found = judged_calls(judged(trace, report, abi), abi)
+        told = (replace(call, own=(own or {}).get(call.number)) for call in found)
+        list(comparing.compare(told, classes, tally))
     return tally
 
 
@@ -83,6 +88,18 @@ class Agreement(unittest.TestCase):
         tally = compared(confined(["read_file"]) + [(opened("EACCES"), BY_A_LAYER)])
         self.assertEqual((tally.calls, tally.agreed), (3, 3))
         self.assertEqual(tally.by_op, {"create": 1, "restrict": 1, "open": 1})
+
+    def test_the_answer_of_landlock_alone_counts_if_it_is_known(self) -> None:
+        by_another = [*confined(["read_file"]), (opened("EACCES"), "allowed")]
+        self.assertEqual((compared(by_another).unnamed, compared(by_another, own={9: "ok"}).unnamed), (1, 0))
+        refused = [*confined(["read_file"]), (opened("EACCES"), BY_A_LAYER)]
+        self.assertEqual((compared(refused).unnamed, compared(refused, own={9: "ok"}).unnamed), (0, 1))
+
+    def test_a_call_is_refused_if_one_of_its_records_is(self) -> None:
+        program = {"op": "exec", "path": "/a/f", "call": 9, "kernel": "ok"}
+        loader = {"op": "exec", "path": "/ld.so", "role": "interpreter", "call": 9, "kernel": "EACCES"}
+        rows: list[Row] = [*confined(["execute"]), (program, "allowed"), (loader, BY_A_LAYER)]
+        self.assertEqual((compared(rows).calls, compared(rows).agreed), (3, 3))
 
     def test_books_alone_are_no_call(self) -> None:
         tally = compared(confined(["read_file"]) + [({"op": "adopt", "fd": 0, "kind": "other"}, "allowed")])

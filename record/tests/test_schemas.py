@@ -7,6 +7,8 @@ import copy
 import io
 import json
 import re
+import shutil
+import tempfile
 import unittest
 from collections import Counter
 from collections.abc import Callable, Iterable, Iterator, Sequence
@@ -379,11 +381,25 @@ class Recordings(KeptLogs):
                 self.assertTrue(text and text in source, text)
 
     def test_of_what_a_witness_heard(self) -> None:
-        file = HEARD / "ordinary" / "witness.jsonl"
-        first, *events, last = (line for _, line in jsonl.numbered(file))
-        self.is_described(file, "heard_first", [first])
-        self.assertLessEqual({"path", "chain", "file", "flags"}, self.is_described(file, "event", events))
-        self.is_described(file, "heard_last", [last])
+        members: set[str] = set()
+        for file in sorted(HEARD.glob("*/witness.jsonl")):
+            first, *events, last = (line for _, line in jsonl.numbered(file))
+            self.is_described(file, "heard_first", [first])
+            members |= self.is_described(file, "event", events)
+            self.is_described(file, "heard_last", [last])
+        self.assertLessEqual({"path", "chain", "file", "flags", "last", "program", "ruleset", "fs", "nnp"}, members)
+
+    def test_of_recordings_by_the_witness(self) -> None:
+        classes = json.loads((DOCS / "recording.schema.json").read_text(encoding="utf-8"))["$defs"]["class_with_asks"]
+        validator = Validator({"$schema": DIALECT, **classes})
+        for name in ("by_witness", "received_ruleset", "unit"):
+            folder = Path(shutil.copytree(HEARD / name, Path(self.enterContext(tempfile.TemporaryDirectory()), name)))
+            converting.convert(folder, Ports())
+            for file, kind in self.FILES.items():
+                if (folder / file).exists():
+                    self.is_described(folder / file, kind, [line for _, line in jsonl.numbered(folder / file)])
+            for _, line in jsonl.numbered(folder / "unsaid.jsonl"):
+                self.assertEqual(not validator.faults(line["class"]), line.get("asks", False), line)
 
     def test_what_is_no_line(self) -> None:
         for name, line in (("tree", {"path": "a", "kind": "reg"}), ("tree", {"path": "/a", "kind": None}),

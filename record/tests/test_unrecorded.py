@@ -210,10 +210,25 @@ class Unrecorded(WrittenLogs):
         self.assertEqual(self.heard([opened("/f", cut=True)], OPEN_F), [NOT_RECORDED + "file_open"])
         self.assertIn("(a part of its path)", (self.out / "unsaid.jsonl").read_text(encoding="utf-8"))
 
+    def test_what_landlock_alone_answered_is_kept(self) -> None:
+        makes = f'openat({CWD}, "/w/new", 0x41 /* O_WRONLY|O_CREAT */, 0600) = -1 EACCES (Permission denied)'
+        made = event("path_mknod", "/w/new", kind="reg", landlock=0)
+        self.assertEqual(self.heard([made, opened("/w/new", "w", answer=-13, landlock=-13)], *CONFINED, makes), [])
+        self.assertEqual(witness.own_answers(self.out), {4: "EACCES"})
+        self.assertEqual(self.heard([opened("/w/f", landlock=0)], OPEN_F), [])
+        self.assertEqual(witness.own_answers(self.out), {2: "ok"})
+        self.heard([opened("/w/f")], OPEN_F)
+        self.assertEqual(witness.own_answers(self.out), {})
+
     def test_a_name_that_is_not_ascii(self) -> None:
         opens = f'openat({CWD}, "/w/f\\303\\251", 0x41 /* O_WRONLY|O_CREAT */, 0600) = 3</w/f\\303\\251>'
         asked = [event("path_mknod", "/w/f\udcc3\udca9", kind="reg"), opened("/w/f\udcc3\udca9", "w")]
         self.assertEqual(self.heard(asked, opens), [])
+
+    def test_a_name_that_is_not_utf_8_is_told(self) -> None:
+        self.assertEqual(self.heard([opened("/w/\udcff")]), [NOT_RECORDED + "file_open"])
+        (entry,) = [entry for _, entry in jsonl.numbered(self.out / "unsaid.jsonl")]
+        self.assertEqual(entry["call"], "file_open r /w/\\xff")
 
     def test_a_recording_without_a_witness(self) -> None:
         self.conversion(OPEN_F)

@@ -1,8 +1,10 @@
-"""Records probes with a witness, in a machine that `kernels` starts: guest.py CHECKOUT PROBES OUT NAME.."""
+"""Does the jobs of a machine that `kernels` starts: guest.py CHECKOUT PROBES OUT, with the jobs in OUT/jobs.json."""
 
 from __future__ import annotations
 
+import json
 import os
+import resource
 import shutil
 import socket
 import subprocess
@@ -10,15 +12,22 @@ import sys
 import time
 from collections.abc import Callable
 from pathlib import Path
+from typing import Any
 
-FOLDER = Path("/tmp/probes")
+FOLDER, RECORDINGS = Path("/tmp/probes"), Path("/tmp/recordings")
 #: The probe whose standard input is a socket.
 GIVEN_SOCKET = "given_socket"
+#: What is measured: shell commands, each with the number of its turns in place of @.
+MEASURED = {
+    "cp": "n=0; while [ $n -lt @ ]; do n=$((n+1)); cp /etc/hostname /tmp/copy; done",
+    "gcc": "n=0; while [ $n -lt @ ]; do n=$((n+1)); gcc -c -o /tmp/one.o /tmp/one.c; done",
+}
 
 
 def prepare(probes: str, name: str) -> Path:
     """Makes the folder of a probe, and returns its working directory."""
     work = FOLDER / name / "work"
+    shutil.rmtree(work.parent, ignore_errors=True)
     for directory in (work / "rw", work.parent / "secret"):
         directory.mkdir(parents=True)
     for file in (work / "f", work.parent / "secret" / "f"):
@@ -32,29 +41,80 @@ def standard_input(name: str) -> int:
     return socket.socket().detach() if name == GIVEN_SOCKET else os.open("/dev/null", os.O_RDONLY)
 
 
-def record(run: Callable[[list[str]], int], out: str, probes: str, name: str, work: Path) -> None:
-    """Records a probe in a process of its own."""
+def record(run: Callable[[list[str]], int], words: list[str], work: Path, given: int) -> None:
+    """Records a command in a process of its own."""
     child = os.fork()
     if child:
         os.waitpid(child, 0)
         return
     os.chdir(work)
-    os.dup2(standard_input(name), 0)
-    os._exit(run(["run", f"{out}/{name}", "--witness", "--", probes, name]))
+    os.dup2(given, 0)
+    os._exit(run(words))
 
 
-def main(checkout: str, probes: str, out: str, names: list[str]) -> None:
-    """Records the probes, and says how long each took."""
-    sys.path.insert(0, f"{checkout}/record")
+def spent(words: list[str]) -> float:
+    """The user and system time of a command and all that it starts, in seconds."""
+    before = resource.getrusage(resource.RUSAGE_CHILDREN)
+    subprocess.run(words, check=True, stdout=subprocess.DEVNULL, stderr=subprocess.DEVNULL)
+    after = resource.getrusage(resource.RUSAGE_CHILDREN)
+    return after.ru_utime + after.ru_stime - before.ru_utime - before.ru_stime
+
+
+def measure(checkout: str, turns: dict[str, int], times: int) -> dict[str, dict[str, float]]:
+    """The least time that each command takes bare, under the witness and under strace, in turn."""
+    from landaudit_record.recorder import tracing
+
+    Path("/tmp/one.c").write_text("#include <stdio.h>\nint main(void) { return puts(\"one\"); }\n")
+    witness = f"{checkout}/witness/out/landaudit-witness"
+    least: dict[str, dict[str, float]] = {}
+    for name, count in turns.items():
+        command = ["sh", "-c", MEASURED[name].replace("@", str(count))]
+        for _ in range(times):
+            Path("/tmp/events").unlink(missing_ok=True)
+            for way, words in {
+                "bare": command,
+                "witness": [witness, "/tmp/events", "--", *command],
+                "strace": tracing.command_line(Path("/tmp/log"), command),
+            }.items():
+                took = spent(words)
+                print(name, way, f"{took:.2f} s", flush=True)
+                least.setdefault(name, {})[way] = min(took, least.get(name, {}).get(way, took))
+    return least
+
+
+def test(checkout: str, modules: list[str]) -> str:
+    """Runs modules of tests of the recorder, and returns what they say."""
+    words = ["python3", "-B", "-m", "unittest", *modules]
+    run = subprocess.run(words, cwd=f"{checkout}/record", capture_output=True, text=True, check=False)
+    return run.stderr
+
+
+def main(checkout: str, probes: str, out: str) -> None:
+    """Records what the jobs name, and says how long each took; then tests and measures, if they say so."""
+    sys.path[:0] = [f"{checkout}/record", f"{checkout}/record/tests"]
+    import workshop
+
     from landaudit_record import cli
 
-    os.makedirs("/tmp/recordings")
-    for name in names:
-        began = time.monotonic()
-        record(cli.main, "/tmp/recordings", probes, name, prepare(probes, name))
-        print(f"{name}: {time.monotonic() - began:.1f} s", flush=True)
-    shutil.copytree("/tmp/recordings", f"{out}/recordings")
+    jobs: dict[str, Any] = json.loads(Path(out, "jobs.json").read_text(encoding="utf-8"))
+    RECORDINGS.mkdir()
+    Path(out, "recordings").mkdir()
+    for job in jobs["recordings"]:
+        began, probe = time.monotonic(), job.get("probe")
+        if probe is None:
+            workshop.fill()
+        work = workshop.WORK if probe is None else prepare(probes, probe)
+        words = ["run", str(RECORDINGS / job["name"]), *job["options"], "--", *job["command"]]
+        record(cli.main, words, work, standard_input(probe or ""))
+        if (RECORDINGS / job["name"]).is_dir():
+            shutil.copytree(RECORDINGS / job["name"], Path(out, "recordings", job["name"]))
+        print(f"{job['name']}: {time.monotonic() - began:.1f} s", flush=True)
+    if "tests" in jobs:
+        Path(out, "tests.txt").write_text(test(checkout, jobs["tests"]), encoding="utf-8")
+    if "measure" in jobs:
+        found = measure(checkout, jobs["measure"], jobs["times"])
+        Path(out, "measured.json").write_text(json.dumps(found), encoding="ascii")
 
 
 if __name__ == "__main__":
-    main(sys.argv[1], sys.argv[2], sys.argv[3], sys.argv[4:])
+    main(*sys.argv[1:])

@@ -7,6 +7,7 @@ import json
 import os
 import tempfile
 from collections.abc import Iterable, Iterator
+from dataclasses import replace
 from pathlib import Path
 
 from .. import comparing, comparing_text, finished, jsonl, landaudit, trees
@@ -16,6 +17,7 @@ from ..kernel_calls import judged_calls
 from ..options import add_abi, add_landaudit, note
 from ..problems import WANTING, Problem
 from ..reading import judged
+from ..recorder import witness
 from ..rights import alone
 from ..wording import plain
 
@@ -59,10 +61,11 @@ def _differences(
 ) -> Iterator[Difference]:
     """The calls that differ, part by part, while all calls are counted."""
     classes = Classes(trees.read(*(part.tree for part in recording.parts)), abi, _stat_of)
-    report = folder / "report.jsonl"
+    report, own = folder / "report.jsonl", witness.own_answers(recording.folder)
     for part in recording.parts:
         landaudit.audit(program, alone(abi), part.tree, part.trace, report, best_effort=False, explain=False)
-        yield from comparing.compare(judged_calls(judged(part.trace, report, abi), abi), classes, tally)
+        calls = judged_calls(judged(part.trace, report, abi), abi)
+        yield from comparing.compare((replace(call, own=own.get(call.number)) for call in calls), classes, tally)
 
 
 def _keep(differences: Iterable[Difference], file: Path | None) -> None:

@@ -1,4 +1,4 @@
-"""Records a command: runs it under strace and converts the log."""
+"""Records a command, under strace or by the witness, or what runs already; and converts what was recorded."""
 
 from __future__ import annotations
 
@@ -18,7 +18,8 @@ from .. import PROGRAMS, RECORDER, confining, landaudit, policies, surroundings,
 from ..options import add_abi
 from ..policies import Policy
 from ..problems import USAGE, WANTING, Problem
-from ..recorder import beside, formats, recordings, tracing, witness
+from ..recorder import beside, formats, listening, recordings, tracing, witness
+from ..recorder.listening import Running
 from ..variables import Given
 from . import audit, convert
 
@@ -31,7 +32,8 @@ BEHIND_DASHES = "give a command after '--', as in 'landaudit-record run rec -- l
 def add_arguments(parser: argparse.ArgumentParser) -> None:
     parser.usage = (
         "landaudit-record run [-h] OUT [--watch DIR].. [--policy POLICY.toml] [--abi N] [--port-rules POLICY.toml] "
-        "[--set NAME=VALUE].. [--readlink] [--witness] -- COMMAND.."
+        "[--set NAME=VALUE].. [--readlink] [--witness] [--by RECORDER] -- COMMAND..\n"
+        "       landaudit-record run OUT --pid N.. | --cgroup DIR [--for SECONDS]"
     )
     parser.add_argument("out", metavar="OUT", type=Path, help="the folder to make for the recording")
     parser.add_argument(
@@ -64,15 +66,57 @@ def add_arguments(parser: argparse.ArgumentParser) -> None:
         help="hear by landaudit-witness what the kernel asks Landlock about the command, and count what the recording"
         " does not have (needs CAP_BPF and CAP_PERFMON)",
     )
+    _add_recorder(parser)
+
+
+def _add_recorder(parser: argparse.ArgumentParser) -> None:
+    """Adds the options for recordings by the witness alone."""
+    parser.add_argument(
+        "--by",
+        metavar="RECORDER",
+        choices=(recordings.STRACE, recordings.WITNESS),
+        default=recordings.STRACE,
+        help="record by strace (the default), or by landaudit-witness alone: it records what the kernel asks Landlock,"
+        " without tracing the command (needs CAP_BPF and CAP_PERFMON)",
+    )
+    parser.add_argument(
+        "--pid",
+        metavar="N",
+        type=int,
+        action="append",
+        default=[],
+        help="record a process that runs, its descendants and what they start, by the witness, in place of a command"
+        " (the option may be given several times)",
+    )
+    parser.add_argument(
+        "--cgroup",
+        metavar="DIR",
+        type=Path,
+        help="record all processes of a cgroup (version 2), such as that of a systemd unit, by the witness",
+    )
+    parser.add_argument(
+        "--for",
+        metavar="SECONDS",
+        type=float,
+        dest="seconds",
+        help="with --pid or --cgroup, end the recording after so long (default: at SIGINT, or when all that --pid"
+        " names has ended)",
+    )
 
 
 def run(arguments: argparse.Namespace) -> int:
     """Records the command, under a policy or without one; the status is the command's."""
-    command = arguments.behind
-    if not command:
-        raise Problem(BEHIND_DASHES, USAGE)
-    if shutil.which(command[0]) is None:
-        raise Problem(f"{command[0]} is not found, or is not a program", WANTING)
+    if arguments.pid or arguments.cgroup is not None:
+        return _record_running(arguments)
+    if arguments.seconds is not None:
+        raise Problem("--for goes with --pid or --cgroup: a command is recorded to its end", USAGE)
+    by_witness = arguments.by == recordings.WITNESS
+    return _record_by_witness(arguments) if by_witness else _record_by_strace(arguments)
+
+
+def _record_by_strace(arguments: argparse.Namespace) -> int:
+    """Records the command by strace."""
+    command = _command(arguments)
     given = variables.given(arguments)
     policy = None if arguments.policy is None else _InForce.of(arguments.policy, arguments.abi, given)
     if arguments.port_rules is not None:
@@ -82,18 +126,24 @@ def run(arguments: argparse.Namespace) -> int:
     tracing.may_trace()
     directories = _directories(arguments.watch)
     with _made(arguments.out) as folder:
-        about = _about(command, _watched(folder, directories), strace, readlink=arguments.readlink)
+        about = replace(
+            _about(command, _watched(folder, directories), strace),
+            descriptors=recordings.given_descriptors(),
+            nnp=tracing.SETS_NO_NEW_PRIVS,
+            readlink=arguments.readlink,
+        )
         about.write(folder)
         surroundings.keep(folder, None if policy is None else policy.policy)
         if policy is not None:
             command = confining.under(policy.kept_in(folder), policy.abi, command)
-        listening = witness.Witness(folder) if arguments.witness else None
+        own = () if policy is None else witness.OWN_ANSWERS
+        checking = witness.Witness(folder, (*witness.BESIDE, *own)) if arguments.witness else None
     following = beside.Beside(folder / "strace.txt", about.directory, about.started, about.watched, about.registered)
     following.start()
     outcome = tracing.run(folder / "strace.txt", command, readlink=arguments.readlink)
     following.stop(folder / recordings.BESIDE)
-    if listening is not None:
-        listening.end()
+    if checking is not None:
+        checking.end()
     replace(about, ended=outcome.ended, taken=list(outcome.taken)).write(folder)
     for place in outcome.taken:
         convert.say(f"strace waited for the file server of {place}: to end that, the file system was taken away")
@@ -103,6 +153,76 @@ def run(arguments: argparse.Namespace) -> int:
     if policy is not None:
         policy.tell_refused(folder)
     return outcome.status
+
+
+def _command(arguments: argparse.Namespace) -> list[str]:
+    """The command to record, which must be there."""
+    command: list[str] = arguments.behind
+    if not command:
+        raise Problem(BEHIND_DASHES, USAGE)
+    if shutil.which(command[0]) is None:
+        raise Problem(f"{command[0]} is not found, or is not a program", WANTING)
+    return command
+
+
+def _record_by_witness(arguments: argparse.Namespace) -> int:
+    """Records the command by the witness alone."""
+    _refuse(arguments, "--by witness", watch="--watch", port_rules="--port-rules", readlink="--readlink",
+            witness="--witness")
+    command = _command(arguments)
+    given = variables.given(arguments)
+    policy = None if arguments.policy is None else _InForce.of(arguments.policy, arguments.abi, given)
+    given.check_used()
+    with _made(arguments.out) as folder:
+        about = replace(_about(command, recordings.Watched()), by=recordings.WITNESS)
+        about.write(folder)
+        surroundings.keep(folder, None if policy is None else policy.policy)
+        if policy is not None:
+            command = confining.under(policy.kept_in(folder), policy.abi, command)
+        own = () if policy is None else witness.OWN_ANSWERS
+        hearing = witness.Witness(folder, (*witness.CHILDREN, *own))
+    outcome = listening.run(hearing, command)
+    _heard(hearing, about, folder, arguments, given)
+    if policy is not None:
+        policy.tell_refused(folder)
+    return outcome.status
+
+
+def _record_running(arguments: argparse.Namespace) -> int:
+    """Records what runs already, by the witness, until a signal or the end of its time."""
+    _refuse(arguments, "--pid and --cgroup", watch="--watch", policy="--policy", port_rules="--port-rules",
+            readlink="--readlink", witness="--witness", behind="a command")
+    running, given = Running(tuple(arguments.pid), arguments.cgroup), variables.given(arguments)
+    given.check_used()
+    elsewhere = running.is_elsewhere()
+    with _made(arguments.out) as folder:
+        about = replace(_about([], recordings.Watched()), by=recordings.WITNESS)
+        if elsewhere:
+            about = replace(about, machine="")
+        else:
+            surroundings.keep(folder, None)
+        about.write(folder)
+        hearing = witness.Witness(folder, running.options)
+    convert.say("recording until SIGINT (Ctrl-C)" + ("" if arguments.seconds is None else f", {arguments.seconds:g} s"))
+    listening.listen(hearing, arguments.seconds)
+    _heard(hearing, about, folder, arguments, given)
+    return 0
+
+
+def _refuse(arguments: argparse.Namespace, what: str, **options: str) -> None:
+    """Refuses what does not go with a way to record."""
+    for member, name in options.items():
+        if getattr(arguments, member):
+            raise Problem(f"{name} does not go with {what}", USAGE)
+
+
+def _heard(
+    hearing: witness.Witness, about: recordings.About, folder: Path, arguments: argparse.Namespace, given: Given
+) -> None:
+    """Ends a witness, and converts what it heard."""
+    hearing.end()
+    replace(about, ended=True).write(folder)
+    _converted(folder, arguments, given)
 
 
 @dataclass(frozen=True)
@@ -186,14 +306,14 @@ def _working_directory() -> str:
         raise Problem("the working directory is gone: change to another one", USAGE) from None
 
 
-def _about(command: list[str], seen: recordings.Watched, strace: str, *, readlink: bool) -> recordings.About:
+def _about(command: list[str], seen: recordings.Watched, strace: str = "") -> recordings.About:
     return recordings.About(
         command=command,
         directory=os.getcwd(),
         started=time.time(),
         admin=recordings.is_admin(),
-        nnp=tracing.SETS_NO_NEW_PRIVS,
-        descriptors=recordings.given_descriptors(),
+        nnp=False,
+        descriptors={},
         watched=seen.watched,
         unlisted=[*seen.unread, *seen.of_kernel],
         too_large=seen.too_large,
@@ -205,7 +325,6 @@ def _about(command: list[str], seen: recordings.Watched, strace: str, *, readlin
         groups=[os.getegid(), *os.getgroups()],
         ended=False,
         looks=True,
-        readlink=readlink,
         formats=formats.registered(),
         hidepid=recordings.hides_processes(),
         machine=surroundings.machine(),

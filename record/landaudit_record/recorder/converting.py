@@ -7,14 +7,14 @@ from typing import Any
 
 from ..finished import Converted
 from ..problems import Problem
-from . import disk, strace_log, unrecorded
+from . import disk, hearing, strace_log, unrecorded
 from .calls import HANDLERS, arguments, others
 from .modes import NOBODY_KNOWN
 from .names import Doubts, Names, UnknownWay
 from .ports import Ports
 from .processes import Handle, Place, Process, Thread
 from .progress import Progress
-from .recordings import BESIDE, OBJECTS, About, read_about, read_before
+from .recordings import BESIDE, OBJECTS, WITNESS, About, read_about, read_before
 from .scene import Scene
 from .strace_log import Call, Ended, Superseded, Unread
 from .unsaid import NOT_UNDERSTOOD, CannotSay
@@ -28,11 +28,15 @@ LINES_APART = 64
 
 
 def convert(folder: Path, ports: Ports, limits: Limits = LIMITS) -> Converted:
-    """Writes the trees and traces of a recording from its log; the files are put in place when all are written.
+    """Writes the trees and traces of a recording from its log, or from what its witness heard if that recorded it.
+
+    The files are put in place when all are written.
 
     A conversion may find out that it took something to be known that is not: then it begins again.
     """
     about = read_about(folder)
+    if about.by == WITNESS:
+        return hearing.convert(folder, about, limits)
     kept = disk.kept(folder / OBJECTS, about.started, about.registered, folder / BESIDE)
     doubts = Doubts()
     while True:

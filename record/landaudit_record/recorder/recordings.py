@@ -28,6 +28,8 @@ BESIDE = "beside.jsonl"
 POLICY = "policy.toml"
 MOST_WATCHED = 100_000
 CAP_SYS_ADMIN = 21
+#: By what a recording may be made.
+STRACE, WITNESS = "strace", "witness"
 _SYS_LANDLOCK_CREATE_RULESET = 444
 _LANDLOCK_CREATE_RULESET_ERRATA = 2
 
@@ -47,7 +49,7 @@ class About:
     links were traced. `formats` are those that binfmt_misc had, None if they are not known; `hidepid` says that /proc
     is mounted with this option (proc(5)), and `taken` has the places of file systems that were taken from their servers
     during the run. `too_large` are directories that were to be listed and hold too many objects. `machine` tells the
-    machine from others, "" if it is not known.
+    machine from others, "" if it is not known. `by` is the recorder: STRACE or WITNESS.
     """
 
     command: list[str]
@@ -72,6 +74,7 @@ class About:
     taken: list[str] = field(default_factory=list)
     too_large: list[str] = field(default_factory=list)
     machine: str = ""
+    by: str = STRACE
 
     @property
     def untraced(self) -> tuple[str, ...]:

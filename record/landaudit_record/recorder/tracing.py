@@ -119,12 +119,12 @@ def run(log: Path, command: list[str], *, readlink: bool = False) -> Outcome:
     are passed to everything that strace traces, and what has not ended after a while is killed. Nothing is left
     running: if the tracer was killed, what it traced is killed too, since most of its calls would fail.
     """
-    _adopt_orphans()
-    passing = _Passing()
+    adopt_orphans()
+    passing = Passing()
     with passing.installed():
         # Files that Python opens itself are not inherited (PEP 446), so these are the descriptors that it was given.
         tracer = subprocess.Popen(command_line(log, command, readlink=readlink), close_fds=False)
-        passing.tracer = tracer.pid
+        passing.reached = lambda: _traced_by(tracer.pid)
         with Freeing(tracer.pid, lambda: _traced_by(tracer.pid)) as freeing:
             tracer.returncode = _wait(tracer.pid)
     left = _kill_children() if tracer.returncode < 0 else 0
@@ -132,7 +132,7 @@ def run(log: Path, command: list[str], *, readlink: bool = False) -> Outcome:
     return Outcome(status, left == 0, tuple(freeing.taken))
 
 
-def _adopt_orphans() -> None:
+def adopt_orphans() -> None:
     """Makes this process the parent of orphans (prctl(2), PR_SET_CHILD_SUBREAPER)."""
     ctypes.CDLL(None).prctl(_PR_SET_CHILD_SUBREAPER, ctypes.c_ulong(1), *[ctypes.c_ulong(0)] * 3)
 
@@ -145,11 +145,11 @@ def _wait(tracer: int) -> int:
             return os.waitstatus_to_exitcode(status)
 
 
-class _Passing:
-    """Passes signals that ask for the end to what the tracer traces; kills it after a while, or at a second one."""
+class Passing:
+    """Passes signals that ask for the end to all that is recorded; kills it after a while, or at a second one."""
 
     def __init__(self) -> None:
-        self.tracer: int | None = None
+        self.reached: Callable[[], list[int]] = list
         self._asked = False
 
     @contextmanager
@@ -177,24 +177,19 @@ class _Passing:
         self._send(signal.SIGKILL)
 
     def _send(self, number: int) -> None:
-        if self.tracer is not None:
-            _send(_traced_by(self.tracer), number)
-
-
-def _send(pids: list[int], number: int) -> None:
-    for pid in pids:
-        try:
-            os.kill(pid, number)
-        except ProcessLookupError:
-            continue
+        for pid in self.reached():
+            try:
+                os.kill(pid, number)
+            except ProcessLookupError:
+                continue
 
 
 def _traced_by(tracer: int) -> list[int]:
     """The processes that a tracer traces."""
-    return _processes("TracerPid", tracer)
+    return processes("TracerPid", tracer)
 
 
-def _processes(field: str, value: int) -> list[int]:
+def processes(field: str, value: int) -> list[int]:
     """The processes whose status has a number in a field (proc(5))."""
     found = []
     for entry in os.scandir("/proc"):
@@ -210,7 +205,7 @@ def _processes(field: str, value: int) -> list[int]:
 def _kill_children() -> int:
     """Kills all descendants of this process, and returns how many of them had not ended."""
     killed = 0
-    while children := _processes("PPid", os.getpid()):
+    while children := processes("PPid", os.getpid()):
         for child in children:
             ended, _ = os.waitpid(child, os.WNOHANG)
             if not ended:

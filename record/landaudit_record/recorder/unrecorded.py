@@ -6,7 +6,7 @@ its kind and the same rights. What no record asks is counted as a call that a po
 
 from __future__ import annotations
 
-import socket
+import os
 from collections import Counter, defaultdict, deque
 from collections.abc import Callable, Iterator
 from pathlib import Path
@@ -24,9 +24,6 @@ LOST = "questions that the witness heard and lost"
 MISSED = "questions that the witness may have missed"
 UNHEARD = "what a module before the witness refuses, which it does not hear"
 SIGNAL = "signal"
-TCP = (0, socket.IPPROTO_TCP)
-MOUNTS = ("sb_mount", "sb_umount", "sb_pivotroot", "sb_remount", "move_mount")
-MS_REMOUNT = 32
 RENAME_EXCHANGE = 2
 #: Kinds of objects that rights for files treat alike; a device's descriptor remembers a right of its own.
 _KINDS = {"dir": "dir", "char": "device", "block": "device"}
@@ -47,11 +44,16 @@ def tell(folder: Path, recording: Recording) -> None:
         asked.take(record)
     looks = {entry["pid"] for entry in recording.left_out() if entry.get("class") == INTO_ANOTHER}
     signals = {entry["pid"] for entry in recording.left_out() if entry.get("scope") == SIGNAL}
-    Check(recording, asked, looks, signals).tell(heard)
-    _tell_gaps(recording, heard, bool(asked.layers))
+    check = Check(recording, asked, looks, signals)
+    check.tell(heard)
+    own = [{"call": call, "landlock": answer} for call, answer in check.own.items()]
+    (folder / witness.ANSWERS).unlink(missing_ok=True)
+    if own:
+        jsonl.write(folder / witness.ANSWERS, own)
+    tell_gaps(recording, heard, has_layers=bool(asked.layers))
 
 
-def _tell_gaps(recording: Recording, heard: Heard, has_layers: bool) -> None:
+def tell_gaps(recording: Recording, heard: Heard, *, has_layers: bool) -> None:
     """Counts what the witness itself says that it did not hear."""
     if heard.end is None:
         recording.leave_out(NOT_ENDED, 0, 0, witness.PROGRAM, asks=True)
@@ -64,11 +66,11 @@ def _tell_gaps(recording: Recording, heard: Heard, has_layers: bool) -> None:
 
 
 class Asked:
-    """What the records of a trace ask, in their order: for each question the names of the objects that it is about."""
+    """What the records of a trace ask, in their order: for each question its objects, and the calls that ask it."""
 
     def __init__(self, tree: Tree) -> None:
         self._tree = tree
-        self._names: dict[Question, deque[str]] = defaultdict(deque)
+        self._names: dict[Question, deque[tuple[str, int]]] = defaultdict(deque)
         self._opened: dict[int, dict[int, jsonl.Record]] = defaultdict(dict)
         self._held: dict[int, set[int]] = defaultdict(set)
         self.layers: Counter[int] = Counter()
@@ -79,8 +81,8 @@ class Asked:
         if taken is not None:
             taken(self, record)
 
-    def find(self, question: Question) -> str | None:
-        """The name of the object at which the next record asks a question, None if no record is left that does."""
+    def find(self, question: Question) -> tuple[str, int] | None:
+        """The name of the object at which the next record asks a question, and its call; None if no record is left."""
         names = self._names.get(question)
         return names.popleft() if names else None
 
@@ -90,7 +92,7 @@ class Asked:
         return line is not None and "made" not in line
 
     def _add(self, record: jsonl.Record, name: str, what: str, *about: str) -> None:
-        self._names[what, str(record["pid"]), *about].append(name)
+        self._names[what, str(record["pid"]), *about].append((name, record["call"]))
 
     def _kind(self, name: str) -> str | None:
         """The kind of an object by its name in the tree, None for what is not there."""
@@ -207,6 +209,8 @@ class Check:
         self._objects: dict[str, tuple[str, int]] = {}
         self._remounts: set[int] = set()
         self._restricted: Counter[tuple[int, int]] = Counter()
+        #: What Landlock alone answered to calls: the first refusal of each, or `ok`.
+        self.own: dict[int, str] = {}
 
     def tell(self, heard: Heard) -> None:
         """Counts each event that no record explains."""
@@ -216,12 +220,16 @@ class Check:
             self._ask_others(number, event)
 
     def _ask(self, question: Question, number: int, event: jsonl.Record) -> None:
-        name = self._asked.find(question)
-        if name is None and question[0] == "rename":
-            name = self._asked.find(_onto_a_file(question))
-        if name is None:
+        found = self._asked.find(question)
+        if found is None and question[0] == "rename":
+            found = self._asked.find(_onto_a_file(question))
+        if found is None:
             self._leave_out(NOT_RECORDED, number, event)
-        elif event.get("chain") and self._asked.is_there(name) and not event["path"].startswith(_UNSTABLE):
+            return
+        name, call = found
+        if "landlock" in event and self.own.get(call, "ok") == "ok":
+            self.own[call] = witness.answer(event)
+        if event.get("chain") and self._asked.is_there(name) and not event["path"].startswith(_UNSTABLE):
             device, inode = event["chain"][0][:2]
             if self._objects.setdefault(name, (device, inode)) != (device, inode):
                 self._leave_out(AT_ANOTHER, number, event)
@@ -239,10 +247,11 @@ class Check:
             yield from self._open(event, chain[0][4])
         elif hook in ("file_ioctl", "file_ioctl_compat", "file_truncate"):
             yield from self._on_file(event, chain[0][4])
-        elif hook in MOUNTS:
+        elif hook in witness.MOUNTS:
             yield from self._mount(event)
         elif hook in ("socket_bind", "socket_connect"):
-            yield from _of_socket(event)
+            if witness.asks_port(event):
+                yield hook.removeprefix("socket_"), pid, str(event["port"])
         elif hook in ("path_rename", "path_link"):
             kinds = chain[0][4], _over(event["to_chain"][0][4])
             exchange = "exchange" if hook == "path_rename" and event["flags"] & RENAME_EXCHANGE else ""
@@ -272,12 +281,8 @@ class Check:
 
     def _mount(self, event: jsonl.Record) -> Iterator[Question]:
         """A change of mounts; mount(2) with MS_REMOUNT asks twice."""
-        if event["hook"] == "sb_remount" and event["tid"] in self._remounts:
-            self._remounts.discard(event["tid"])
-            return
-        if event["hook"] == "sb_mount" and event["flags"] & MS_REMOUNT:
-            self._remounts.add(event["tid"])
-        yield "mount", str(event["pid"])
+        if not witness.is_again(event, self._remounts):
+            yield "mount", str(event["pid"])
 
     def _ask_others(self, number: int, event: jsonl.Record) -> None:
         """What is not asked about files or ports: another process, and a layer that the process gets."""
@@ -304,21 +309,15 @@ def _onto_a_file(question: Question) -> Question:
     return (*question[:5], question[5].replace("nothing", "file"), *question[6:])
 
 
-def _of_socket(event: jsonl.Record) -> Iterator[Question]:
-    """A port that Landlock is asked about: of a TCP socket, with an address of the socket's family."""
-    family, of = event["family"], event["of"]
-    if event["type"] != socket.SOCK_STREAM or event["protocol"] not in TCP:
-        return
-    if of not in (socket.AF_INET, socket.AF_INET6):
-        return
-    if family == of or (family == socket.AF_UNSPEC and of == socket.AF_INET and event["hook"] == "socket_bind"):
-        yield event["hook"].removeprefix("socket_"), str(event["pid"]), str(event["port"])
+def _readable(path: str) -> str:
+    """A path of an event, in which a byte that is not UTF-8 is written as in `\\xff`."""
+    return os.fsencode(text(path)).decode("utf-8", "backslashreplace")
 
 
 def described(event: jsonl.Record) -> str:
     """An event in words: the hook, what it is about, and the rights that depend on the call."""
     about = [event["hook"], event.get("rights", ""), event.get("kind", "")]
-    about += [text(event[name]) for name in ("path", "to") if name in event]
+    about += [_readable(event[name]) for name in ("path", "to") if name in event]
     about += [f"{name} {event[name]}" for name in ("port", "target", "signal") if name in event]
     about += ["(a part of its path)"] if event.get("cut") else []
     return " ".join(filter(None, about))

@@ -12,13 +12,13 @@ from dataclasses import dataclass
 from functools import lru_cache
 from pathlib import Path
 from types import TracebackType
-from typing import Any, Self
+from typing import Any, Protocol, Self
 
 from .. import jsonl
 from ..finished import CONVERTED, Converted, Part, Size, files_of_parts, numbered
 from ..living import Living, Members
 from ..trees import ROOT, directory_of, upwards
-from .names import OF_KIND, Names, Node, join
+from .names import OF_KIND, Node, join
 from .processes import FIRST_MADE_UP
 from .unsaid import CannotSay as CannotSay
 from .unsaid import NotUnderstood
@@ -41,6 +41,22 @@ UNDONE = ".converting-"
 _NO_PATH = re.compile(r"\A[^/]|\A\Z|/\.{0,2}(?:/|\Z)|\0")
 
 
+class Objects(Protocol):
+    """All objects that a run met, by their names at this moment and when the run began.
+
+    `turns` counts how often a directory got or lost a name, which changes the names of what is beneath it.
+    """
+
+    root: Node
+    turns: int
+
+    def at(self, path: str) -> Node | None:
+        """The object at a real path."""
+
+    def at_start(self, path: str) -> Node | None:
+        """The object that is at a path when the run begins, as far as that is known."""
+
+
 class Tree:
     """The names under which a recording lists objects; an object that is moved or linked has several.
 
@@ -49,7 +65,7 @@ class Tree:
     the run makes at one path share a name if they are of one kind: no rule is on them, so Landlock treats them alike.
     """
 
-    def __init__(self, names: Names) -> None:
+    def __init__(self, names: Objects) -> None:
         self._names = names
         self._owners: dict[str, Node | str] = {"/": names.root}
         self._given: dict[tuple[str, Node | str], str] = {}
