@@ -238,6 +238,14 @@ class Hearing(unittest.TestCase):
             ("close_rs", None, None, None, None),
         ])
 
+    def test_a_child_has_the_layers_of_its_maker(self) -> None:
+        fork, call = event("fork", child=11, thread=11), opened("/d/f", pid=11)
+        own = [RULESET | {"ruleset": "b"}, LAYER | {"ruleset": "b"}]
+        records = self.hear(RULESET, LAYER, fork, call, *(one | {"pid": 11, "tid": 11} for one in own), call)
+        self.assertEqual([one["op"] for one in records if one["pid"] == 11],
+                         ["open", "close", "create", "restrict", "close_rs", "open", "close"])
+        self.assertEqual(self.holes(), [])
+
     def test_a_rule_is_on_all_names_of_its_object(self) -> None:
         rule = event("add_path", "/d/f", ruleset="a", allowed=0b100, number=7)
         linked = moved("path_link", "/d/f", "/d/g", number=7)

@@ -19,6 +19,7 @@ FOLDER, RECORDINGS = Path("/tmp/probes"), Path("/tmp/recordings")
 GIVEN_SOCKET = "given_socket"
 #: What is measured: shell commands, each with the number of its turns in place of @.
 MEASURED = {
+    "start": "true",
     "cp": "n=0; while [ $n -lt @ ]; do n=$((n+1)); cp /etc/hostname /tmp/copy; done",
     "gcc": "n=0; while [ $n -lt @ ]; do n=$((n+1)); gcc -c -o /tmp/one.o /tmp/one.c; done",
 }
@@ -60,26 +61,24 @@ def spent(words: list[str]) -> float:
     return after.ru_utime + after.ru_stime - before.ru_utime - before.ru_stime
 
 
-def measure(checkout: str, turns: dict[str, int], times: int) -> dict[str, dict[str, float]]:
-    """The least time that each command takes bare, under the witness and under strace, in turn."""
+def measure(checkout: str, turns: dict[str, int]) -> dict[str, dict[str, float]]:
+    """The time that each command takes bare, under the witness and under strace, each after one turn without measure."""
     from landaudit_record.recorder import tracing
 
     Path("/tmp/one.c").write_text("#include <stdio.h>\nint main(void) { return puts(\"one\"); }\n")
     witness = f"{checkout}/witness/out/landaudit-witness"
-    least: dict[str, dict[str, float]] = {}
+    took: dict[str, dict[str, float]] = {}
     for name, count in turns.items():
-        command = ["sh", "-c", MEASURED[name].replace("@", str(count))]
-        for _ in range(times):
+        for turn in (1, count):
+            command = ["sh", "-c", MEASURED[name].replace("@", str(turn))]
             Path("/tmp/events").unlink(missing_ok=True)
-            for way, words in {
-                "bare": command,
-                "witness": [witness, "/tmp/events", "--", *command],
-                "strace": tracing.command_line(Path("/tmp/log"), command),
-            }.items():
-                took = spent(words)
-                print(name, way, f"{took:.2f} s", flush=True)
-                least.setdefault(name, {})[way] = min(took, least.get(name, {}).get(way, took))
-    return least
+            took[name] = {
+                "bare": spent(command),
+                "witness": spent([witness, "/tmp/events", "--", *command]),
+                "strace": spent(tracing.command_line(Path("/tmp/log"), command)),
+            }
+            print(name, turn, took[name], flush=True)
+    return took
 
 
 def test(checkout: str, modules: list[str]) -> str:
@@ -112,7 +111,7 @@ def main(checkout: str, probes: str, out: str) -> None:
     if "tests" in jobs:
         Path(out, "tests.txt").write_text(test(checkout, jobs["tests"]), encoding="utf-8")
     if "measure" in jobs:
-        found = measure(checkout, jobs["measure"], jobs["times"])
+        found = measure(checkout, jobs["measure"])
         Path(out, "measured.json").write_text(json.dumps(found), encoding="ascii")
 
 

@@ -86,7 +86,7 @@ def _is_kept(event: jsonl.Record) -> bool:
     return bool(event["hook"] == "file_truncate" or chain[0][4] in DEVICES)
 
 
-@dataclass(slots=True, eq=False)
+@dataclass(slots=True, eq=False, kw_only=True)
 class _Process:
     """A process: its threads as far as they are known, its open files by address, and its layers.
 
@@ -181,7 +181,7 @@ class Hearing:
         """The process of an event; one that is heard for the first time begins."""
         process = self._processes.get(event["pid"])
         if process is None:
-            process = self._processes[event["pid"]] = _Process(event["pid"])
+            process = self._processes[event["pid"]] = _Process(pid=event["pid"])
             is_first = self._recording.records == 0 and bool(self._about.command)
             nnp, admin = (self._about.nnp, self._about.admin) if is_first else (False, True)
             self._recording.write("start", process.pid, line, nnp=nnp, admin=admin)
@@ -215,8 +215,13 @@ class Hearing:
         if layers != process.layers:
             self._leave_out(OF_ONE_THREAD, line, event)
         self._processes[child] = _Process(
-            child, process, process.whole, {child: list(process.layers)}, list(process.layers), dict(process.opened),
-            process.promised,
+            pid=child,
+            maker=process,
+            whole=process.whole,
+            threads={child: list(process.layers)},
+            layers=list(process.layers),
+            opened=dict(process.opened),
+            promised=process.promised,
         )
         self._recording.write("fork", process.pid, line, child=child)
 
