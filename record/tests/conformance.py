@@ -1,12 +1,13 @@
 #!/usr/bin/env python3
 """Records real programs and random actors under policies, and compares landaudit's answers with what the kernel did.
 
-Prints the table of docs/CONFORMANCE.md. Each row is one recording, made by
+Prints the rows of docs/conformance.jsonl, which docs/CONFORMANCE.md explains. Each row is one recording, made by
 
     record/tests/conformance.py OUTDIR --only NAME/POLICY
 
 and kept in OUTDIR if something in it differs, or if --keep is given. The programs of other_programs.toml are recorded
-bare as well, and their rows say what the bare recording foretold of the refusals that the other runs met.
+bare as well, and their rows say what the bare recording foretold of the refusals that the other runs met. Standard
+error has the sums, and each refusal that was missed or foretold in vain.
 """
 
 from __future__ import annotations
@@ -20,6 +21,7 @@ import subprocess
 import sys
 import threading
 import tomllib
+from collections import Counter
 from collections.abc import Iterator, Sequence
 from contextlib import contextmanager
 from dataclasses import dataclass
@@ -155,30 +157,26 @@ def foretell(run: Run, out: Path, abi: int) -> foretelling.Foretold | None:
     return foretelling.compared(bare, out, run.policy, abi)
 
 
-def row(run: Run, found: dict[str, Any], told: foretelling.Foretold | None) -> str:
-    """A row of the table."""
-    policy = run.policy.stem if run.policy else OWN_LAYERS
+def row(run: Run, found: dict[str, Any], told: foretelling.Foretold | None) -> dict[str, Any]:
+    """A row: what was compared and what differs; then how many kinds of refusals were met, and what was said of them
+    before."""
+    line: dict[str, Any] = {"program": run.program, "policy": run.policy.stem if run.policy else OWN_LAYERS}
     if "fault" in found:
-        return f"| {run.program} | {policy} | {found['fault']} | | | | |"
-    differences = "; ".join(f"{it['times']} {it['class']}" for it in found["differences"])
-    columns = [run.program, policy, f"{found['calls']:,}", f"{found['agree']:,}", differences, *_foretold(told)]
-    return f"| {' | '.join(columns)} |"
-
-
-def _foretold(told: foretelling.Foretold | None) -> tuple[str, str]:
-    """The columns on what was foretold: of the kinds of refusals that were met, and false alarms."""
-    if told is None:
-        return "", ""
-    behind = f", {len(told.behind)} behind another" if told.behind else ""
-    missed = f", {len(told.missed)} MISSED" if told.missed else ""
-    return f"{len(told.foretold)} of {len(told.met)}{behind}{missed}", str(len(told.false_alarms))
+        return {**line, "fault": found["fault"]}
+    line |= {"calls": found["calls"], "agree": found["agree"]}
+    if found["differences"]:
+        line["differences"] = {one["class"]: one["times"] for one in found["differences"]}
+    if told is not None:
+        kinds = {"met": told.met, "foretold": told.foretold, "may_be": told.may_be, "behind": told.behind}
+        kinds |= {"missed": told.missed, "false_alarms": told.false_alarms}
+        line |= {name: len(refusals) for name, refusals in kinds.items() if refusals or name in ("met", "foretold")}
+    return line
 
 
 def table(chosen: Sequence[Run], arguments: argparse.Namespace) -> int:
-    """Makes the recordings and prints the table; the status is 1 if some difference has no name."""
-    print("| Program | Policy | Calls | Agree | Differences | Foretold | False alarms |")
-    print("|---|---|--:|--:|---|---|--:|", flush=True)
-    calls = agree = unnamed = 0
+    """Makes the recordings and prints the rows; the status is 1 if some difference has no name."""
+    sums: Counter[str] = Counter()
+    unnamed = 0
     for run in chosen:
         out = arguments.out / run.name.replace("/", "-")
         if arguments.again and out.exists():
@@ -188,15 +186,15 @@ def table(chosen: Sequence[Run], arguments: argparse.Namespace) -> int:
             record(run, out, arguments.abi)
         found = compare(out, arguments.abi)
         told = foretell(run, out, arguments.abi)
-        print(row(run, found, told), flush=True)
-        for line in foretelling.details(told) if told is not None else ():
-            print(f"{run.name}: {line}", file=sys.stderr, flush=True)
-        calls += found.get("calls", 0)
-        agree += found.get("agree", 0)
+        line = row(run, found, told)
+        print(json.dumps(line), flush=True)
+        for detail in foretelling.details(told) if told is not None else ():
+            print(f"{run.name}: {detail}", file=sys.stderr, flush=True)
+        sums.update({name: value for name, value in line.items() if isinstance(value, int)})
         unnamed += sum(it["times"] for it in found.get("differences", ()) if not it["named"]) + ("fault" in found)
         if not arguments.keep and found.get("differences") == [] and not (told is not None and told.is_wrong):
             shutil.rmtree(out)
-    print(f"| all {len(chosen)} | | {calls:,} | {agree:,} | {calls - agree:,} | | |")
+    print(f"{len(chosen)} rows: {dict(sums)}", file=sys.stderr)
     return 1 if unnamed else 0
 
 

@@ -55,13 +55,14 @@ class Refusal(NamedTuple):
 class Foretold:
     """The refusals that were met, and how they compare with those that the bare recording foretold.
 
-    `behind` were met by calls that the bare run never made: something else was refused before them. `missed` were met
+    `may_be` are those of which its audit said that they may be refused. `behind` were met by calls that the bare run never made: something else was refused before them. `missed` were met
     by calls that the bare run made too, and that its audit lets pass. `false_alarms` were foretold of calls that the
     run under the policy made, and that the kernel let pass.
     """
 
     met: frozenset[Refusal]
     foretold: frozenset[Refusal]
+    may_be: frozenset[Refusal]
     behind: frozenset[Refusal]
     missed: frozenset[Refusal]
     false_alarms: frozenset[Refusal]
@@ -81,9 +82,10 @@ def details(told: Foretold) -> Iterator[str]:
 
 def compared(bare: Path, confined: Path, policy: Path, abi: int) -> Foretold:
     """Compares the audit of a bare recording with what the run under the policy met."""
-    said = _refusals(_audit(bare, policy, abi))
+    audit = _audit(bare, policy, abi)
+    said, may_be = _refusals(audit), _refusals(audit, "may_be_refused")
     met = _met(confined, abi)
-    others = met - said
+    others = met - said - may_be
     made_bare = _made(bare, abi)
     missed = frozenset(refusal for refusal in others if refusal.asked in made_bare)
     made_confined = _made_under_layers(confined, abi)
@@ -91,6 +93,7 @@ def compared(bare: Path, confined: Path, policy: Path, abi: int) -> Foretold:
     return Foretold(
         met=met,
         foretold=met & said,
+        may_be=met & may_be - said,
         behind=others - missed,
         missed=missed,
         false_alarms=frozenset(refusal for refusal in said - met if refusal.asked in let_pass),
@@ -118,10 +121,12 @@ def _audit(recording: Path, policy: Path | None, abi: int) -> dict[str, Any]:
     return found
 
 
-def _refusals(audit: dict[str, Any]) -> frozenset[Refusal]:
-    """The refusals by layers of an audit."""
+def _refusals(audit: dict[str, Any], named: str = "refusals") -> frozenset[Refusal]:
+    """The refusals by layers of an audit, or the calls of which it says that they may be refused."""
     return frozenset(
-        Refusal(Asked(one["call"], alike(one["place"])), one["error"]) for one in audit["refusals"] if one["layers"]
+        Refusal(Asked(one["call"], alike(one["place"])), one["error"])
+        for one in audit[named]
+        if one["layers"] or named != "refusals"
     )
 
 

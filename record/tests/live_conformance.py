@@ -17,8 +17,8 @@ class LiveConformance(unittest.TestCase):
         words = [sys.executable, HERE / "conformance.py", folder, "--only", "cat/read-only"]
         run = subprocess.run(words, capture_output=True, text=True, check=False)
         self.assertEqual(run.returncode, 0, run.stderr)
-        rows = r"\n\| cat \| read-only \| (\d+) \| \1 \|  \|  \|  \|\n\| all 1 \| \| \1 \| \1 \| 0 \| \| \|\n\Z"
-        self.assertRegex(run.stdout, rows)
+        row = r'{"program": "cat", "policy": "read-only", "calls": (\d+), "agree": \1}\n\Z'
+        self.assertRegex(run.stdout, row)
 
 
 if __name__ == "__main__":

@@ -72,7 +72,7 @@ LOOKS = (
 EXPECTED = {
     "io_uring": _of("io_uring 18, io_uring 37, io_uring 16", holes=(beyond.BY_IO_URING,)),
     "handles": _of("open_by_handle_at", "open"),
-    "inside": _of("swapon, swapoff, acct", "open"),
+    "inside": _of("swapon, swapoff, acct", "open", holes=(beyond.WITHOUT_FOLDERS,)),
     "mounts": _of("mount, pivot_root, fsconfig", "mount"),
     "detached": _of("open in a new mount", holes=(mounts.WITHOUT_PLACE,)),
     "namespaces": _of("open given", "open"),
@@ -111,6 +111,13 @@ EXPECTED = {
     "without_times": _of(told=True, unsure=MADE_OR_THERE),
     "for_ioctl": _of("make, cut", "mknod, truncate"),
     "busy": _of(),
+    "checked": _of("check program", "open, exec"),
+    "bound_twice": _of("bind again", "mknod"),
+    "without_direct": _of("open /proc/self/comm, open /proc/self/stat", "open"),
+    "merged": _of("rename", "rename"),
+    "shown_twice": _of(),
+    "duplicated": _of(),
+    "of_owners": _of(),
 }
 
 
@@ -137,15 +144,24 @@ class LiveProbes(unittest.TestCase):
 
     def fill_state(self, state: Path) -> None:
         """A folder beside that one, which is not listed before the run."""
-        subprocess.run(["umount", state / "ram"], stderr=subprocess.DEVNULL, check=False)
+        places = [state / name for name in ("ram", "merged", "shown")]
+        subprocess.run(["umount", *places], stderr=subprocess.DEVNULL, check=False)
         shutil.rmtree(state, ignore_errors=True)
-        for name in ("directory", "first", "second", "ram"):
-            (state / name).mkdir(parents=True)
+        layers = [state / "layers" / name for name in ("low/lower", "up", "work")]
+        for folder in (*(state / name for name in ("directory", "first", "second")), *places, *layers):
+            folder.mkdir(parents=True)
         (state / "pid").write_text("1\n")
         (state / "now").symlink_to("first")
         os.mkfifo(state / "pipe")
-        if subprocess.run(["mount", "-t", "ramfs", "none", state / "ram"], stderr=subprocess.DEVNULL).returncode == 0:
-            self.addCleanup(subprocess.run, ["umount", state / "ram"], stderr=subprocess.DEVNULL, check=False)
+        layers = "lowerdir={0}/layers/low,upperdir={0}/layers/up,workdir={0}/layers/work".format(state)
+        self.mount(state / "ram", "-t", "ramfs", "none")
+        self.mount(state / "merged", "-t", "overlay", "-o", layers, "none")
+        self.mount(state / "shown", "--bind", state / "second")
+
+    def mount(self, place: Path, *words: str | Path) -> None:
+        """Mounts a file system for a test, if this user may."""
+        if subprocess.run(["mount", *words, place], stderr=subprocess.DEVNULL, check=False).returncode == 0:
+            self.addCleanup(subprocess.run, ["umount", place], stderr=subprocess.DEVNULL, check=False)
 
     def run_recorded(
         self, out: str, *command: str, options: tuple[str, ...] = (), stdin: socket.socket | None = None
@@ -189,6 +205,8 @@ class LiveProbes(unittest.TestCase):
                 self.assertNotIn("cut", str(audit["not_judged"]))
                 ops = {refusal["call"].split(" ")[0] for refusal in audit["refusals"]}
                 self.assertLessEqual(expected.foretold, ops)
+                if not (expected.met or expected.foretold or expected.told):
+                    self.assertEqual((audit["refusals"], audit["may_be_refused"]), ([], []))
                 if not expected.told:
                     self.assertEqual(self.holes("bare"), expected.holes)
                 elif expected.met:

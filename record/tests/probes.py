@@ -24,6 +24,7 @@ from collections.abc import Callable
 from pathlib import Path
 
 AT_FDCWD = -100
+AT_EXECVE_CHECK = 0x10000
 CLONE_FS = 0x200
 CLONE_UNTRACED = 0x800000
 CLONE_NEWPID = 0x20000000
@@ -55,6 +56,7 @@ CALLS = {
     "process_vm_readv": 310,
     "kcmp": 312,
     "seccomp": 317,
+    "execveat": 322,
     "io_uring_setup": 425,
     "io_uring_enter": 426,
     "open_tree": 428,
@@ -658,6 +660,55 @@ def busy() -> None:
     attempt("cut", lambda: os.truncate(sys.executable, 0))
 
 
+def checked() -> None:
+    """Asks whether files may be run, and goes on (execveat(2), AT_EXECVE_CHECK)."""
+    opened = os.open("out/cut", os.O_RDWR | os.O_CREAT | os.O_CLOEXEC)
+    for path in (b"/bin/true", b"program", b"given"):
+        words = (ctypes.c_char_p * 2)(path, None)
+        found = _libc.syscall(ctypes.c_long(CALLS["execveat"]), AT_FDCWD, path, words, None, AT_EXECVE_CHECK)
+        tell(f"check {path.decode()}", "ok" if found == 0 else errno.errorcode[ctypes.get_errno()])
+    attempt("ftruncate", lambda: os.ftruncate(opened, 0))
+
+
+def bound_twice() -> None:
+    """A UNIX socket that has a name already: Landlock is asked about the second one before the socket says EINVAL."""
+    with socket.socket(socket.AF_UNIX) as one:
+        attempt("bind", lambda: one.bind("\0landaudit-probe"))
+        attempt("bind again", lambda: one.bind("kept/socket"))
+
+
+def without_direct() -> None:
+    """Opens by O_DIRECT in a file system that does not have it, which says so after Landlock was asked."""
+    for path in ("/proc/self/comm", "/proc/self/stat"):
+        attempt(f"open {path}", lambda: os.open(path, os.O_WRONLY | os.O_DIRECT))
+
+
+def merged() -> None:
+    """A directory of a lower layer, which overlayfs does not rename: it says so after Landlock was asked."""
+    attempt("rename", lambda: (STATE / "merged" / "lower").rename(STATE / "merged" / "other"))
+
+
+def shown_twice() -> None:
+    """A directory that is mounted a second time: a rule on it counts at both places."""
+    for place in ("second", "shown"):
+        attempt(f"make in {place}", lambda: (STATE / place / f"made-{place}").mkdir())
+
+
+def duplicated() -> None:
+    """A duplicate of a ruleset, and the first closed."""
+    first = _ruleset()
+    second = os.dup(first)
+    os.close(first)
+    restrict(second)
+
+
+def of_owners() -> None:
+    """Only its owner may open a file so that its times stay: a user who is not says EPERM, whatever a policy says."""
+    if os.geteuid() == 0:
+        os.setuid(65534)
+    attempt("open", lambda: os.open("given", os.O_RDONLY | os.O_NOATIME))
+
+
 PROBES: dict[str, Callable[[], None]] = {
     function.__name__: function
     for function in (
@@ -699,6 +750,13 @@ PROBES: dict[str, Callable[[], None]] = {
         without_times,
         for_ioctl,
         busy,
+        checked,
+        bound_twice,
+        without_direct,
+        merged,
+        shown_twice,
+        duplicated,
+        of_owners,
     )
 }
 

@@ -21,7 +21,7 @@ from . import test_run
 from .test_cli import said
 from .written_logs import FIRST
 
-OLD, NEW = (Mount(place, f"0:{number}", "fuse", ("rw",)) for place, number in (("/home", 40), ("/w/mounted", 41)))
+OLD, NEW = (Mount(place, f"0:{number}", "/", "fuse", ("rw",)) for place, number in (("/home", 40), ("/w/mounted", 41)))
 MOUNTINFO = """\
 22 1 0:21 / /proc rw,nosuid shared:5 - proc proc rw
 46 29 0:43 / /a\\040b rw,nosuid,nodev,relatime shared:2 - fuse.sshfs host: rw,user_id=0,group_id=0

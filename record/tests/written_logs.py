@@ -36,7 +36,7 @@ class WrittenLogs(unittest.TestCase):
     """A test on lines; a line without a thread's number is of the first process, 10.
 
     `readlink` says whether the recording was made with readlink(2), `hidepid` whether /proc has this option; `formats`
-    are those that binfmt_misc had, `descriptors` those that the command was given.
+    are those that binfmt_misc had, `descriptors` those that the command was given, `mounts` those of its namespace.
     """
 
     readlink = True
@@ -44,6 +44,7 @@ class WrittenLogs(unittest.TestCase):
     formats: list[dict[str, Any]] | None = None
     disk = DISK
     descriptors: dict[str, dict[str, Any]] = {}
+    mounts: list[list[str]] = []
 
     def setUp(self) -> None:
         folder = tempfile.TemporaryDirectory()
@@ -62,7 +63,7 @@ class WrittenLogs(unittest.TestCase):
     def conversion(self, *lines: str) -> Converted:
         """What the conversion of lines says of itself."""
         about = recordings.About(["p"], "/w", 0.0, False, True, self.descriptors, looks=True, readlink=self.readlink)
-        replace(about, formats=self.formats, hidepid=self.hidepid).write(self.out)
+        replace(about, formats=self.formats, hidepid=self.hidepid, mounts=self.mounts).write(self.out)
         jsonl.write(self.out / recordings.OBJECTS, self.disk)
         whole = [FIRST, *(line if line[:1].isdigit() else f"10  {line}" for line in lines)]
         (self.out / "strace.txt").write_text("".join(line + "\n" for line in whole), encoding="ascii")

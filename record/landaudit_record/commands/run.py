@@ -18,7 +18,7 @@ from .. import PROGRAMS, RECORDER, confining, landaudit, policies, surroundings,
 from ..options import add_abi
 from ..policies import Policy
 from ..problems import USAGE, WANTING, Problem
-from ..recorder import beside, formats, listening, recordings, tracing, witness
+from ..recorder import beside, formats, listening, mounted, recordings, tracing, witness
 from ..recorder.listening import Running
 from ..variables import Given
 from . import audit, convert
@@ -328,4 +328,5 @@ def _about(command: list[str], seen: recordings.Watched, strace: str = "") -> re
         formats=formats.registered(),
         hidepid=recordings.hides_processes(),
         machine=surroundings.machine(),
+        mounts=[[mount.place, mount.device, mount.root] for mount in mounted.mounts()],
     )

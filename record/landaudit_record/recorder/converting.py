@@ -10,6 +10,7 @@ from ..problems import Problem
 from . import disk, hearing, strace_log, unrecorded
 from .calls import HANDLERS, arguments, others
 from .modes import NOBODY_KNOWN
+from .mounted import Places
 from .names import Doubts, Names, UnknownWay
 from .ports import Ports
 from .processes import Handle, Place, Process, Thread
@@ -52,7 +53,8 @@ def _convert(
 ) -> Converted | None:
     """One conversion; None if it added to the `found` doubts."""
     log = strace_log.find_log(folder)
-    names = Names(kept, read_before(folder), about.watched, about.whiteouts, about.unlisted, doubts)
+    places = Places(about.mounts)
+    names = Names(kept, read_before(folder), about.watched, about.whiteouts, about.unlisted, doubts, places)
     with Recording(folder, Tree(names), limits) as recording, Progress("records") as progress:
         births = strace_log.births(log)
         scene = Scene(names, kept, recording, births, ports, reads_links=about.readlink, hides=about.hidepid)

@@ -1,8 +1,9 @@
-"""What is mounted (proc(5), mountinfo)."""
+"""What is mounted (proc(5), mountinfo), and which paths lead to one object because a file system is mounted twice."""
 
 from __future__ import annotations
 
-from collections.abc import Iterable
+from collections import Counter
+from collections.abc import Iterable, Sequence
 from dataclasses import dataclass
 from pathlib import Path
 
@@ -22,10 +23,12 @@ SERVED = ("fuse", "fuseblk")
 
 @dataclass(frozen=True, slots=True)
 class Mount:
-    """A mount: where it is, the number of its file system's device, its type, and the options of the file system."""
+    """A mount: where it is, the number of its file system's device, the directory of the file system that is mounted,
+    the file system's type, and its options."""
 
     place: str
     device: str
+    root: str
     kind: str
     options: tuple[str, ...]
 
@@ -38,9 +41,13 @@ def mounts(file: Path = MOUNTS) -> list[Mount]:
 
 def _mount(fields: list[str]) -> Mount:
     """A line's mount; the escapes of a name stand for its bytes."""
-    place = fields[4] if "\\" in fields[4] else fields[4].encode("latin-1").decode("utf-8", "surrogateescape")
+    root, place = (_name(field) for field in fields[3:5])
     kind = fields[fields.index("-") + 1]
-    return Mount(unescaped(place), fields[2], kind, tuple(fields[-1].split(",")))
+    return Mount(place, fields[2], root, kind, tuple(fields[-1].split(",")))
+
+
+def _name(field: str) -> str:
+    return unescaped(field if "\\" in field else field.encode("latin-1").decode("utf-8", "surrogateescape"))
 
 
 def of_kernel(among: Iterable[Mount]) -> list[str]:
@@ -51,3 +58,51 @@ def of_kernel(among: Iterable[Mount]) -> list[str]:
 def served(among: Iterable[Mount]) -> set[Mount]:
     """The mounts of file systems that a process serves."""
     return {mount for mount in among if mount.kind.partition(".")[0] in SERVED}
+
+
+class Places:
+    """The mounts of a run when it began, each with its place, its device, and what of the file system it shows."""
+
+    def __init__(self, mounts: Iterable[Sequence[str]] = ()) -> None:
+        self._at = {place: (device, root) for place, device, root in mounts}
+        several = Counter(device for device, _ in self._at.values())
+        self._several = {device for device, number in several.items() if number > 1}
+
+    def _of(self, path: str) -> str:
+        """The place of the mount that a path is in."""
+        while path not in self._at and path != "/":
+            path = path.rpartition("/")[0] or "/"
+        return path
+
+    def are_one(self, one: str, other: str) -> bool:
+        """Whether two paths are known to be in one mount."""
+        return bool(self._at) and self._of(one) == self._of(other)
+
+    def others(self, path: str) -> list[str]:
+        """The other paths of an object, which it has by other mounts of its file system (mount(2), MS_BIND).
+
+        A directory that does not show the same at all of them, because something is mounted below it, has none.
+        """
+        here = self._of(path)
+        device, root = self._at.get(here, ("", ""))
+        if device not in self._several:
+            return []
+        inner = _beneath(root, _inside(here, path) or "")
+        found = [path]
+        for place, (on, shown) in self._at.items():
+            rest = _inside(shown, inner) if on == device and place != here else None
+            if rest is not None and self._of(_beneath(place, rest)) == place:
+                found.append(_beneath(place, rest))
+        below = tuple(f"{one.rstrip('/')}/" for one in found)
+        return [] if any(place.startswith(below) for place in self._at if place != "/") else found[1:]
+
+
+def _inside(top: str, path: str) -> str | None:
+    """The rest of a path below a directory; None if it is not there."""
+    if top == "/" or path == top or path.startswith(f"{top}/"):
+        return path[len(top) :].strip("/")
+    return None
+
+
+def _beneath(top: str, rest: str) -> str:
+    return f"{top.rstrip('/')}/{rest}" if rest else top

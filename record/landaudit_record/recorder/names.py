@@ -15,6 +15,7 @@ from typing import Protocol
 
 from . import values
 from .disk import WHITEOUT, Disk, Program, Seen
+from .mounted import Places
 from .unsaid import CannotSay
 
 MOST_LINKS = 40
@@ -178,8 +179,10 @@ class Names:
         whiteouts: str = "char",
         unlisted: Sequence[str] = (),
         doubts: Doubts | None = None,
+        places: Places | None = None,
     ) -> None:
         self.whiteouts = whiteouts
+        self.places = Places() if places is None else places
         self.doubts = Doubts() if doubts is None else doubts
         self.line = 0
         self._late: dict[str, _Late] = {}
@@ -213,16 +216,27 @@ class Names:
         seen = self._seen(node, name, start)
         found = None
         if seen is not None:
-            found = self._linked.get(seen.inode) if seen.inode is not None else None
+            inode = seen.inode or self._first_of(start or _beneath(node, name))
+            found = self._linked.get(inode) if inode is not None else None
             if found is None:
                 origin = _beneath(node, name) if seen.kind == "dir" else None
                 found = Node(self.kind(seen.kind), seen.target, origin, start=start)
-            if seen.inode is not None:
-                self._linked[seen.inode] = found
+            if inode is not None:
+                self._linked[inode] = found
             found.over, found.name = node, name
         if start is not None and (found is not None or self._is_watched(start)):
             self._starts[start] = found
         return found
+
+    def _first_of(self, path: str | None) -> str | None:
+        """What stands for an object that has several paths by several mounts: the first of them."""
+        others = self.places.others(path) if path is not None else []
+        return min([path, *others]) if path is not None and others else None
+
+    def further(self, node: Node) -> list[str]:
+        """The other paths that an object has by other mounts when the run begins."""
+        others = self.places.others(node.start) if node.start else []
+        return [path for path in others if self.at_start(path) is node]
 
     def _seen(self, node: Node, name: str, start: str | None) -> Seen | None:
         """What a listing says about a name, or the disk as it was seen later."""
@@ -326,7 +340,13 @@ class Names:
             directory = self._starts.get(over or "/")
             if directory is not None and directory.kind == "dir" and name not in directory.children:
                 directory.children[name] = self._initial(directory, name)
-        return self._starts.get(path)
+        found = self._starts.get(path)
+        return found if found is not None else self._by_other_mount(path)
+
+    def _by_other_mount(self, path: str) -> Node | None:
+        """The object that is at a path when the run begins, if it is known by another path that it has."""
+        others = (self._starts.get(other) for other in self.places.others(path))
+        return next((node for node in others if node is not None), None)
 
     def at(self, path: str) -> Node | None:
         """The object at a real path, one without links on its way."""

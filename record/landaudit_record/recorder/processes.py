@@ -15,10 +15,10 @@ class Handle:
     """What is known about an open descriptor of a process.
 
     `node` is the object that it is open on, if that has a path and is known. `in_trace` says whether a record opened
-    or adopted it; `adopted` is the kind with which it is adopted when it is first needed; `ruleset` says whether it is
-    a Landlock ruleset; `tcp` is the family of a TCP socket. `foreign` says that the process did not open it, so nobody
-    knows what Landlock kept with it; `placeless` says that it is in a mount that has no place in the tree, `unsure`
-    that nothing says whether it is open on a device.
+    or adopted it; `adopted` is the kind with which it is adopted when it is first needed; `ruleset` is the
+    number that the trace has for the Landlock ruleset that it is; `tcp` is the family of a TCP socket. `foreign` says
+    that the process did not open it, so nobody knows what Landlock kept with it; `placeless` says that it is in a mount
+    that has no place in the tree, `unsure` that nothing says whether it is open on a device.
     """
 
     path: str | None = None
@@ -26,7 +26,7 @@ class Handle:
     in_trace: bool = False
     adopted: str = "other"
     close_on_exec: bool = False
-    ruleset: bool = False
+    ruleset: int | None = None
     tcp: int | None = None
     foreign: bool = False
     placeless: bool = False
@@ -90,6 +90,10 @@ class Process:
     looks: bool = False
     unseen_layer: bool = False
     user: User = NOBODY_KNOWN
+
+    def holds(self, ruleset: int) -> bool:
+        """Whether a descriptor of the process is the ruleset that the trace has under a number."""
+        return any(handle.ruleset == ruleset for handle in self.table.values())
 
     def made_up(self) -> int:
         """A number that no descriptor of the process ever has."""

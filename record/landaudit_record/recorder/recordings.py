@@ -49,7 +49,9 @@ class About:
     links were traced. `formats` are those that binfmt_misc had, None if they are not known; `hidepid` says that /proc
     is mounted with this option (proc(5)), and `taken` has the places of file systems that were taken from their servers
     during the run. `too_large` are directories that were to be listed and hold too many objects. `machine` tells the
-    machine from others, "" if it is not known. `by` is the recorder: STRACE or WITNESS.
+    machine from others, "" if it is not known. `mounts` are those of the command's namespace when the run began, each
+    with its place, its device, and the directory of the file system that it shows.
+    `by` is the recorder: STRACE or WITNESS.
     """
 
     command: list[str]
@@ -75,6 +77,7 @@ class About:
     too_large: list[str] = field(default_factory=list)
     machine: str = ""
     by: str = STRACE
+    mounts: list[list[str]] = field(default_factory=list)
 
     @property
     def untraced(self) -> tuple[str, ...]:

@@ -144,7 +144,7 @@ class Scene:
             raise NotAsked(BY_MODES)
         if process.unseen_layer and error in ERRORS_OF_LAYERS:
             raise CannotSay(BY_UNSEEN_LAYER)
-        if error == "EXDEV" and not process.confined:
+        if error == "EXDEV" and not process.confined and not self._in_one_mount(members):
             raise NotAsked("EXDEV before Landlock is asked")
         others = self._others(members) if self.tree.doubted else []
         if others:
@@ -177,6 +177,12 @@ class Scene:
                 {**one, member: spot.path, shown: spot.shown, "unknown": node.doubt} for one in found for spot in spots
             ]
         return found[1:]
+
+    def _in_one_mount(self, members: Members) -> bool:
+        """Whether a move or link stays in one mount: then the file system says EXDEV, after Landlock was asked."""
+        paths = (str(members.get(shown) or members.get(path)) for path, shown in (("from", "shown"), ("to", "shown_to")))
+        over, to = (path.rpartition("/")[0] or "/" for path in paths)
+        return over == to or self.names.places.are_one(over, to)
 
     def _modes_refuse(self, process: Process, call: Call, op: str, members: Members) -> bool:
         """Whether file modes refuse a call, as far as they are known."""
@@ -364,8 +370,9 @@ class Scene:
         handle = thread.process.table.pop(number, None)
         if handle is None:
             return
-        if handle.ruleset:
-            self.note(thread, call, "close_rs", rs=number)
+        if handle.ruleset is not None:
+            if not thread.process.holds(handle.ruleset):
+                self.note(thread, call, "close_rs", rs=handle.ruleset)
         elif handle.in_trace:
             self.note_close(thread, call, number)
 

@@ -102,6 +102,8 @@ class Tree:
             if real.count("/") > DEEP:
                 self._list_over(real)
             self._list_start(node)
+            for further in self._names.further(node):
+                self._named(self._wanted(further), further, node)
             text = self._places[real, node] = "/" if real == "/" else self._named(self._wanted(real), real, node)
             if node.others:
                 self._doubt(real, text, node)

@@ -11,22 +11,28 @@ from ..scene import NO_PATH, Scene, Spot
 from ..strace_log import Call
 from ..values import Descriptor
 from ..unsaid import CannotSay, NotAsked
+from .invalid import is_invalid
 
 AT_EMPTY_PATH = 0x1000
 AT_SYMLINK_FOLLOW = 0x400
 AT_SYMLINK_NOFOLLOW = 0x100
 
 #: Errors with which a call fails before the kernel has looked at its paths.
-BEFORE_PATHS = frozenset({"EBADF", "EFAULT", "EINVAL", "EMFILE", "ENAMETOOLONG", "ENFILE", "ENOSYS"})
+_BEFORE_PATHS = frozenset({"EBADF", "EFAULT", "EMFILE", "ENAMETOOLONG", "ENFILE", "ENOSYS"})
 
 #: The error of a call that would change a file system which is mounted read-only; the kernel finds it first.
-READ_ONLY = "EROFS"
+_READ_ONLY = "EROFS"
 
 #: Calls by which the kernel asks Landlock for the removal of a directory before it sees that there is none.
 REMOVING = frozenset({"rmdir", "unlinkat"})
 
 #: Errors that may mean that a path led nowhere.
-NOT_REACHED = frozenset({"ENOENT", "ENOTDIR", "ELOOP", "ENXIO"})
+NOT_REACHED = frozenset({"ENOENT", "ENOTDIR", "ELOOP"})
+
+
+def is_before_paths(call: Call) -> bool:
+    """Whether a call failed before the kernel looked at its paths."""
+    return call.error in _BEFORE_PATHS or (call.error == "EINVAL" and is_invalid(call))
 
 
 def path_at(call: Call, index: int) -> str:
@@ -45,7 +51,7 @@ def number_at(call: Call, index: int) -> int:
 
 def spot_at(scene: Scene, thread: Thread, call: Call, base: int | None, path: int, follow: bool) -> Spot:
     """What a path argument names, from the directory that the argument `base` is a descriptor of."""
-    if call.error in BEFORE_PATHS or call.error == READ_ONLY:
+    if call.error == _READ_ONLY or is_before_paths(call):
         raise NotAsked(f"{call.error} before Landlock is asked")
     named = path_at(call, path)
     if call.error == "ENOTDIR" and named.endswith("/") and call.name not in REMOVING:

@@ -29,6 +29,7 @@ BY_SUPERVISOR = "calls that a supervisor may let the kernel make unseen (seccomp
 QUEUE = "a message queue that mq_open opens"
 PINNED = "an object that bpf gives a name"
 LIBRARY = "a library that uselib loads"
+WITHOUT_FOLDERS = "a file that acct opens a second time: only rules on the file itself count (Linux 6.18)"
 
 #: Errors with which open_by_handle_at(2) fails before it opens something.
 BEFORE_OPENING = frozenset({"EBADF", "EFAULT", "EINVAL", "ELOOP", "EOPNOTSUPP", "EOVERFLOW", "EPERM", "ESTALE"})
@@ -103,6 +104,8 @@ def _acct(scene: Scene, thread: Thread, call: Call) -> None:
     if call.error == "EPERM":
         raise NotAsked(f"{call.error} before Landlock is asked")
     _opened_inside(scene, thread, call, "w")
+    if call.error != "ENOENT":
+        scene.leave_out(thread, call, WITHOUT_FOLDERS, asks=True)
 
 
 def _opened_inside(scene: Scene, thread: Thread, call: Call, mode: str) -> None:

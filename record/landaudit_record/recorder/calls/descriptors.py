@@ -94,12 +94,10 @@ def _duplicated(scene: Scene, thread: Thread, call: Call, close_on_exec: bool) -
     if handle is None or of.number == call.value:
         return
     table = thread.process.table
-    if handle.ruleset or not handle.in_trace:
+    if not handle.in_trace:
         scene.put(thread, call, call.value, handle.duplicate(close_on_exec=close_on_exec))
-        if handle.ruleset:
-            raise CannotSay("a duplicate of a ruleset's descriptor")
         return
-    if call.value in table and table[call.value].ruleset:
+    if call.value in table and table[call.value].ruleset is not None:
         scene.close(thread, call, call.value)
     scene.note(thread, call, "dup", fd=of.number, to=call.value)
     table[call.value] = handle.duplicate(close_on_exec=close_on_exec)

@@ -72,7 +72,7 @@ def bound(scene: Scene, thread: Thread, call: Call) -> None:
     """A UNIX socket that is bound to a name is made like any other object (bind(2), unix(7))."""
     path = values.member(call.arguments[1], "sun_path")
     name = values.text(path) if path is not None else None
-    if name and call.error not in arguments.BEFORE_PATHS:
+    if name and not arguments.is_before_paths(call):
         _made(scene, thread, call, "mknod", scene.spot(thread, None, name, False), Node("sock"), kind="sock")
 
 

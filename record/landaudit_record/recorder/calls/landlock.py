@@ -68,8 +68,9 @@ def _create_ruleset(scene: Scene, thread: Thread, call: Call) -> None:
     can_be_said = bool(files or ports) or not call.ok
     number = thread.process.made_up()
     if call.ok and call.value is not None:
-        number = call.value
-        scene.put(thread, call, number, Handle(close_on_exec=True, ruleset=can_be_said))
+        scene.close(thread, call, call.value)
+        number = call.value if not thread.process.holds(call.value) else number
+        scene.put(thread, call, call.value, Handle(close_on_exec=True, ruleset=number if can_be_said else None))
     if scoped:
         scene.leave_out(thread, call, OF_SCOPES)
     if can_be_said:
@@ -81,7 +82,7 @@ def _unsaid(call: Call, reason: str) -> CannotSay:
     return CannotSay(reason) if call.ok else NotAsked(reason)
 
 
-def _ruleset(scene: Scene, thread: Thread, call: Call, flags: int, known: int = 0) -> int:
+def _ruleset(thread: Thread, call: Call, flags: int, known: int = 0) -> int:
     """The number of the ruleset of a call without flags; a number that names no ruleset gets one of its own.
 
     Flags that are `known` change no answer if the kernel takes them.
@@ -91,6 +92,9 @@ def _ruleset(scene: Scene, thread: Thread, call: Call, flags: int, known: int = 
         raise NotAsked(WITH_FLAGS)
     if given & ~known or (given and not call.ok):
         raise _unsaid(call, WITH_FLAGS)
+    handle = thread.process.table.get(number)
+    if handle is not None and handle.ruleset is not None:
+        return handle.ruleset
     return number if number >= 0 else thread.process.made_up()
 
 
@@ -103,7 +107,7 @@ def _is_foreign(scene: Scene, thread: Thread, call: Call) -> bool:
 def _add_rule(scene: Scene, thread: Thread, call: Call) -> None:
     if _is_foreign(scene, thread, call):
         raise NotAsked("a rule of a ruleset that came from elsewhere")
-    number = _ruleset(scene, thread, call, 3)
+    number = _ruleset(thread, call, 3)
     kind = arguments.number_at(call, 1)
     if call.error == "EFAULT":
         return
@@ -119,7 +123,7 @@ def _add_path(scene: Scene, thread: Thread, call: Call, number: int) -> None:
     parent = values.member(call.arguments[2], "parent_fd")
     allowed = values.member(call.arguments[2], "allowed_access")
     of = values.descriptor(parent) if parent is not None else None
-    if of is None or of.path is None or allowed is None:
+    if of is None or of.path is None or of.in_memory or allowed is None:
         raise NotAsked("a rule under what has no path")
     spot = scene.opened(thread, of)
     node = spot.node or scene.names.ensure(of.path, "dir")
@@ -143,10 +147,13 @@ def _add_port(scene: Scene, thread: Thread, call: Call, number: int) -> None:
 
 
 def _restrict_self(scene: Scene, thread: Thread, call: Call) -> None:
+    """A new layer, with any flags for logging; without a ruleset these flags make none."""
+    if call.ok and values.descriptor(call.arguments[0]).number < 0:
+        raise NotAsked(WITH_FLAGS)
     thread.process.confined |= call.ok
     if _is_foreign(scene, thread, call):
         _restricted_unseen(thread, call)
-    number = _ruleset(scene, thread, call, 1, LOGGING)
+    number = _ruleset(thread, call, 1, LOGGING)
     restricted = thread.process.restricted
     if call.ok and thread.layers < len(restricted):
         if restricted[thread.layers] != number:

@@ -2,6 +2,7 @@
 
 from __future__ import annotations
 
+import re
 from contextlib import suppress
 from dataclasses import dataclass, replace
 from typing import Any
@@ -20,6 +21,7 @@ O_EXCL = 0o200
 O_TRUNC = 0o1000
 O_DIRECTORY = 0o200000
 O_NOFOLLOW = 0o400000
+O_NOATIME = 0o1000000
 O_CLOEXEC = 0o2000000
 O_PATH = 0o10000000
 O_TMPFILE = 0o20000000 | O_DIRECTORY
@@ -31,6 +33,15 @@ RESOLVE_IN_ROOT = 0x10
 RESOLVE_ERRORS = frozenset({"EAGAIN", "ELOOP", "EXDEV"})
 #: Errors of an open that may have made a file, or would have.
 MAY_BE_MADE = frozenset({"EACCES", "EPERM"})
+#: What an object may be at which an open ends in ENXIO: a pipe without a reader, a device without a driver (open(2)).
+WITHOUT_READER = ("fifo", "char", "block")
+#: Files whose writer gives the kernel the path of another file, which it opens: the interpreter of a format with the
+#: flag F (binfmt_misc), what a zram device or a USB gadget stores.
+_TAKING_PATHS = re.compile(
+    r"/proc/sys/fs/binfmt_misc/register|/sys/(?:block|devices/virtual/block)/zram\d+/backing_dev"
+    r"|/sys/kernel/config/usb_gadget/.*/lun\.\d+/file"
+)
+BY_WRITING = "a file that the kernel opens because its path is written into another one"
 #: The name of a file that O_TMPFILE would have made if it had been allowed.
 UNNAMED = "#tmpfile"
 
@@ -44,6 +55,8 @@ def _openat(scene: Scene, thread: Thread, call: Call) -> None:
 
 
 def _openat2(scene: Scene, thread: Thread, call: Call) -> None:
+    if call.error == "E2BIG":
+        raise NotAsked("E2BIG before Landlock is asked")
     member = values.member(call.arguments[2], "resolve")
     resolve = values.number(member) if member is not None else 0
     if call.error in RESOLVE_ERRORS and resolve:
@@ -115,6 +128,8 @@ def succeeded(
         scene.names.put(result.path, handle.node)
     elif flags & ACCESS_MODE:
         scene.names.rewritten(result.path)
+        if _TAKING_PATHS.fullmatch(result.path):
+            scene.leave_out(thread, call, BY_WRITING, asks=True)
 
 
 @dataclass(slots=True)
@@ -252,13 +267,16 @@ def _failed(scene: Scene, thread: Thread, call: Call, base: int | None, path: in
 
 
 def _comes_before(call: Call, spot: Spot, flags: int) -> bool:
-    """Whether an open failed before Landlock was asked: a program that runs, or an immutable file, can't be written.
+    """Whether an open failed before Landlock was asked: a program that runs, or an immutable file, can't be written,
+    and only its owner reads a file with O_NOATIME.
 
     A device says EPERM itself, after Landlock. That no file can be made in an immutable directory comes after it too.
     """
-    writes = bool(flags & (ACCESS_MODE | O_TRUNC)) or bool(flags & O_CREAT)
+    writes = bool(flags & (ACCESS_MODE | O_TRUNC | O_CREAT))
     on_file = spot.node is not None and spot.node.kind in ("reg", "dir")
-    return writes and (call.error == "ETXTBSY" or (call.error == "EPERM" and on_file))
+    if call.error == "EPERM":
+        return on_file and (writes or bool(flags & O_NOATIME))
+    return writes and call.error == "ETXTBSY"
 
 
 def _after_failure(scene: Scene, call: Call, spot: Spot, flags: int) -> Spot:
@@ -270,6 +288,8 @@ def _after_failure(scene: Scene, call: Call, spot: Spot, flags: int) -> Spot:
         return _without_name(scene, join([*split(spot.real), UNNAMED])) if there else scene.as_missing(spot)
     if flags & O_CREAT:
         return scene.as_missing(spot) if call.error == "ENOENT" else spot
+    if call.error == "ENXIO":
+        return arguments.object_at(scene, call, spot, WITHOUT_READER[0], WITHOUT_READER)
     return arguments.object_at(scene, call, spot, "dir" if flags & O_DIRECTORY else "reg", _kinds(flags))
 
 

@@ -14,6 +14,7 @@ from . import arguments, users
 from .descriptors import OWN_TABLE
 
 CLONE_UNTRACED = 0x800000
+AT_EXECVE_CHECK = 0x10000
 NOT_FOLLOWED = "a process that strace can't follow (CLONE_UNTRACED)"
 UNKNOWN_PROGRAM = "a program whose interpreter or loader is not known: it was gone, or another, when it was read"
 UNKNOWN_FORMAT = "a program that the kernel runs by a format which is not known (binfmt_misc)"
@@ -24,8 +25,20 @@ def _execve(scene: Scene, thread: Thread, call: Call) -> None:
 
 
 def _execveat(scene: Scene, thread: Thread, call: Call) -> None:
-    follow = not arguments.number_at(call, 4) & arguments.AT_SYMLINK_NOFOLLOW
-    _run(scene, thread, call, arguments.spot_at(scene, thread, call, 0, 1, follow))
+    flags = arguments.number_at(call, 4)
+    spot = arguments.spot_at(scene, thread, call, 0, 1, not flags & arguments.AT_SYMLINK_NOFOLLOW)
+    if flags & AT_EXECVE_CHECK:
+        _check(scene, thread, call, spot)
+    else:
+        _run(scene, thread, call, spot)
+
+
+def _check(scene: Scene, thread: Thread, call: Call, spot: Spot) -> None:
+    """Only asks whether a file may be run: the kernel opens it, and nothing else (execveat(2), AT_EXECVE_CHECK)."""
+    spot = _program(scene, call, spot)
+    number = None if values.is_in_memory(spot.real) else _run_one(scene, thread, call, spot, None)
+    if number is not None:
+        scene.note_close(thread, call, number)
 
 
 def _run(scene: Scene, thread: Thread, call: Call, spot: Spot) -> None:
@@ -34,10 +47,7 @@ def _run(scene: Scene, thread: Thread, call: Call, spot: Spot) -> None:
     Landlock is not asked about a program that is only in memory (memfd_create(2)), but about its loader.
     """
     in_memory = values.is_in_memory(spot.real)
-    if call.error != "ENOENT" and not in_memory:
-        spot = arguments.object_at(scene, call, spot, "reg")
-    if call.error == "EACCES" and _may_not_run(scene, spot):
-        raise NotAsked("EACCES of what is no file that may be run")
+    spot = _program(scene, call, spot)
     interpreters = _interpreters(scene, thread, call, spot) if spot.node is not None or in_memory else []
     files = [(one, "interpreter") for one in interpreters]
     made_up = [_run_one(scene, thread, call, *file) for file in ([] if in_memory else [(spot, None)]) + files]
@@ -46,6 +56,15 @@ def _run(scene: Scene, thread: Thread, call: Call, spot: Spot) -> None:
             scene.note_close(thread, call, number)
     if call.ok:
         _became(scene, thread, call, spot)
+
+
+def _program(scene: Scene, call: Call, spot: Spot) -> Spot:
+    """The file that a call runs, if Landlock was asked about it."""
+    if call.error != "ENOENT" and not values.is_in_memory(spot.real):
+        spot = arguments.object_at(scene, call, spot, "reg")
+    if call.error == "EACCES" and _may_not_run(scene, spot):
+        raise NotAsked("EACCES of what is no file that may be run")
+    return spot
 
 
 def _may_not_run(scene: Scene, spot: Spot) -> bool:

@@ -1,0 +1,164 @@
+"""Which errors come before Landlock is asked, and which after: each as Linux 6.18 answered it under a layer."""
+
+from __future__ import annotations
+
+import unittest
+
+from landaudit_record.recorder.calls import beyond, landlock, opening
+from landaudit_record.recorder.mounted import Places
+from landaudit_record.recorder.names import UNKNOWN_WAY
+
+from .written_logs import CWD, DISK, WrittenLogs, told
+
+EINVAL = "-1 EINVAL (Invalid argument)"
+EXDEV = "-1 EXDEV (Invalid cross-device link)"
+ENXIO = "-1 ENXIO (No such device or address)"
+RULESET = "<anon_inode:[landlock-ruleset]>"
+MADE = f"landlock_create_ruleset({{handled_access_fs=0x4}}, 8, 0) = 3{RULESET}"
+#: A disk is mounted at /, and its directory /w/d a second time at /b; another disk is at /m.
+TWICE = [["/", "8:1", "/"], ["/b", "8:1", "/w/d"], ["/m", "8:2", "/"]]
+
+
+class Invalid(WrittenLogs):
+    """EINVAL that a file system, a device or a socket says, or the kernel of the arguments."""
+
+    def test_what_comes_after_landlock_was_asked(self) -> None:
+        calls = {
+            f'openat({CWD}, "f", 0x4000 /* O_RDONLY|O_DIRECT */) = {EINVAL}': "open",
+            f'renameat2({CWD}, "f", {CWD}, "g", 0x2 /* RENAME_EXCHANGE */) = {EINVAL}': "rename",
+            f'mkdir("d/a", 0755) = {EINVAL}': "mkdir",
+            f'execve("/w/p", ["p"], 0x1 /* 2 vars */) = {EINVAL}': "exec",
+            f'bind(3<socket:[7]>, {{sa_family=0x1 /* AF_UNIX */, sun_path="d/s"}}, 110) = {EINVAL}': "mknod",
+        }
+        for call, op in calls.items():
+            with self.subTest(call):
+                self.assertIn((op, "EINVAL"), told(self.convert(call), "op", "kernel"))
+
+    def test_what_comes_before(self) -> None:
+        for call in (
+            f'openat({CWD}, "d", 0x410002 /* O_RDWR|O_TMPFILE */ ^ 0, 0600)',
+            f'openat({CWD}, "d", 0x10040 /* O_RDONLY|O_CREAT|O_DIRECTORY */, 0600)',
+            f'renameat2({CWD}, "f", {CWD}, "g", 0x3 /* RENAME_NOREPLACE|RENAME_EXCHANGE */)',
+            f'linkat({CWD}, "f", {CWD}, "h", 0x1)',
+            f'unlinkat({CWD}, "f", 0x1)',
+            'mknod("x", 0160644)',
+            'truncate("f", -1)',
+            f'openat2({CWD}, "f", {{flags=0, resolve=0x100000}}, 24)',
+        ):
+            with self.subTest(call):
+                self.assertEqual(self.convert(f"{call.replace(' ^ 0', '')} = {EINVAL}"), [])
+                self.assertEqual(self.unsaid(), [("EINVAL before Landlock is asked", False)])
+
+    def test_a_structure_that_is_too_long(self) -> None:
+        self.assertEqual(self.convert(f'openat2({CWD}, "f", {{flags=0}}, 32) = -1 E2BIG (Argument list too long)'), [])
+        self.assertEqual(self.unsaid(), [("E2BIG before Landlock is asked", False)])
+
+    def test_only_its_owner_reads_a_file_without_changing_its_times(self) -> None:
+        call = f'openat({CWD}, "f", 0x40000 /* O_RDONLY|O_NOATIME */) = -1 EPERM (Operation not permitted)'
+        self.assertEqual((self.convert(call), self.unsaid()), ([], [("EPERM before Landlock is asked", False)]))
+
+
+class Gone(WrittenLogs):
+    disk = [*DISK, {"path": "/s", "kind": "dir"}]
+
+    def test_an_object_that_nobody_serves_was_there(self) -> None:
+        """A pipe without a reader that is removed before the recorder looks at it; a link may have led to it."""
+        opens, removed = f'openat({CWD}, "/s/pipe", %s) = {ENXIO}', 'unlink("/s/pipe") = 0'
+        trace = self.convert(opens % "0x20801 /* O_WRONLY|O_NONBLOCK|O_NOFOLLOW */", removed)
+        self.assertEqual(told(trace, "op", "kernel")[0], ("open", "ENXIO"))
+        self.convert(opens % "0x801 /* O_WRONLY|O_NONBLOCK */", removed)
+        self.assertEqual(self.unsaid(), [(UNKNOWN_WAY, True)])
+
+
+class Mounts(WrittenLogs):
+    mounts = TWICE
+    disk = [*DISK, {"path": "/b", "kind": "dir"}, {"path": "/b/in", "kind": "reg"}, {"path": "/w/d/in", "kind": "reg"},
+            {"path": "/m", "kind": "dir"}]
+
+    def test_a_move_within_a_mount_is_asked_about_before_the_file_system_can_say_that_it_can_not(self) -> None:
+        moves = f'rename("f", "d/f") = {EXDEV}', f'rename("d", "e") = {EXDEV}'
+        self.assertEqual(told(self.convert(*moves), "op", "kernel"), [("rename", "EXDEV")] * 2)
+
+    def test_a_move_between_mounts_is_not(self) -> None:
+        for move in (f'rename("f", "/m/f") = {EXDEV}', f'rename("d/in", "/b/x") = {EXDEV}'):
+            self.assertEqual(self.convert(move), [])
+
+    def test_an_object_that_a_second_mount_shows_has_both_names(self) -> None:
+        trace = self.convert(*(f'openat({CWD}, "{path}", 0 /* O_RDONLY */) = 3<{path}>' for path in ("/b/in", "/w/d/in")))
+        self.assertEqual([path for (path,) in told(trace, "path") if path], ["/b/in", "/w/d/in"])
+        tree = (self.out / "tree.jsonl").read_text()
+        for line in ('"path":"/w/d/in","kind":"reg","same":"/b/in"', '"path":"/w/d","kind":"dir","same":"/b"'):
+            self.assertIn(f"{{{line}}}", tree)
+
+
+class SeveralPaths(unittest.TestCase):
+    def test_the_other_paths_of_an_object(self) -> None:
+        places = Places(TWICE)
+        for path, others in {"/b": ["/w/d"], "/b/x/y": ["/w/d/x/y"], "/w/d/x": ["/b/x"], "/w": [], "/m/x": []}.items():
+            self.assertEqual(places.others(path), others, path)
+
+    def test_a_directory_with_a_mount_below_it_is_not_the_same_everywhere(self) -> None:
+        places = Places([*TWICE, ["/w/d/in", "8:3", "/"]])
+        self.assertEqual((places.others("/b"), places.others("/b/in"), places.others("/b/x")), ([], [], ["/w/d/x"]))
+
+    def test_a_directory_that_is_mounted_in_itself(self) -> None:
+        places = Places([["/", "8:1", "/"], ["/w/d", "8:1", "/w"]])
+        found = [places.others(path) for path in ("/w", "/w/d", "/w/d/d", "/w/x")]
+        self.assertEqual(found, [[], [], [], ["/w/d/x"]])
+
+    def test_without_mounts_nothing_is_known(self) -> None:
+        self.assertEqual((Places().others("/w"), Places().are_one("/w", "/w")), ([], False))
+
+
+class OpenedInside(WrittenLogs):
+    def test_a_check_opens_the_program_alone_and_runs_nothing(self) -> None:
+        trace = self.convert(
+            f'openat({CWD}, "f", 0x80002 /* O_RDWR|O_CLOEXEC */) = 3</w/f>',
+            f'execveat({CWD}, "/w/p", ["p"], 0x1 /* 0 vars */, 0x10000 /* AT_??? */) = 0',
+            "ftruncate(3</w/f>, 0) = 0",
+        )
+        self.assertEqual(
+            told(trace, "op", "path"),
+            [("open", "/w/f"), ("open", "/w/p"), ("exec", "/w/p"), ("close", None), ("ftruncate", None)],
+        )
+
+    def test_the_file_of_acct_is_opened_again_without_its_folders(self) -> None:
+        self.convert('acct("f") = 0', 'acct("nothere") = -1 ENOENT (No such file or directory)')
+        self.assertEqual(self.unsaid(), [(beyond.WITHOUT_FOLDERS, True)])
+
+    def test_a_file_whose_path_is_written_into_another_one(self) -> None:
+        register = "/proc/sys/fs/binfmt_misc/register"
+        trace = self.convert(f'openat({CWD}, "{register}", 0x1 /* O_WRONLY */) = 3<{register}>')
+        self.assertEqual(told(trace, "op", "path"), [("open", register)])
+        self.assertEqual(self.unsaid(), [(opening.BY_WRITING, True)])
+
+
+class Rulesets(WrittenLogs):
+    RULE = "{allowed_access=0x4 /* LANDLOCK_ACCESS_FS_READ_FILE */, parent_fd=5</w/d>}"
+
+    def test_a_duplicate_is_the_same_ruleset(self) -> None:
+        trace = self.convert(
+            MADE,
+            f"dup(3{RULESET}) = 4{RULESET}",
+            f"landlock_add_rule(4{RULESET}, 0x1 /* LANDLOCK_RULE_PATH_BENEATH */, {self.RULE}, 0) = 0",
+            f"close(3{RULESET}) = 0",
+            f"landlock_restrict_self(4{RULESET}, 0) = 0",
+            f"close(4{RULESET}) = 0",
+        )
+        self.assertEqual(told(trace, "op", "rs"), [("create", 3), ("add_path", 3), ("restrict", 3), ("close_rs", 3)])
+        self.assertEqual(self.unsaid(), [])
+
+    def test_a_number_that_is_used_again_while_a_duplicate_is_open(self) -> None:
+        first, second = self.convert(MADE, f"dup(3{RULESET}) = 4{RULESET}", f"close(3{RULESET}) = 0", MADE)
+        self.assertEqual((first["op"], second["op"]), ("create", "create"))
+        self.assertNotEqual(first["rs"], second["rs"])
+
+    def test_flags_for_logging_change_no_answer(self) -> None:
+        trace = self.convert(MADE, "landlock_restrict_self(-1, 0x4) = 0", f"landlock_restrict_self(3{RULESET}, 0x1) = 0")
+        self.assertEqual(told(trace, "op", "rs"), [("create", 3), ("restrict", 3)])
+        self.assertEqual(self.unsaid(), [(landlock.WITH_FLAGS, False)])
+
+    def test_a_rule_on_a_file_in_memory_is_none(self) -> None:
+        rule = "{allowed_access=0x4, parent_fd=5</memfd:x>(deleted)}"
+        added = f"landlock_add_rule(3{RULESET}, 0x1 /* LANDLOCK_RULE_PATH_BENEATH */, {rule}, 0) = -1 EBADFD (X)"
+        self.assertEqual(told(self.convert(MADE, added), "op"), [("create",)])
