@@ -7,12 +7,13 @@ import errno
 import io
 import os
 import shutil
+import subprocess
 import tempfile
 import unittest
 from pathlib import Path
 from unittest import mock
 
-from landaudit_record import VERSION, cli
+from landaudit_record import PROGRAMS, VERSION, cli
 from landaudit_record.recorder import tracing
 from landaudit_record.recorder.writing import Recording
 
@@ -156,6 +157,16 @@ class CommandLine(unittest.TestCase):
             status, error = said("convert", folder)
         self.assertEqual(status, 3)
         self.assertEqual(len(error.splitlines()), 1)
+
+    def test_a_directory_as_standard_input_is_one_line(self) -> None:
+        """Python says it in five."""
+        for name in ("landaudit-record", "landaudit-policy"):
+            with self.subTest(name):
+                directory = os.open("/", os.O_RDONLY)
+                self.addCleanup(os.close, directory)
+                run = subprocess.run([PROGRAMS / name, "--version"], stdin=directory, capture_output=True, text=True)
+                problem = f"{name}: standard input is a directory: redirect it, as in '< /dev/null'\n"
+                self.assertEqual((run.returncode, run.stdout, run.stderr), (2, "", problem))
 
     def test_a_full_disk_is_one_line(self) -> None:
         full = OSError(errno.ENOSPC, os.strerror(errno.ENOSPC))
