@@ -49,6 +49,19 @@ class Invalid(WrittenLogs):
                 self.assertEqual(self.convert(f"{call.replace(' ^ 0', '')} = {EINVAL}"), [])
                 self.assertEqual(self.unsaid(), [("EINVAL before Landlock is asked", False)])
 
+    def test_what_can_not_be_made(self) -> None:
+        """In a directory that is removed, and by a path that ends in a slash."""
+        for call, error in (
+            ('mkdir("x", 0755)', "ENOENT"),
+            ('symlink("f", "d/x/")', "ENOENT"),
+            ('mknod("d/x/", 0100644)', "ENOENT"),
+            (f'openat({CWD}, "x", 0x41 /* O_WRONLY|O_CREAT */, 0644)', "ENOENT"),
+            (f'openat({CWD}, "d/x/", 0x41 /* O_WRONLY|O_CREAT */, 0644)', "EISDIR"),
+        ):
+            with self.subTest(call):
+                self.assertEqual(self.convert(f"{call} = -1 {error} (X)"), [])
+                self.assertEqual([asks for _, asks in self.unsaid()], [False])
+
     def test_a_structure_that_is_too_long(self) -> None:
         self.assertEqual(self.convert(f'openat2({CWD}, "f", {{flags=0}}, 32) = -1 E2BIG (Argument list too long)'), [])
         self.assertEqual(self.unsaid(), [("E2BIG before Landlock is asked", False)])

@@ -26,6 +26,8 @@ def _made(scene: Scene, thread: Thread, call: Call, op: str, spot: Spot, node: N
         spot = scene.present(spot.real, "reg", KINDS)
     elif call.ok:
         scene.names.settle(spot.real)
+    elif call.error == "ENOENT" and spot.in_directory:
+        raise NotAsked("ENOENT in a directory that is removed, or of a path that ends in a slash")
     scene.say(thread, call, op, path=spot.path, **members, **arguments.shown(spot))
     if call.ok:
         scene.names.put(spot.real, node)

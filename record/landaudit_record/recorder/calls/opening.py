@@ -248,7 +248,7 @@ def _failed(scene: Scene, thread: Thread, call: Call, base: int | None, path: in
         raise NotAsked("EEXIST before Landlock is asked")
     unsure = bool(flags & O_CREAT) and not exclusive and scene.names.may_be_made(spot.real)
     spot = _after_failure(scene, call, spot, flags)
-    if _comes_before(call, spot, flags):
+    if _comes_before(call, spot, flags) or (flags & O_CREAT and _makes_nothing(call, spot, path)):
         raise NotAsked(f"{call.error} before Landlock is asked")
     made = spot.node is None and bool(flags & O_CREAT) and call.error != "ELOOP"
     create = made or (call.error == "EISDIR" and bool(flags & O_CREAT))
@@ -277,6 +277,13 @@ def _comes_before(call: Call, spot: Spot, flags: int) -> bool:
     if call.error == "EPERM":
         return on_file and (writes or bool(flags & O_NOATIME))
     return writes and call.error == "ETXTBSY"
+
+
+def _makes_nothing(call: Call, spot: Spot, path: int) -> bool:
+    """Whether an open could not make its file: in a directory that is removed, or by a path that ends in a slash."""
+    if call.error == "EISDIR":
+        return arguments.path_at(call, path).endswith("/")
+    return call.error == "ENOENT" and spot.in_directory
 
 
 def _after_failure(scene: Scene, call: Call, spot: Spot, flags: int) -> Spot:
