@@ -114,9 +114,11 @@ class Making(Unknown):
         self.assertEqual((other["op"], other["path"], other["otherwise"]), ("truncate", "/s/f~2~", True))
 
     def test_a_refused_creation(self) -> None:
-        refused = f'openat({CWD}, "/s/f", {CUTS}) = -1 EACCES (Permission denied)'
-        found = self.doubts([seen("/s/f", "reg", new=None)], CONFINED, refused)
-        self.assertEqual(found, {MADE_OR_THERE: 1})
+        """Also one that the file system can't open as it was to be opened (EINVAL), after it was made."""
+        for error in ("EACCES (Permission denied)", "EINVAL (Invalid argument)"):
+            failed = f'openat({CWD}, "/s/f", {CUTS}) = -1 {error}'
+            found = self.doubts([seen("/s/f", "reg", new=None)], CONFINED, failed)
+            self.assertEqual(found, {MADE_OR_THERE: 1}, error)
 
 
 class Others(Unknown):

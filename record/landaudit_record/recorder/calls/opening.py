@@ -32,7 +32,7 @@ RESOLVE_IN_ROOT = 0x10
 #: The errors with which the `resolve` flags of openat2(2) end a call before Landlock is asked.
 RESOLVE_ERRORS = frozenset({"EAGAIN", "ELOOP", "EXDEV"})
 #: Errors of an open that may have made a file, or would have.
-MAY_BE_MADE = frozenset({"EACCES", "EPERM"})
+MAY_BE_MADE = frozenset({"EACCES", "EINVAL", "EPERM"})
 #: What an object may be at which an open ends in ENXIO: a pipe without a reader, a device without a driver (open(2)).
 WITHOUT_READER = ("fifo", "char", "block")
 #: Files whose writer gives the kernel the path of another file, which it opens: the interpreter of a format with the
