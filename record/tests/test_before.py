@@ -4,9 +4,10 @@ from __future__ import annotations
 
 import unittest
 
-from landaudit_record.recorder.calls import beyond, landlock, opening
+from landaudit_record.jsonl import numbered
+from landaudit_record.recorder.calls import beyond, opening
 from landaudit_record.recorder.mounted import Places
-from landaudit_record.recorder.names import UNKNOWN_WAY
+from landaudit_record.recorder.names import OF_KIND, UNKNOWN_WAY
 
 from .written_logs import CWD, DISK, WrittenLogs, told
 
@@ -81,6 +82,14 @@ class Gone(WrittenLogs):
         self.assertEqual(told(trace, "op", "kernel")[0], ("open", "ENXIO"))
         self.convert(opens % "0x801 /* O_WRONLY|O_NONBLOCK */", removed)
         self.assertEqual(self.unsaid(), [(UNKNOWN_WAY, True)])
+
+
+    def test_an_object_that_is_removed_and_open(self) -> None:
+        """Of one that is not known, only O_DIRECTORY says that it is a directory."""
+        for flags, unknown in (("0x10000 /* O_RDONLY|O_DIRECTORY */", None), ("0 /* O_RDONLY */", OF_KIND)):
+            opened, *_ = self.convert(f'openat({CWD}, "/proc/self/fd/5", {flags}) = 3</s/x>(deleted)')
+            kinds = {line["path"]: line["kind"] for _, line in numbered(self.out / "tree.jsonl")}
+            self.assertEqual((opened.get("unknown"), kinds[opened["path"]] == "dir"), (unknown, unknown is None))
 
 
 class Mounts(WrittenLogs):
@@ -169,7 +178,7 @@ class Rulesets(WrittenLogs):
     def test_flags_for_logging_change_no_answer(self) -> None:
         trace = self.convert(MADE, "landlock_restrict_self(-1, 0x4) = 0", f"landlock_restrict_self(3{RULESET}, 0x1) = 0")
         self.assertEqual(told(trace, "op", "rs"), [("create", 3), ("restrict", 3)])
-        self.assertEqual(self.unsaid(), [(landlock.WITH_FLAGS, False)])
+        self.assertEqual(self.unsaid(), [("a call of Landlock's that makes no layer", False)])
 
     def test_a_rule_on_a_file_in_memory_is_none(self) -> None:
         rule = "{allowed_access=0x4, parent_fd=5</memfd:x>(deleted)}"

@@ -8,7 +8,7 @@ from dataclasses import dataclass, replace
 from typing import Any
 
 from .. import values
-from ..names import MADE_OR_THERE, Node, join, split
+from ..names import MADE_OR_THERE, OF_KIND, Node, join, split
 from ..processes import Handle, Thread
 from ..scene import Scene, Spot
 from ..strace_log import Call
@@ -92,7 +92,7 @@ def _opened(scene: Scene, thread: Thread, call: Call, base: int | None, path: in
         scene.put(thread, call, result.number, Handle(result.path, close_on_exec=bool(flags & O_CLOEXEC)))
         gone = None
         if result.deleted and not result.in_memory and flags & O_TMPFILE != O_TMPFILE:
-            gone = _gone(scene, thread, call, base, path)
+            gone = _gone(scene, thread, call, base, path, flags)
         elif not flags & O_PATH:
             _list_links(scene, thread, call, base, path, result.path)
         succeeded(scene, thread, call, result, flags, gone)
@@ -219,13 +219,17 @@ def _kinds(flags: int) -> tuple[str, ...]:
     return ("reg", "fifo") if flags & O_TRUNC else ("reg",)
 
 
-def _gone(scene: Scene, thread: Thread, call: Call, base: int | None, path: int) -> Node:
-    """An opened object that has no name any more, as by /proc/self/fd; a new object if it is not known."""
+def _gone(scene: Scene, thread: Thread, call: Call, base: int | None, path: int, flags: int) -> Node:
+    """An opened object that has no name any more, as by /proc/self/fd or a removed working directory; a new object if
+    it is not known."""
     with suppress(CannotSay):
         found = scene.find(thread, arguments.descriptor_at(call, base), arguments.path_at(call, path), True)
         if found.node is not None:
             return found.node
-    return Node("reg")
+    if flags & O_DIRECTORY:
+        return Node("dir")
+    kind, *others = _kinds(flags)
+    return Node(kind, others=tuple(Node(other) for other in others), doubt=OF_KIND if others else "")
 
 
 def _without_name(scene: Scene, path: str) -> Spot:
