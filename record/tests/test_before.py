@@ -5,7 +5,7 @@ from __future__ import annotations
 import unittest
 
 from landaudit_record.jsonl import numbered
-from landaudit_record.recorder.calls import beyond, opening
+from landaudit_record.recorder.calls import beyond, opening, others
 from landaudit_record.recorder.mounted import Places
 from landaudit_record.recorder.names import OF_KIND, UNKNOWN_WAY
 
@@ -17,7 +17,7 @@ ENXIO = "-1 ENXIO (No such device or address)"
 RULESET = "<anon_inode:[landlock-ruleset]>"
 MADE = f"landlock_create_ruleset({{handled_access_fs=0x4}}, 8, 0) = 3{RULESET}"
 #: A disk is mounted at /, and its directory /w/d a second time at /b; another disk is at /m.
-TWICE = [["/", "8:1", "/"], ["/b", "8:1", "/w/d"], ["/m", "8:2", "/"]]
+TWICE = [["/", "8:1", "/", "ext4"], ["/b", "8:1", "/w/d", "ext4"], ["/m", "8:2", "/", "ext4"]]
 
 
 class Invalid(WrittenLogs):
@@ -113,6 +113,27 @@ class Mounts(WrittenLogs):
             self.assertIn(f"{{{line}}}", tree)
 
 
+class OtherProc(WrittenLogs):
+    """proc(5) is mounted a second time, as in a container that sees the processes of its machine."""
+
+    mounts = [["/", "8:1", "/", "ext4"], ["/proc", "0:4", "/", "proc"], ["/host/p", "0:9", "/", "proc"]]
+    disk = [*DISK, *({"path": path, "kind": "dir"} for path in ("/host", "/host/p", "/host/p/7"))]
+
+    def test_looks_into_other_processes_are_counted_there_too(self) -> None:
+        for call in (
+            f'openat({CWD}, "/host/p/7/environ", 0 /* O_RDONLY */) = 3</host/p/7/environ>',
+            'stat("/host/p/7/cwd/x", 0x1) = 0',
+            f'newfstatat({CWD}, "../host/p/7/exe", 0x1, 0) = 0',
+        ):
+            with self.subTest(call):
+                self.convert(call)
+                self.assertEqual(self.unsaid(), [(others.INTO_ANOTHER, True)])
+
+    def test_what_anyone_may_see_is_not(self) -> None:
+        self.convert('stat("/host/p/7/status", 0x1) = 0', 'stat("/host/q/7/cwd", 0x1) = 0')
+        self.assertEqual(self.unsaid(), [])
+
+
 class SeveralPaths(unittest.TestCase):
     def test_the_other_paths_of_an_object(self) -> None:
         places = Places(TWICE)
@@ -120,11 +141,11 @@ class SeveralPaths(unittest.TestCase):
             self.assertEqual(places.others(path), others, path)
 
     def test_a_directory_with_a_mount_below_it_is_not_the_same_everywhere(self) -> None:
-        places = Places([*TWICE, ["/w/d/in", "8:3", "/"]])
+        places = Places([*TWICE, ["/w/d/in", "8:3", "/", "xfs"]])
         self.assertEqual((places.others("/b"), places.others("/b/in"), places.others("/b/x")), ([], [], ["/w/d/x"]))
 
     def test_a_directory_that_is_mounted_in_itself(self) -> None:
-        places = Places([["/", "8:1", "/"], ["/w/d", "8:1", "/w"]])
+        places = Places([["/", "8:1", "/", "ext4"], ["/w/d", "8:1", "/w", "ext4"]])
         found = [places.others(path) for path in ("/w", "/w/d", "/w/d/d", "/w/x")]
         self.assertEqual(found, [[], [], [], ["/w/d/x"]])
 

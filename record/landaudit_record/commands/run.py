@@ -328,5 +328,5 @@ def _about(command: list[str], seen: recordings.Watched, strace: str = "") -> re
         formats=formats.registered(),
         hidepid=recordings.hides_processes(),
         machine=surroundings.machine(),
-        mounts=[[mount.place, mount.device, mount.root] for mount in mounted.mounts()],
+        mounts=[[mount.place, mount.device, mount.root, mount.kind] for mount in mounted.mounts()],
     )

@@ -26,12 +26,16 @@ DROPPED = LOOKS | READLINKS
 
 @dataclass(slots=True)
 class Near:
-    """Whether a relative path may lead on in /proc, since a process works or worked there."""
+    """Whether a relative path may lead on in /proc, since a process works or worked there, and the names of the
+    directories at which proc(5) is mounted elsewhere, as paths have them."""
 
     relative: bool = False
+    elsewhere: tuple[str, ...] = ()
 
     def is_look(self, text: str) -> bool:
         """Whether a call may lead through /proc, by its text with the paths of its descriptors."""
+        if self.elsewhere and any(name in text for name in self.elsewhere):
+            return True
         return "proc/" in text or "/proc>" in text or (self.relative and '("/' not in text)
 
     def drops(self, text: str) -> bool:

@@ -9,6 +9,7 @@ from pathlib import Path
 
 from .values import unescaped
 
+PROC = "/proc"
 MOUNTS = Path("/proc/self/mountinfo")
 #: File systems in which the kernel shows what it has.
 OF_KERNEL = frozenset(
@@ -61,10 +62,15 @@ def served(among: Iterable[Mount]) -> set[Mount]:
 
 
 class Places:
-    """The mounts of a run when it began, each with its place, its device, and what of the file system it shows."""
+    """The mounts of a run when it began, each with its place, its device, what of the file system it shows, its type.
+
+    `procs` are the places of proc(5) file systems beside /proc.
+    """
 
     def __init__(self, mounts: Iterable[Sequence[str]] = ()) -> None:
-        self._at = {place: (device, root) for place, device, root in mounts}
+        of_type = {place: (device, root, kind) for place, device, root, kind in mounts}
+        self._at = {place: (device, root) for place, (device, root, _) in of_type.items()}
+        self.procs = tuple(place for place, (_, _, kind) in of_type.items() if kind == "proc" and place != PROC)
         several = Counter(device for device, _ in self._at.values())
         self._several = {device for device, number in several.items() if number > 1}
 
@@ -73,6 +79,11 @@ class Places:
         while path not in self._at and path != "/":
             path = path.rpartition("/")[0] or "/"
         return path
+
+    def in_proc(self, path: str) -> str:
+        """A path in a proc(5) file system by the name that it has in /proc; any other path as it is."""
+        place = next((place for place in self.procs if path.startswith(f"{place}/")), None)
+        return path if place is None else PROC + path[len(place) :]
 
     def are_one(self, one: str, other: str) -> bool:
         """Whether two paths are known to be in one mount."""

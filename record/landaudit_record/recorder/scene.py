@@ -118,7 +118,7 @@ class Scene:
         self.begun: set[int] = set()
         self.unmet: dict[int, bool] = {}
         self.placeless = False
-        self.near = Near()
+        self.near = Near(elsewhere=tuple(place.rpartition("/")[2] for place in names.places.procs))
         self.through: set[int] = set()
         self.reads_links = reads_links
         self.hides = hides

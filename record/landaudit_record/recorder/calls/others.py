@@ -60,7 +60,7 @@ def look(scene: Scene, thread: Thread, call: Call) -> bool:
     if not _may_be_refused(scene, thread, call):
         return False
     led = [(way, _led(scene, thread, call, way, path)) for way, path in _paths(call)]
-    opened = _opened(call)
+    opened = _opened(scene, call)
     pids = {pid for way, path in led for pid in _kept(call, path, follows=way.follows_last(call))}
     pids |= scene.through | _numbers([_OPENED.fullmatch(opened)])
     if scene.hides:
@@ -113,16 +113,16 @@ def _led(scene: Scene, thread: Thread, call: Call, way: Way, path: str) -> str:
     root, directory = thread.place.root, (base.path if base is not None else None) or thread.place.directory
     try:
         found = scene.names.find(root, directory, path, way.follows_last(call), _Passing(scene, thread))
-        return found.path if root == "/" else found.path.removeprefix(root)
+        return scene.names.places.in_proc(found.path if root == "/" else found.path.removeprefix(root))
     except CannotSay:
         return ""
 
 
-def _opened(call: Call) -> str:
+def _opened(scene: Scene, call: Call) -> str:
     """The path of what a call opened, if it has one; O_PATH opens nothing."""
     if not call.ok or call.name not in opening.GIVEN or opening.flags_of(call) & opening.O_PATH:
         return ""
-    return values.descriptor(f"{call.value}{call.note}").path or ""
+    return scene.names.places.in_proc(values.descriptor(f"{call.value}{call.note}").path or "")
 
 
 def _kept(call: Call, path: str, *, follows: bool) -> set[int]:
