@@ -102,8 +102,9 @@ class Mounts(WrittenLogs):
         self.assertEqual(told(self.convert(*moves), "op", "kernel"), [("rename", "EXDEV")] * 2)
 
     def test_a_move_between_mounts_is_not(self) -> None:
+        """Also not in a process with a layer."""
         for move in (f'rename("f", "/m/f") = {EXDEV}', f'rename("d/in", "/b/x") = {EXDEV}'):
-            self.assertEqual(self.convert(move), [])
+            self.assertEqual((self.convert(move), self.confined(move)), ([], []))
 
     def test_an_object_that_a_second_mount_shows_has_both_names(self) -> None:
         trace = self.convert(*(f'openat({CWD}, "{path}", 0 /* O_RDONLY */) = 3<{path}>' for path in ("/b/in", "/w/d/in")))
@@ -150,7 +151,7 @@ class SeveralPaths(unittest.TestCase):
         self.assertEqual(found, [[], [], [], ["/w/d/x"]])
 
     def test_without_mounts_nothing_is_known(self) -> None:
-        self.assertEqual((Places().others("/w"), Places().are_one("/w", "/w")), ([], False))
+        self.assertEqual((Places().others("/w"), Places().are_one("/w", "/w")), ([], None))
 
 
 class OpenedInside(WrittenLogs):

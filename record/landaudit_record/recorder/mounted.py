@@ -85,9 +85,9 @@ class Places:
         place = next((place for place in self.procs if path.startswith(f"{place}/")), None)
         return path if place is None else PROC + path[len(place) :]
 
-    def are_one(self, one: str, other: str) -> bool:
-        """Whether two paths are known to be in one mount."""
-        return bool(self._at) and self._of(one) == self._of(other)
+    def are_one(self, one: str, other: str) -> bool | None:
+        """Whether two paths are in one mount; None if the mounts are not known."""
+        return self._of(one) == self._of(other) if self._at else None
 
     def others(self, path: str) -> list[str]:
         """The other paths of an object, which it has by other mounts of its file system (mount(2), MS_BIND).

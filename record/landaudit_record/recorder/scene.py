@@ -144,7 +144,7 @@ class Scene:
             raise NotAsked(BY_MODES)
         if process.unseen_layer and error in ERRORS_OF_LAYERS:
             raise CannotSay(BY_UNSEEN_LAYER)
-        if error == "EXDEV" and not process.confined and not self._in_one_mount(members):
+        if error == "EXDEV" and self._between_mounts(process, members):
             raise NotAsked("EXDEV before Landlock is asked")
         others = self._others(members) if self.tree.doubted else []
         if others:
@@ -178,11 +178,16 @@ class Scene:
             ]
         return found[1:]
 
-    def _in_one_mount(self, members: Members) -> bool:
-        """Whether a move or link stays in one mount: then the file system says EXDEV, after Landlock was asked."""
+    def _between_mounts(self, process: Process, members: Members) -> bool:
+        """Whether the kernel said EXDEV since a move or link leaves its mount, before it asked Landlock.
+
+        Within a mount the file system says so, after Landlock was asked. Where the mounts are not known, a layer may
+        have said it, if the process has one.
+        """
         paths = (str(members.get(shown) or members.get(path)) for path, shown in (("from", "shown"), ("to", "shown_to")))
         over, to = (path.rpartition("/")[0] or "/" for path in paths)
-        return over == to or self.names.places.are_one(over, to)
+        is_one = self.names.places.are_one(over, to) if over != to else True
+        return not is_one if is_one is not None else not process.confined
 
     def _modes_refuse(self, process: Process, call: Call, op: str, members: Members) -> bool:
         """Whether file modes refuse a call, as far as they are known."""
