@@ -206,7 +206,7 @@ class LiveProbes(unittest.TestCase):
                 ops = {refusal["call"].split(" ")[0] for refusal in audit["refusals"]}
                 self.assertLessEqual(expected.foretold, ops)
                 if not (expected.met or expected.foretold or expected.told):
-                    self.assertEqual((audit["refusals"], audit["may_be_refused"]), ([], []))
+                    self.assertEqual(self.foretold_by_policy(audit), set())
                 if not expected.told:
                     self.assertEqual(self.holes("bare"), expected.holes)
                 elif expected.met:
@@ -246,6 +246,12 @@ class LiveProbes(unittest.TestCase):
         """The steps that a policy refused, and nothing else did."""
         refused = (step for step, answers in confined.items() if answers != bare.get(step))
         return frozenset(step for step in refused if REFUSALS & set(confined[step]) or confined[step] == ["none"])
+
+    def foretold_by_policy(self, audit: dict[str, Any]) -> set[tuple[str, str]]:
+        """What an audit says of the policy's layers, but for the working directory, which Python lists."""
+        told = [one for one in audit["refusals"] if any(layer["policy"] is not None for layer in one["layers"])]
+        found = {(one["call"], one["place"]) for one in [*told, *audit["may_be_refused"]]}
+        return found - {("open r", str(self.work))}
 
     def holes(self, out: str) -> frozenset[str]:
         """The classes in which a recording counts calls that may be refused."""
