@@ -248,10 +248,9 @@ class LiveProbes(unittest.TestCase):
         return frozenset(step for step in refused if REFUSALS & set(confined[step]) or confined[step] == ["none"])
 
     def foretold_by_policy(self, audit: dict[str, Any]) -> set[tuple[str, str]]:
-        """What an audit says of the policy's layers, but for the working directory, which Python lists."""
-        told = [one for one in audit["refusals"] if any(layer["policy"] is not None for layer in one["layers"])]
-        found = {(one["call"], one["place"]) for one in [*told, *audit["may_be_refused"]]}
-        return found - {("open r", str(self.work))}
+        """What the policy's layers refuse by an audit, but for the working directory, which Python lists."""
+        told = (one for one in audit["refusals"] if any(layer["policy"] is not None for layer in one["layers"]))
+        return {(one["call"], one["place"]) for one in told} - {("open r", str(self.work))}
 
     def holes(self, out: str) -> frozenset[str]:
         """The classes in which a recording counts calls that may be refused."""
