@@ -44,6 +44,7 @@ class Invalid(WrittenLogs):
             f'unlinkat({CWD}, "f", 0x1)',
             'mknod("x", 0160644)',
             'truncate("f", -1)',
+            'truncate("f", 18446744073709551615)',
             f'openat2({CWD}, "f", {{flags=0, resolve=0x100000}}, 24)',
         ):
             with self.subTest(call):

@@ -15,6 +15,7 @@ from ..strace_log import Call
 
 _O_CREAT, _O_DIRECTORY, _O_TMPFILE = 0o100, 0o200000, 0o20000000
 _RENAME_FLAGS = frozenset({0, 1, 2, 4, 5})
+_LONGEST = (1 << 63) - 1
 _LINK_FLAGS, _UNLINK_FLAGS, _EXEC_FLAGS = 0x1400, 0x200, 0x11100
 _KINDS = frozenset({0, stat.S_IFREG, stat.S_IFCHR, stat.S_IFBLK, stat.S_IFIFO, stat.S_IFSOCK})
 #: Calls without arguments that could be invalid.
@@ -43,8 +44,8 @@ _INVALID: Mapping[str, Callable[[Call], bool]] = {
     "renameat2": lambda call: _number(call, 4) not in _RENAME_FLAGS,
     "linkat": lambda call: bool(_number(call, 4) & ~_LINK_FLAGS),
     "unlinkat": lambda call: bool(_number(call, 2) & ~_UNLINK_FLAGS),
-    "truncate": lambda call: _number(call, 1) < 0,
-    "truncate64": lambda call: _number(call, 1) < 0,
+    "truncate": lambda call: not 0 <= _number(call, 1) <= _LONGEST,
+    "truncate64": lambda call: not 0 <= _number(call, 1) <= _LONGEST,
 }
 
 
