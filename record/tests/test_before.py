@@ -5,7 +5,7 @@ from __future__ import annotations
 import unittest
 
 from landaudit_record.jsonl import numbered
-from landaudit_record.recorder.calls import beyond, opening, others
+from landaudit_record.recorder.calls import beyond, descriptors, opening, others
 from landaudit_record.recorder.mounted import Places
 from landaudit_record.recorder.names import OF_KIND, UNKNOWN_WAY
 
@@ -63,6 +63,11 @@ class Invalid(WrittenLogs):
             with self.subTest(call):
                 self.assertEqual(self.convert(f"{call} = -1 {error} (X)"), [])
                 self.assertEqual([asks for _, asks in self.unsaid()], [False])
+
+    def test_an_address_of_another_kind_of_socket(self) -> None:
+        call = f'bind(3<socket:[7]>, {{sa_family=0x1 /* AF_UNIX */, sun_path="d/s"}}, 16) = {EINVAL}'
+        trace = self.convert("socket(0xa /* AF_INET6 */, 0x1 /* SOCK_STREAM */, 0) = 3<socket:[7]>", call)
+        self.assertEqual((trace, self.unsaid()), ([], [(descriptors.OTHER_FAMILY, False)]))
 
     def test_a_structure_that_is_too_long(self) -> None:
         self.assertEqual(self.convert(f'openat2({CWD}, "f", {{flags=0}}, 32) = -1 E2BIG (Argument list too long)'), [])

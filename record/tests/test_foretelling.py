@@ -19,7 +19,7 @@ BARE, CONFINED, POLICY = Path("bare"), Path("confined"), Path("policy.toml")
 def refused(*refusals: tuple[str, str, str]) -> dict[str, Any]:
     """An audit with refusals by a layer: call, place and error of each."""
     keys = ("call", "place", "error")
-    return {"refusals": [{**dict(zip(keys, one)), "layers": [{"number": 1}]} for one in refusals]}
+    return {"refusals": [{**dict(zip(keys, one)), "layers": [{"number": 1}]} for one in refusals], "may_be_refused": []}
 
 
 def audits(*, said: dict[str, Any], met: dict[str, Any], bare: dict[str, Any], confined: dict[str, Any]) -> Any:
@@ -51,6 +51,14 @@ class Foretelling(unittest.TestCase):
         self.assertEqual(told.behind, {Refusal(Asked("open r", "/behind"), "EACCES")})
         self.assertEqual(told.missed, {Refusal(Asked("open r", "/missed"), "EACCES")})
         self.assertEqual(list(foretelling.details(told)), ["missed: open r /missed EACCES"])
+
+    def test_a_refusal_of_which_it_was_said_that_it_may_be_is_not_missed(self) -> None:
+        unsure = refused(("open r", "/unsure", "EACCES"))
+        said = {**refused(), "may_be_refused": unsure["refusals"]}
+        with audits(said=said, met=unsure, bare=unsure, confined=unsure):
+            told = foretelling.compared(BARE, CONFINED, POLICY, 5)
+        self.assertEqual(told.may_be, {Refusal(Asked("open r", "/unsure"), "EACCES")})
+        self.assertFalse(told.is_wrong or told.behind)
 
     def test_what_was_foretold_and_passes_is_a_false_alarm_and_what_was_never_asked_is_none(self) -> None:
         passes, unasked = ("mkdir", "/passes", "EACCES"), ("mkdir", "/unasked", "EACCES")

@@ -125,11 +125,16 @@ def _socket(scene: Scene, thread: Thread, call: Call) -> None:
 def _bind(scene: Scene, thread: Thread, call: Call) -> None:
     if _family(call) != files.AF_UNIX:
         _on_port(scene, thread, call, "bind")
-    elif call.error == "EAFNOSUPPORT":
+    elif call.error == "EAFNOSUPPORT" or (call.error == "EINVAL" and _is_tcp(scene, thread, call)):
         raise NotAsked(OTHER_FAMILY)
     else:
         files.bound(scene, thread, call)
         scopes.bound(scene, thread, call)
+
+
+def _is_tcp(scene: Scene, thread: Thread, call: Call) -> bool:
+    handle = scene.handle(thread, call, values.descriptor(call.arguments[0]))
+    return handle is not None and handle.tcp is not None
 
 
 def _connect(scene: Scene, thread: Thread, call: Call) -> None:
