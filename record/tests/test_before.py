@@ -5,7 +5,7 @@ from __future__ import annotations
 import unittest
 
 from landaudit_record.jsonl import numbered
-from landaudit_record.recorder.calls import beyond, descriptors, opening, others
+from landaudit_record.recorder.calls import beyond, descriptors, landlock, opening, others
 from landaudit_record.recorder.mounted import Places
 from landaudit_record.recorder.names import OF_KIND, UNKNOWN_WAY
 
@@ -206,7 +206,7 @@ class Rulesets(WrittenLogs):
     def test_flags_for_logging_change_no_answer(self) -> None:
         trace = self.convert(MADE, "landlock_restrict_self(-1, 0x4) = 0", f"landlock_restrict_self(3{RULESET}, 0x1) = 0")
         self.assertEqual(told(trace, "op", "rs"), [("create", 3), ("restrict", 3)])
-        self.assertEqual(self.unsaid(), [("a call of Landlock's that makes no layer", False)])
+        self.assertEqual(self.unsaid(), [(landlock.WITH_FLAGS, False)])
 
     def test_a_rule_on_a_file_in_memory_is_none(self) -> None:
         rule = "{allowed_access=0x4, parent_fd=5</memfd:x>(deleted)}"
