@@ -1,4 +1,4 @@
-"""The command of docs/CONFORMANCE.md, for one row of its table: landaudit answers as this kernel did."""
+"""The command of docs/CONFORMANCE.md, for one row: landaudit answers as this kernel did."""
 
 from __future__ import annotations
 
