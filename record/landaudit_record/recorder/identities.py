@@ -47,6 +47,10 @@ class Identities:
         """The object at a path."""
         return self._at.get(path or "/")
 
+    def further(self, node: Node) -> list[str]:
+        """An object is known by the paths by which events name it, and by no others."""
+        return []
+
     def at_start(self, path: str) -> Node | None:
         """The object that was at a path when the run began, as far as that is known."""
         return self._starts.get(path)

@@ -56,6 +56,9 @@ class Objects(Protocol):
     def at_start(self, path: str) -> Node | None:
         """The object that is at a path when the run begins, as far as that is known."""
 
+    def further(self, node: Node) -> list[str]:
+        """The other paths that an object has by other mounts when the run begins."""
+
 
 class Tree:
     """The names under which a recording lists objects; an object that is moved or linked has several.
