@@ -116,7 +116,7 @@ def _alone(path: str) -> Count:
     """What is at a path, without what is under it; nothing if it can't be seen."""
     try:
         mode = os.lstat(path).st_mode
-    except OSError:
+    except (OSError, ValueError):
         return Count()
     return _single("sym" if stat.S_ISLNK(mode) else "char" if stat.S_ISCHR(mode) or stat.S_ISBLK(mode) else "reg")
 

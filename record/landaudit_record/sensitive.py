@@ -37,6 +37,14 @@ def warnings(place: str, rights: Rights) -> Iterator[str]:
         yield f"warning: {secret} holds secrets"
     elif rights & FILE_RIGHTS:
         beneath = [path for path in SECRETS if place in upwards(path)]
-        beneath += [str(keys) for keys in sorted(Path(place).glob(_OF_USERS if place == HOMES else _KEYS))]
+        beneath += _keys(place, _OF_USERS if place == HOMES else _KEYS)
         if beneath:
             yield f"warning: this reaches {', '.join(dict.fromkeys(beneath))}"
+
+
+def _keys(place: str, pattern: str) -> list[str]:
+    """The folders with keys in a directory of this machine; none if no file here can have its name."""
+    try:
+        return [str(keys) for keys in sorted(Path(place).glob(pattern))]
+    except (OSError, ValueError):
+        return []

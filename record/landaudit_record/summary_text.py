@@ -259,7 +259,7 @@ def _group_row(group: Group, summary: Summary) -> list[Cell]:
     lacking, programs = group.lacking, group.programs
     named = dict.fromkeys(name for kind in group.kinds for name in summary.recordings.get(kind.refusal, ()))
     where = (layout.names(list(named)),) if summary.recordings else ()
-    return [words(f"{programs.total():,}"), layout.lacks(_lacking(lacking)), _where(group),
+    return [words(f"{programs.total():,}"), layout.lacks(_lacking(lacking)), where_of(group),
             words(lacking.error), words(", ".join(lacking.layers) or "-"), *where, _programs(programs)]
 
 
@@ -273,7 +273,7 @@ def _why_column(lacking: Sequence[Sequence[Lack]]) -> Column:
     return Column("why", short=True, least=min(_MOST_KEPT, max(wide(layout.bare(texts)) for texts in lacking)))
 
 
-def _where(group: Group) -> Cell:
+def where_of(group: Group) -> Cell:
     """Where the calls of a group lack something: the one path, or how many below which directory."""
     spots, kinds = group.spots, group.kinds
     if len(kinds) == 1 and not group.directory:

@@ -48,7 +48,7 @@ def rules(wanted: Wanted, objects: Objects, most: int) -> list[Rule]:
     paths, room = exact, max(most - len(ports), 1)
     while len(paths) > room:
         paths = _merged(paths, _cheapest(paths, objects, len(paths) - room))
-    found = [Rule(place, frozenset(rights), wants.asking(rights), _more(place, frozenset(rights), exact, objects))
+    found = [Rule(place, frozenset(rights), wants.asking(rights), more(place, frozenset(rights), exact, objects))
              for place, rights in paths.items()]
     return wants.remarked([*found, *ports], wanted.spots)
 
@@ -106,7 +106,7 @@ def _branch(directory: str, place: str) -> str:
     return next(over for over in upwards(place) if directory_of(over) == directory)
 
 
-def _more(place: str, rights: Rights, exact: OnPaths, objects: Objects) -> tuple[str, ...]:
+def more(place: str, rights: Rights, exact: OnPaths, objects: Objects) -> tuple[str, ...]:
     """What a rule grants in addition to what is needed, a text for each kind of objects."""
     all_under, needed = objects.under(place), Counter[str]()
     for path, asked in exact.items():

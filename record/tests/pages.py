@@ -48,6 +48,17 @@ class Element:
         return [[one.text(abi) for one in row.elements() if one.name in ("td", "th")]
                 for row in body.all("tr") if row.seen(abi)]
 
+    def said(self, kind: str, abi: int) -> list[dict[str, str]]:
+        """The rows of a table when an ABI is chosen, by column, with what is said once above the table."""
+        (table,) = self.all("table", kind)
+        (head,) = table.all("thead")
+        names = [one.text(abi) for one in head.all("th")]
+        above = [one for one in self.elements() if one is table or "once" in one.kinds]
+        before = above[above.index(table) - 1] if above.index(table) else table
+        parts = [one.text(abi).split(maxsplit=1) for one in before.all("span")] if "once" in before.kinds else []
+        once = {head: said for head, said in parts}
+        return [{**once, **dict(zip(names, row, strict=True))} for row in self.rows(kind, abi)]
+
 
 class _Reader(HTMLParser):
     """Reads a page whose elements all have their ends."""

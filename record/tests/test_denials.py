@@ -22,7 +22,7 @@ from unittest import mock
 from landaudit_record import cli, policies
 from landaudit_record.commands import denials as command
 from landaudit_record.kernel_log import counting, data, granting, matching, text
-from landaudit_record.page import denials as page
+from landaudit_record.page import denials as page, sections
 from landaudit_record.policies import Policy
 
 from .json_schema import DOCS, Schema, Validator
@@ -429,7 +429,7 @@ class Page(unittest.TestCase):
 
     def test_its_tables(self) -> None:
         found, _ = self.page(kept("netlink.log"))
-        rows = found.rows("refusals", 0)
+        rows = [list(map(row.get, sections.REFUSALS)) for row in found.said("refusals", 0)]
         self.assertIn(["1", "mkdir", IN, "EACCES", "make_dir", "python3's", "/usr/bin/mkdir"], rows)
         self.assertEqual(sum(int(row[0]) for row in rows), 41)
         self.assertEqual([row[1] for row in found.rows("same", 0)], ["openat"])

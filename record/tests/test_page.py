@@ -4,21 +4,24 @@ from __future__ import annotations
 
 import base64
 import hashlib
+import re
 import tempfile
 import unittest
 from collections import Counter
 from pathlib import Path
 from typing import Any
+from urllib.parse import unquote
 
 from landaudit_record import by_abi, page, policies, summary
 from landaudit_record.answers import Closed, Missing
-from landaudit_record.page import tree
+from landaudit_record.page import icicle, matrix, tree
 from landaudit_record.page.counting import Counts, Paths, asked
 from landaudit_record.page.markup import element
 from landaudit_record.reading import Place
 from landaudit_record.summary import Accepted, Refusal, RefusingLayer, Summary
-from landaudit_record.trees import Tree
+from landaudit_record.trees import Tree, upwards
 from landaudit_record.trying import Tried
+from landaudit_record.wording import quoted
 
 from .pages import Element, read
 from .recorded import records, write_lines
@@ -44,13 +47,14 @@ ABOUT = page.About("rec", "policy.toml", False)
 #: Elements that a page is made of, and the attributes that its elements may have.
 ELEMENTS = {
     "", "html", "head", "meta", "title", "style", "script", "body", "header", "h1", "h2", "p", "nav", "fieldset",
-    "legend", "label", "input", "span", "ul", "li", "a", "main", "div", "b", "svg", "rect", "section", "table", "thead",
-    "tbody", "tr", "th", "td", "details", "summary", "code", "button", "footer",
+    "legend", "label", "input", "span", "ul", "li", "a", "main", "div", "b", "svg", "rect", "text", "section", "table",
+    "thead", "tbody", "tr", "th", "td", "details", "summary", "code", "button", "footer", "article", "h3", "dl", "dt", "dd",
+    "pre", "s",
 }
 ATTRIBUTES = {
     "lang", "charset", "http-equiv", "content", "name", "type", "class", "id", "value", "checked", "href", "for",
     "scope", "hidden", "autocomplete", "spellcheck", "role", "dir", "tabindex", "open", "aria-labelledby",
-    "aria-hidden", "viewbox", "preserveaspectratio", "x", "width", "height",
+    "aria-label", "data-at", "colspan", "x", "y", "width", "height",
 }
 
 
@@ -111,7 +115,8 @@ class Data(unittest.TestCase):
     def test_each_abi_shows_its_refusals(self) -> None:
         for abi in (2, 3, 4):
             wanted = [(one["times"], one["call"], one["place"], one["error"]) for one in self.data(abi)["refusals"]]
-            rows = [(number(row[0]), *row[1:4]) for row in self.page.rows("refusals", abi)]
+            rows = [(number(row["times"]), row["call"], row["place"], row["error"])
+                    for row in self.page.said("refusals", abi)]
             with self.subTest(abi):
                 self.assertTrue(wanted)
                 self.assertEqual(sorted(rows), sorted(wanted))
@@ -120,18 +125,41 @@ class Data(unittest.TestCase):
         self.assertEqual([row[0] for row in self.page.rows("refusals", 4)], ["1,234", "11"])
 
     def test_a_row_says_why_and_who(self) -> None:
-        row = self.page.rows("refusals", 4)[1]
-        self.assertEqual(row[4:], ["connect_tcp", "policy's 1, program's 2", "/bin/sort, /bin/nc"])
+        row = self.page.said("refusals", 4)[1]
+        self.assertEqual([row[name] for name in ("why", "layers", "program")],
+                         ["connect_tcp", "policy's 1, program's 2", "/bin/sort, /bin/nc"])
 
-    def test_what_each_abi_answers(self) -> None:
+    def test_a_column_that_is_the_same_on_every_row_is_said_once(self) -> None:
+        (table,) = self.page.all("table", "refusals")
+        heads = [one.text(4) for one in table.all("th")]
+        self.assertEqual(heads, ["times", "call", "place", "why", "layers", "program"])
+        (section,) = (one for one in self.page.all("section") if one.attributes["id"] == "refused")
+        self.assertEqual([one.text(4) for one in section.all("p", "once")], ["All: error EACCES"])
+
+    def test_the_matrix_has_the_numbers_of_each_abi(self) -> None:
         steps = by_abi.as_data(by_abi.steps(self.summaries))
-        verdicts = ("allowed", "refused", "moot")
-        wanted = [[str(step["abi"]), *(f"{step[verdict]:,}" for verdict in verdicts)] for step in steps]
-        self.assertEqual([row[:4] for row in self.page.rows("totals", 4)], wanted)
-        (changes,) = (row[5] for row in self.page.rows("totals", 4) if row[0] == "4")
-        self.assertIn("1 kind refused here and not before", changes)
-        self.assertIn("1 kind refused no more", changes)
-        self.assertIn("open r /a/f EACCES", changes)
+        rows = {row[0]: row[1:] for row in self.page.rows("matrix", 4)}
+        for title, verdict in (("allowed", "allowed"), ("refused", "refused"), ("not asked (moot)", "moot")):
+            self.assertEqual(rows[title], [f"{step[verdict]:,}" for step in steps])
+        (head,) = self.page.all("table", "matrix")[0].all("thead")
+        self.assertEqual([one.text(4) for one in head.all("th")], ["ABILinux", "25.19+", "36.2+", "46.7+"])
+        self.assertEqual([one.attributes["for"] for one in head.all("label")], ["abi-2", "abi-3", "abi-4"])
+
+    def test_the_matrix_says_what_changes(self) -> None:
+        steps = by_abi.as_data(by_abi.steps(self.summaries))
+        rows = {row[0]: row[1:] for row in self.page.rows("matrix", 4)}
+        for title, change in (("refused here and not before", "breaks"), ("refused no more", "refused_no_more")):
+            for said, step in zip(rows[title][1:], steps[1:]):
+                self.assertTrue(said.startswith(f"{len(step[change])} kind") if step[change] else said == "", said)
+        self.assertIn("open r /a/f EACCES", rows["refused no more"][2])
+
+    def test_the_matrix_says_which_rights_are_lacking(self) -> None:
+        rows = {row[0]: row[1:] for row in self.page.rows("matrix", 4)}
+        nothing = matrix.NOT_HANDLED
+        self.assertEqual({right: rows[right] for right in ("read_file", "truncate", "connect_tcp")},
+                         {"read_file": ["3", "3", nothing], "truncate": [nothing, "1,234", "1,234"],
+                          "connect_tcp": [nothing, nothing, "11"]})
+        self.assertNotIn("execute", rows)
 
     def test_the_figures_of_the_chosen_abi(self) -> None:
         for abi in (2, 3, 4):
@@ -197,9 +225,21 @@ class Hostile(unittest.TestCase):
         calls: Counter[Place] = Counter({(f"/a/{name}",): 1 for name in HOSTILE})
         found.not_allowed["refused"] = calls
         self.summary = found
-        about = page.About(HOSTILE[0], HOSTILE[1], True)
-        self.text = page.made(about, [found], Paths(calls, [found]))
+        told = [[(HOSTILE[0], name) for name in HOSTILE]]
+        about = page.About(HOSTILE[0], HOSTILE[1], True, HOSTILE, told)
+        self.text = page.made(about, [found], Paths(calls, [found]), self.tried())
         self.page = read(self.text)
+
+    def tried(self) -> Tried:
+        """A policy with hostile names in it, and the files with such names."""
+        file = Path(self.enterContext(tempfile.TemporaryDirectory())) / "P.toml"
+        said = [f"# {name}\n" for name in HOSTILE if name.isprintable()]
+        parents = ", ".join(quoted(f"/a/{name}") for name in HOSTILE if name.isprintable() and len(name) < 99)
+        rule = f'[[layer.path_beneath]]\nallowed_access = ["execute"]\nparent = [{parents}]\n'
+        file.write_text(f'{"".join(said)}[[layer]]\nhandled_access_fs = ["all"]\n{rule}', encoding="utf-8")
+        kinds = {over: "dir" for name in HOSTILE for over in upwards(f"/a/{name}")}
+        kinds |= {f"/a/{name}": "reg" for name in HOSTILE}
+        return Tried(None, policies.read(file), None, Tree(kinds, {"/a/javascript:alert(1)": HOSTILE[1]}), [])  # type: ignore[arg-type]
 
     def test_a_page_has_its_own_elements_and_attributes_alone(self) -> None:
         self.assertLessEqual({one.name for one in self.page.elements()}, ELEMENTS)
@@ -212,26 +252,36 @@ class Hostile(unittest.TestCase):
         for name in ("p", "span", "code", "b", "label", "button", "summary", "a"):
             inside = {one.name for outer in self.page.all(name) for one in outer.elements() if one is not outer}
             with self.subTest(name):
-                self.assertLessEqual(inside, {"span", "b", "code", "svg", "rect", "input"})
+                self.assertLessEqual(inside, {"span", "b", "code", "svg", "rect", "text", "title", "input", "a"})
 
     def test_links_lead_to_the_page_itself(self) -> None:
         names = {one.attributes.get("id") for one in self.page.elements()}
         links = [one.attributes["href"] or "" for one in self.page.all("a")]
-        self.assertTrue(links)
-        self.assertTrue(all(link.startswith("#") and link[1:] in names for link in links), links)
+        self.assertGreater(len(links), len(HOSTILE))
+        for link in links:
+            self.assertTrue(link[1:] in names or re.fullmatch(r"#(at=[\w%/.~-]*&?)?(find=[\w%/.~-]*)?", link, re.ASCII), link)
+
+    def test_links_lead_to_the_places_that_they_name(self) -> None:
+        directories = {f"/a/{name}" for name in HOSTILE if name.isprintable() and "/" not in name}
+        links = [one for one in self.page.all("a") if "data-at" in one.attributes]
+        for link in links:
+            _, _, there = (link.attributes["href"] or "").partition("at=")
+            self.assertEqual(unquote(there), link.attributes["data-at"])
+        self.assertLessEqual(directories, {link.attributes["data-at"] for link in links})
 
     def test_names_are_told_as_they_are(self) -> None:
-        places = [row[2] for row in self.page.rows("refusals", 5)]
+        places = [row["place"] for row in self.page.said("refusals", 5)]
         plain = [f"/a/{name}" for name in HOSTILE if name.isprintable()]
         self.assertGreater(len(plain), 9)
         self.assertLessEqual(set(plain), set(places))
 
     def test_what_a_screen_would_act_on_is_escaped(self) -> None:
-        places = [row[2] for row in self.page.rows("refusals", 5)]
+        places = [row["place"] for row in self.page.said("refusals", 5)]
         for escaped in ("/a/\\u202egnp.exe", "/a/\\x00\\x1b[31m\\r\\n\\t\\x7f\\x85", "/a/\\udcff\\udc80"):
             self.assertIn(escaped, places)
         body = self.page.all("body")[0].text(5)
-        self.assertEqual([letter for letter in body if not letter.isprintable()], [])
+        self.assertEqual({letter for letter in body if not letter.isprintable()}, {"\n"})
+        self.assertEqual(body.count("\n"), sum(one.text(5).count("\n") for one in self.page.all("pre")))
         self.text.encode()
 
     def test_a_long_name_has_a_box_of_its_own_that_keys_reach(self) -> None:
@@ -336,7 +386,7 @@ class TreeOfPaths(unittest.TestCase):
     def rows(self, found: Paths, abi: int = 5) -> list[list[str]]:
         """What each row says: its name, and what is allowed, refused and moot."""
         shown = read(tree.tree([4, 5], found.root))
-        return [[cell.text(abi) for cell in row.inside if isinstance(cell, Element) and "bars" not in cell.kinds]
+        return [[cell.text(abi) for cell in row.inside if isinstance(cell, Element)]
                 for row in shown.elements() if "row" in row.kinds and "heads" not in row.kinds]
 
     def paths(self, calls: Counter[Place], *refused: Counter[Place]) -> Paths:
@@ -372,20 +422,46 @@ class TreeOfPaths(unittest.TestCase):
         self.assertEqual(rows[0], ["/", "0", "10,000", "0"])
         self.assertIn(["100 names", "0", "100", "0"], rows)
 
-    def test_bars_are_whole_and_show_the_least_part(self) -> None:
-        for numbers in ((1_000_000, 1, 0), (1, 1, 1), (0, 7, 0), (5, 0, 1_000_000)):
-            drawn = [one for one in read(tree.bar(*numbers)).elements() if one.name == "rect"]
-            parts = {kind: float(one.attributes["width"] or "") for one in drawn for kind in one.kinds}
-            wanted = {kind for kind, number in zip(("allowed", "refused", "moot"), numbers) if number}
-            with self.subTest(numbers):
-                self.assertEqual(set(parts), wanted)
-                self.assertAlmostEqual(sum(parts.values()), 100, delta=0.2)
-                self.assertGreaterEqual(min(parts.values()), 1.9)
-        self.assertEqual(read(tree.bar(0, 0, 0)).all("rect"), [])
+
+class Icicle(unittest.TestCase):
+    """The cells of the icicle: their widths, colours and links."""
+
+    CALLS: Counter[Place] = Counter({("/usr/lib/x/one",): 30, ("/usr/lib/x/two",): 10, ("/etc/f",): 59, ("/g",): 1})
+
+    def cells(self, refused: Counter[Place]) -> dict[str, dict[str, str]]:
+        """What is known of the cell of each path."""
+        summaries = [summed(abi, {}) for abi in (4, 5)]
+        summaries[1].not_allowed["refused"] = refused
+        found = read(icicle.icicle([4, 5], Paths(self.CALLS, summaries).root))
+        cells = {}
+        for link in found.all("a"):
+            (box,) = link.all("svg")
+            colours = {abi: [kind for one in link.all("rect") if one.seen(abi) for kind in one.kinds if kind[0] == "s"]
+                       for abi in (4, 5)}
+            cells[str(link.attributes["data-at"])] = {**{key: str(value) for key, value in box.attributes.items()},
+                                                      "4": "".join(colours[4]), "5": "".join(colours[5])}
+        return cells
+
+    def test_width_is_calls(self) -> None:
+        cells = self.cells(Counter())
+        wanted = {"/": ("0.00%", "100.00%"), "/etc/f": ("0.00%", "59.00%"), "/usr/lib/x": ("59.00%", "40.00%"),
+                  "/usr/lib/x/one": ("59.00%", "30.00%"), "/usr/lib/x/two": ("89.00%", "10.00%"),
+                  "/g": ("99.00%", "1.00%")}
+        for path, across in wanted.items():
+            with self.subTest(path):
+                self.assertEqual((cells[path]["x"], cells[path]["width"]), across)
+
+    def test_colour_is_the_refused_share_of_the_chosen_abi(self) -> None:
+        cells = self.cells(Counter({("/usr/lib/x/one",): 30, ("/etc/f",): 1}))
+        steps = {path: (cell["4"], cell["5"]) for path, cell in cells.items()}
+        self.assertEqual(steps["/usr/lib/x/one"], ("s0", "s4"))
+        self.assertEqual(steps["/usr/lib/x"], ("s0", "s3"))
+        self.assertEqual(steps["/etc/f"], ("s0", "s1"))
+        self.assertEqual(steps["/g"], ("s0", "s0"))
 
 
-class Rules(unittest.TestCase):
-    """The rules of a policy, with the calls at or below their places."""
+class PolicyByLine(unittest.TestCase):
+    """The lines of a policy, with the calls at or below the places of its rules."""
 
     POLICY = """[[layer]]
 handled_access_fs = ["read_file", "write_file"]
@@ -398,22 +474,48 @@ allowed_access = ["connect_tcp"]
 port = 443
 """
 
-    def test_each_place_of_each_rule(self) -> None:
-        with tempfile.TemporaryDirectory() as folder:
-            file = Path(folder) / "P.toml"
-            file.write_text(self.POLICY)
-            policy = policies.read(file)
+    def shown(self, text: str = POLICY, summaries: list[Summary] | None = None) -> Element:
+        """The page of an audit under a policy."""
+        file = Path(self.enterContext(tempfile.TemporaryDirectory())) / "P.toml"
+        file.write_text(text)
+        policy = policies.read(file)
         listed = Tree({"/": "dir", "/usr": "dir", "/usr/lib": "dir", "/lib": "sym"}, {"/lib": "usr/lib"})
         found = summed(5, {})
         found.not_allowed["refused"] = Counter({("/usr/lib/x",): 3})
         calls: Counter[Place] = Counter({("/usr/lib/x",): 4, 443: 2})
         tried = Tried(None, policy, None, listed, [])  # type: ignore[arg-type]
-        shown = read(page.made(ABOUT, [found], Paths(calls, [found]), tried))
-        self.assertEqual([row[:7] for row in shown.rows("rules", 5)], [
-            ["1", "path_beneath 1", "/lib", "read_file", "1", "3", "0"],
-            ["1", "path_beneath 1", "/never", "read_file", "0", "0", "0"],
-            ["1", "net_port 1", "port 443", "connect_tcp", "2", "0", "0"],
+        found_by_abi = summaries or [found]
+        return read(page.made(ABOUT, found_by_abi, Paths(calls, found_by_abi), tried))
+
+    def test_each_line_and_the_calls_of_each_place(self) -> None:
+        shown = self.shown()
+        rows = shown.rows("policy", 5)
+        self.assertEqual([row[:2] for row in rows if row[0]],
+                         [[str(number), line] for number, line in enumerate(self.POLICY.splitlines(), start=1)])
+        self.assertEqual([row[1:] for row in rows if len(row) == 4], [
+            ["/libleads to /usr/lib", "4", "1 3 refused"],
+            ["/never", "0", "0"],
+            ["port = 443", "2", "2"],
         ])
+
+    def test_what_no_call_asked_for_is_struck_out(self) -> None:
+        (table,) = self.shown().all("table", "policy")
+        self.assertEqual([one.text(5) for one in table.all("s")], ["/never"])
+
+    def test_rules_of_groups_come_behind_all_lines(self) -> None:
+        shown = self.shown('[[layer]]\nhandled_access_fs = ["all"]\ninclude = "tmp"\n')
+        rows = shown.rows("policy", 5)
+        self.assertEqual([row[0] for row in rows[:3]], ["1", "2", "3"])
+        self.assertIn(["", "tmp path_beneath 1: /tmp", "0", "0"], rows[3:])
+
+    def test_the_matrix_says_what_an_abi_protects(self) -> None:
+        summaries = [summed(abi, {READ: Counter({"a": 5})}) for abi in (1, 3, 4)]
+        shown = self.shown(summaries=summaries)
+        rows = {row[0]: row[1:] for row in shown.rows("matrix", 4)}
+        yes, dropped = matrix.PROTECTED, matrix.DROPPED
+        self.assertEqual({right: rows.get(right) for right in ("read_file", "write_file", "refer", "connect_tcp", "execute")},
+                         {"read_file": ["5", "5", "5"], "write_file": [yes] * 3, "refer": [yes] * 3,
+                          "connect_tcp": [dropped, dropped, yes], "execute": None})
 
 
 if __name__ == "__main__":

@@ -43,6 +43,10 @@ class Warnings(unittest.TestCase):
     def test_rights_that_reach_no_file_that_is_there(self) -> None:
         self.assertEqual(warned("/etc", "read_dir"), "")
 
+    def test_a_name_that_no_file_here_can_have(self) -> None:
+        for place in ("/a/" + "x" * 300, "/a/\0"):
+            self.assertEqual(warned(place), "")
+
     def test_all_else(self) -> None:
         for place in ("/etc/passwd", "/usr/lib", "/etc/ssl/certs", "/procession", "/system", "/home/me/keyboard"):
             with self.subTest(place):

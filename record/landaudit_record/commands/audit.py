@@ -97,7 +97,9 @@ def run(arguments: argparse.Namespace) -> int:
     summaries = [together.united(list(zip(members, of_abi))) for of_abi in zip(*(found for _, found in each))]
     _print(each, summaries, arguments, notes)
     if arguments.html is not None:
-        about = page.About(", ".join(arguments.recordings), arguments.policy, arguments.as_recorded)
+        suggesting = _suggesting(arguments, summaries[-1].abi) if arguments.policy else []
+        about = page.About(", ".join(arguments.recordings), arguments.policy, arguments.as_recorded, suggesting,
+                           page.recorded.facts(member.recording for member in members))
         parts = [part for member in members for part in member.recording.parts]
         page.write(arguments.html, about, summaries, parts, together.tried_of(members))
     if any(summary.others_refused for _, found in each for summary in found):

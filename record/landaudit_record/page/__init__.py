@@ -1,8 +1,9 @@
 """An audit as one page of HTML, which can be opened from the disk and loads nothing from elsewhere.
 
-It has the data of `audit --json` for every ABI. All data are in tables and lists that need no script. The buttons that
-choose an ABI need only style, and a script adds a filter and sorting. Names from a recording are always text
-(`markup`), and the page's own policy allows only the page's own style and script.
+It has the data of `audit --json` for every ABI, and begins with what to do: rules for groups of refused calls. All data
+are in tables and lists that need no script. The buttons that choose an ABI need only style, and a script adds filters,
+sorting and copying. Names from a recording are always text (`markup`), and the page's own policy allows only the page's
+own style and script.
 """
 
 from __future__ import annotations
@@ -19,9 +20,10 @@ from .. import RECORDER, VERSION, by_abi
 from ..finished import Part
 from ..summary import Summary
 from ..trying import Tried
-from . import by_version, sections
+from . import annotated, by_version, cards, matrix, recorded, sections
 from .counting import Paths, asked
 from .markup import Markup, element, together
+from .recorded import Facts
 from .sections import Section
 
 _HERE = Path(__file__).resolve().parent
@@ -29,11 +31,16 @@ _HERE = Path(__file__).resolve().parent
 
 @dataclass(frozen=True)
 class About:
-    """What was audited, in the words of the command line."""
+    """What was audited, in the words of the command line.
+
+    `suggesting` is the command that suggests rules for it, `recorded` says how each recording was made.
+    """
 
     recording: str
     policy: str | None
     as_recorded: bool
+    suggesting: Sequence[str] = ()
+    recorded: Sequence[Facts] = ()
 
     @property
     def title(self) -> str:
@@ -50,11 +57,12 @@ def write(file: Path, about: About, summaries: Sequence[Summary], parts: Iterabl
 def made(about: About, summaries: Sequence[Summary], found: Paths, tried: Tried | None = None) -> str:
     """The page of an audit; the last summary is that of the newest ABI."""
     newest = summaries[-1]
-    top = element("header", element("h1", about.title), element("p", _judged(about), kind="quiet"))
-    parts = [part for part in _parts(summaries, found, tried) if part.inside]
+    top = element("header", element("h1", about.title), element("p", _judged(about), kind="quiet"),
+                  *recorded.told(about.recorded))
+    parts = [part for part in _parts(about, summaries, found, tried) if part.inside]
     bar = element("nav", sections.switch(summaries), links(parts))
     first = (sections.in_short(summaries), sections.not_judged(newest), sections.warnings(summaries))
-    main = element("main", *first, *(part.markup() for part in parts))
+    main = element("main", *first, *(part.markup() for part in parts), sections.looking())
     return whole(about.title, together((top, bar, main)), by_version.rules(newest.abi))
 
 
@@ -65,15 +73,17 @@ def whole(title: str, body: Markup, rules: Markup = Markup()) -> str:
     return f"<!DOCTYPE html>\n{page}\n"
 
 
-def _parts(summaries: Sequence[Summary], found: Paths, tried: Tried | None) -> Iterator[Section]:
+def _parts(about: About, summaries: Sequence[Summary], found: Paths, tried: Tried | None) -> Iterator[Section]:
     """All parts that a page may have, in their order."""
     newest, abis = summaries[-1], [summary.abi for summary in summaries]
+    policy = tried.policy if tried else None
+    yield Section("grant", "What to grant" if tried else "Groups", cards.cards(summaries, tried, about.suggesting))
+    yield Section("abis", "By ABI", matrix.matrix(summaries, by_abi.steps(summaries), policy))
+    yield Section("policy", "The policy", annotated.annotated(abis, tried, found) if tried else Markup())
+    yield Section("paths", "Paths", sections.paths(abis, found))
     yield Section("refused", "Refused", sections.refused(summaries))
     yield Section("unsure", "May be refused", sections.unsure(summaries))
     yield Section("accepted", "Refused and accepted", sections.accepted(summaries))
-    yield Section("totals", "By ABI", sections.totals(by_abi.steps(summaries)))
-    yield Section("paths", "Paths", sections.paths(abis, found))
-    yield Section("rules", "Rules of the policy", sections.rules(abis, tried, found) if tried else Markup())
     yield Section("moot", "Not asked (moot)", sections.moot(newest))
     yield Section("unsaid", "Not recorded", sections.unsaid(newest))
 

@@ -65,6 +65,10 @@ class Node:
         """The names in the directory; those with the most refused calls come first."""
         return sorted(self.children.values(), key=lambda node: node.counts.weight, reverse=True)
 
+    def by_calls(self) -> list[Node]:
+        """The names in the directory; those with the most calls come first."""
+        return sorted(self.children.values(), key=lambda node: (-node.counts.all, node.name))
+
 
 class Paths:
     """The calls on paths as a tree, and the calls on ports, under some ABIs of which the newest is last."""

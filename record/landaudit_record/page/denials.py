@@ -12,10 +12,10 @@ from ..summary import Refusal
 from ..summary_text import names, why
 from ..wording import counted
 from . import links, put, sections, whole
+from .cards import rule_text
 from .markup import Markup, element, together
-from .sections import Section, named, paragraph, row, table, words_filter
-
-_HEADS = ("times", "call", "place", "error", "why", "layers", "program")
+from .sections import REFUSALS, Section
+from .tables import Row, named, paragraph, row, table
 
 
 def write(file: Path, title: str, found: Counted, rules: Iterable[str]) -> None:
@@ -28,17 +28,17 @@ def made(title: str, found: Counted, rules: Iterable[str]) -> str:
     parts = [part for part in _parts(found, rules) if part.inside]
     top = element("header", element("h1", title), element("p", f"{text.in_short(found)}.", kind="quiet"))
     first = (_figures(found), sections.not_judged(found.summary, "Not all is logged. "), _warnings(found))
-    main = element("main", *first, *(part.markup() for part in parts))
+    main = element("main", *first, *(part.markup() for part in parts), sections.looking())
     return whole(title, together((top, element("nav", links(parts)), main)))
 
 
 def _parts(found: Counted, rules: Iterable[str]) -> Iterator[Section]:
     """All parts that the page may have, in their order."""
-    refused = dict(found.summary.by_frequency())
+    refused, written = dict(found.summary.by_frequency()), "\n".join(rules).strip("\n")
+    yield Section("grant", "What to grant", rule_text(written) if written else Markup())
     yield Section("refused", "Refused", _refused(refused))
-    yield Section("same", "Logged, and succeeded all the same", _table("same", found.succeeded))
+    yield Section("same", "Logged, and succeeded all the same", _succeeded(found.succeeded))
     yield Section("above", "Rules of the policy", _above(found))
-    yield Section("rules", "Rules for these", element("pre", "\n".join(rules), kind="path"))
     yield Section("domains", "Domains", _domains(found))
 
 
@@ -67,14 +67,16 @@ def _refused(refusals: Mapping[Refusal, Counter[str]]) -> Markup:
         return paragraph("The log has no call that Landlock refused.")
     calls = sum(programs.total() for programs in refusals.values())
     told = paragraph(f"{counted(calls, 'call')}, in {counted(len(refusals), 'kind')}.")
-    return together((told, words_filter(), _table("refusals", refusals)))
+    return together((told, sections.each(REFUSALS, list(map(_row, refusals.items())))))
 
 
-def _table(kind: str, refusals: Mapping[Refusal, Counter[str]]) -> Markup:
-    return table(kind, _HEADS, map(_row, refusals.items())) if refusals else Markup()
+def _succeeded(refusals: Mapping[Refusal, Counter[str]]) -> Markup:
+    """The table of calls that succeeded although a layer refused something."""
+    rows = map(_row, refusals.items())
+    return table("kinds same", REFUSALS, rows, once=("layers", "program")) if refusals else Markup()
 
 
-def _row(item: tuple[Refusal, Counter[str]]) -> Markup:
+def _row(item: tuple[Refusal, Counter[str]]) -> Row:
     """A kind of denied calls."""
     refusal, programs = item
     layers = ", ".join(layer.name for layer in refusal.layers)

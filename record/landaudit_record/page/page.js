@@ -1,5 +1,6 @@
-// A filter and sorting for the table of refusals, and doors for the tree. All else of the page works without this.
-// What is seen is in the page's address too: #abi=3&find=passwd&sort=place, with -place for the other way round.
+// Filters and sorting for the table of refusals, doors for the tree, and copying. All else of the page works without
+// this. What is seen is in the page's address too: #abi=3&at=/etc&find=passwd&sort=place, with -place for the other way
+// round; `at` is a directory.
 
 const buttons = [...document.querySelectorAll(".abis input")];
 const table = document.querySelector("table.refusals");
@@ -9,9 +10,11 @@ const heads = table ? [...table.tHead.rows[0].cells] : [];
 const names = heads.map((head) => head.textContent);
 const find = document.getElementById("find");
 const left = document.getElementById("left");
+const each = document.getElementById("each");
+const placed = [...document.querySelectorAll("[data-at]")];
 const inOrder = new Intl.Collator("en", { numeric: true });
 const texts = new Map();
-let sorted = "";
+let sorted = "", at = "";
 
 // A page without ABIs has no buttons, and shows all rows.
 const abi = () => buttons.find((button) => button.checked)?.value;
@@ -31,12 +34,33 @@ function textOf(row) {
     return texts.get(row);
 }
 
+/** Whether a path is in a directory, or is it. */
+const isIn = (path, directory) => directory === "/" || path === directory || path.startsWith(`${directory}/`);
+
+/** Whether a place of a row, which may name two paths, is where the reader looks. */
+function isThere(row) {
+    return !at || row.querySelector(".place").textContent.split(" -> ").some((path) => isIn(path, at));
+}
+
+/** Shows the groups and directories where the reader looks, and says where that is. */
+function look() {
+    for (const one of placed) {
+        if (one.matches(".card")) {
+            one.hidden = at !== "" && !isIn(one.dataset.at, at) && !isIn(at, one.dataset.at);
+        } else {
+            one.classList.toggle("chosen", one.dataset.at === at);
+        }
+    }
+    place.hidden = !at;
+    place.querySelector("span").textContent = at;
+}
+
 /** Shows the rows that have all words, and says how many they are. */
 function filter() {
     const words = find.value.toLowerCase().split(/\s+/).filter(Boolean);
     let kinds = 0, calls = 0;
     for (const row of rows) {
-        const has = words.every((word) => textOf(row).includes(word));
+        const has = isThere(row) && words.every((word) => textOf(row).includes(word));
         if (row.hidden === has) {
             row.hidden = !has;
         }
@@ -73,6 +97,9 @@ function keep() {
     if (buttons.length && !buttons.at(-1).checked) {
         seen.set("abi", abi());
     }
+    if (at) {
+        seen.set("at", at);
+    }
     if (find?.value) {
         seen.set("find", find.value);
     }
@@ -92,11 +119,65 @@ function follow() {
     if (chosen) {
         chosen.checked = true;
     }
+    at = asked.get("at") ?? "";
+    look();
     if (table) {
         find.value = asked.get("find") ?? "";
         sort(asked.get("sort") ?? "");
         filter();
+        each.open ||= find.value !== "";
     }
+}
+
+/** Follows a link of the page to some kinds; the ABI and the order stay. */
+function go(event) {
+    const link = event.target.closest("a[href*='=']");
+    if (link) {
+        event.preventDefault();
+        const asked = new URLSearchParams(link.getAttribute("href").slice(1));
+        const there = asked.get("at") ?? "";
+        const again = link.matches("[data-at]") && there === at;
+        at = again ? "" : there;
+        look();
+        if (table) {
+            find.value = asked.get("find") ?? "";
+            filter();
+            if (link.closest(".card")) {
+                each.open = true;
+                each.scrollIntoView();
+            }
+        }
+        keep();
+    }
+}
+
+/** Copies the text beside a button; where the browser forbids that, chooses it, to be copied by keys. */
+async function copy(button) {
+    const text = button.parentElement.querySelector("pre");
+    try {
+        await navigator.clipboard.writeText(text.textContent);
+        button.textContent = "Copied";
+    } catch {
+        getSelection().selectAllChildren(text);
+        button.textContent = "Chosen: copy it";
+    }
+    setTimeout(() => { button.textContent = "Copy"; }, 2000);
+}
+
+const place = document.getElementById("at");
+const all = place.querySelector("button");
+all.addEventListener("click", () => {
+    at = "";
+    look();
+    if (table) {
+        filter();
+    }
+    keep();
+});
+document.querySelector("main").addEventListener("click", go);
+for (const button of document.querySelectorAll(".copy")) {
+    button.hidden = false;
+    button.addEventListener("click", () => copy(button));
 }
 
 for (const button of buttons) {
@@ -129,15 +210,15 @@ if (table) {
 const doors = document.getElementById("doors");
 if (doors) {
     doors.hidden = false;
-    const all = [...document.querySelectorAll(".tree details")];
+    const directories = [...document.querySelectorAll(".tree details")];
     document.getElementById("open").addEventListener("click", () => {
-        for (const door of all) {
+        for (const door of directories) {
             const refused = door.querySelector(":scope > summary > .refused");
             door.open = door.open || Number(said(refused).replaceAll(",", "")) > 0;
         }
     });
     document.getElementById("close").addEventListener("click", () => {
-        all.forEach((door, place) => { door.open = place === 0; });
+        directories.forEach((door, place) => { door.open = place === 0; });
     });
 }
 addEventListener("hashchange", follow);

@@ -3,29 +3,23 @@
 from __future__ import annotations
 
 from collections import Counter
-from collections.abc import Iterable, Iterator, Sequence
+from collections.abc import Sequence
 from dataclasses import dataclass
 
 from ..answers import UNSURE
-from ..by_abi import Kind, Step
-from ..policies import Policy
-from ..rights import FS, NET
 from ..summary import Accepted, Refusal, Summary
-from ..summary_text import names, why
-from ..trees import Tree
-from ..trying import Tried
+from ..summary_text import MOST_ROWS, names, why
 from ..wording import counted
 from .by_version import choice, kinds, varied
-from .counting import Counts, Paths
-from .markup import Markup, element, text, together
-from .tree import bar, bars, columns, tree
-
-#: A longer text is in a box that scrolls.
-LONGEST = 300
-#: The most kinds that are named of those that change from ABI to ABI.
-MOST_KINDS = 20
+from .counting import Paths
+from .icicle import icicle
+from .markup import Markup, element, together
+from .tables import Row, named, paragraph, row, table
+from .tree import tree
 
 MOOT = "A call is moot if Landlock is not asked: for example, the file does not exist, or the call fails earlier."
+
+REFUSALS = ("times", "call", "place", "error", "why", "layers", "program")
 
 UNKNOWN = ("The recording does not know what was there before these calls: in one case the policy refuses them, in "
            "another it does not.")
@@ -46,27 +40,6 @@ class Section:
         return element("section", heading, self.inside, attributes={"id": self.name, "aria-labelledby": title})
 
 
-def table(kind: str, heads: Sequence[str], rows: Iterable[str]) -> Markup:
-    """A table with the names of its columns."""
-    named = element("tr", *(element("th", head, attributes={"scope": "col"}) for head in heads))
-    return element("table", element("thead", named), element("tbody", *rows), kind=kind)
-
-
-def row(*cells: str, kind: str = "") -> Markup:
-    """A row of a table."""
-    return element("tr", *(element("td", cell) for cell in cells), kind=kind)
-
-
-def named(plain: str) -> Markup:
-    """A name from a recording; a long one is in a box that scrolls, also by keys."""
-    return text(plain) if len(plain) <= LONGEST else element("span", plain, kind="long", attributes={"tabindex": "0"})
-
-
-def paragraph(*inside: str, kind: str = "") -> Markup:
-    """A paragraph."""
-    return element("p", *inside, kind=kind)
-
-
 def switch(summaries: Sequence[Summary]) -> Markup:
     """The buttons that choose the ABI that the page shows."""
     buttons = (_button(summary.abi, summary is summaries[-1]) for summary in summaries)
@@ -80,7 +53,7 @@ def _button(abi: int, newest: bool) -> Markup:
 
 
 def in_short(summaries: Sequence[Summary]) -> Markup:
-    """The counts at the chosen ABI, in one line and a bar."""
+    """The counts at the chosen ABI, in one line."""
     return together(element("div", _figures(summary), kind=f"figures {kinds([summary.abi])}") for summary in summaries)
 
 
@@ -97,7 +70,7 @@ def _figures(summary: Summary) -> Markup:
     )
     told = (element("div", element("b", number), " ", element("span", what), kind=kind)
             for number, what, kind in figures)
-    return together((*told, bar(verdicts["allowed"], verdicts["refused"], verdicts["moot"])))
+    return together(told)
 
 
 def not_judged(summary: Summary, said: str = "Not all is judged. ") -> Markup:
@@ -123,45 +96,20 @@ def _times(times: Sequence[int], abis: Sequence[int]) -> Markup:
     return varied(abis, [f" ({counted(one, 'time')})" if one > 1 else "" for one in times])
 
 
-def totals(steps: Sequence[Step]) -> Markup:
-    """The counts at each ABI, and the changes from one to the next."""
-    heads = ("ABI", "allowed", "refused", "moot", "", "what changes")
-    return table("totals", heads, map(_step, steps))
-
-
-def _step(step: Step) -> Markup:
-    verdicts = [step.verdicts[verdict] for verdict in ("allowed", "refused", "moot")]
-    cells = [element("td", f"{number:,}") for number in verdicts]
-    cells += [element("td", bar(*verdicts)), element("td", _changes(step))]
-    label = element("label", str(step.abi), attributes={"for": choice(step.abi)})
-    return element("tr", element("th", label, attributes={"scope": "row"}), *cells, kind=f"t{step.abi}")
-
-
-def _changes(step: Step) -> Markup:
-    """What an ABI changes, compared with the one before it."""
-    changes = (("refused here and not before", step.breaks), ("refused no more", step.no_more))
-    told = [_some(f"{counted(len(some), 'kind')} {what}", some) for what, some in changes if some]
-    if step.warnings:
-        told.append(element("div", counted(len(step.warnings), "more warning")))
-    return together(told)
-
-
-def _some(title: str, some: Sequence[Kind]) -> Markup:
-    """The first of some kinds, which a click on their number opens."""
-    words = ((kind.call, kind.place, kind.error) for kind in some[:MOST_KINDS])
-    items = [element("li", element("code", " ".join(word for word in each if word != "-"))) for each in words]
-    if len(some) > MOST_KINDS:
-        items.append(element("li", f"and {counted(len(some) - MOST_KINDS, 'more kind')}"))
-    return element("details", element("summary", title), element("ul", *items))
-
-
 def refused(summaries: Sequence[Summary]) -> Markup:
     """The table of the refusals of all ABIs; the page shows those of the chosen ABI."""
     found = _by_refusal(summaries)
-    heads = ("times", "call", "place", "error", "why", "layers", "program")
     told = [paragraph(_how_many(summary), kind=kinds([summary.abi])) for summary in summaries]
-    rows = (_refusal(refusal, by_abi) for refusal, by_abi in found)
-    return together((*told, *((words_filter(), table("refusals", heads, rows)) if found else ())))
+    rows = [_refusal(refusal, by_abi) for refusal, by_abi in found]
+    return together((*told, *([each(REFUSALS, rows)] if rows else ())))
+
+
+def each(heads: Sequence[str], rows: Sequence[Row]) -> Markup:
+    """The kinds of refused calls one by one; a click opens them if there are many."""
+    opened = {"open": ""} if len(rows) <= MOST_ROWS else {}
+    kinds_of_calls = table("kinds refusals", heads, rows, once=("error", "layers", "program"))
+    title = element("summary", "Each kind by itself")
+    return element("details", title, words_filter(), kinds_of_calls, attributes={"id": "each", **opened})
 
 
 def unsure(summaries: Sequence[Summary]) -> Markup:
@@ -174,10 +122,10 @@ def unsure(summaries: Sequence[Summary]) -> Markup:
         return Markup()
     heads = ("times", "call", "place", "not known", "error", "why", "program")
     rows = (_unsure(refusal, by_abi) for refusal, by_abi in found.items())
-    return together((paragraph(UNKNOWN), table("unsure", heads, rows)))
+    return together((paragraph(UNKNOWN), table("kinds unsure", heads, rows, once=("error", "program"))))
 
 
-def _unsure(refusal: Refusal, by_abi: dict[int, Counter[str]]) -> Markup:
+def _unsure(refusal: Refusal, by_abi: dict[int, Counter[str]]) -> Row:
     abis = sorted(by_abi)
     times = varied(abis, [f"{by_abi[abi].total():,}" for abi in abis])
     programs = varied(abis, [named(names(by_abi[abi])) for abi in abis])
@@ -210,7 +158,14 @@ def words_filter() -> Markup:
     return element("div", label, left, kind="tools", attributes={"id": "filter", "hidden": ""})
 
 
-def _refusal(refusal: Refusal, by_abi: dict[int, Counter[str]]) -> Markup:
+def looking() -> Markup:
+    """What says in which directory the reader looks; without a script it is hidden."""
+    button = element("button", "Show all", attributes={"type": "button"})
+    return element("div", "Only at or below ", element("span", kind="path"), " ", button,
+                   attributes={"id": "at", "hidden": ""})
+
+
+def _refusal(refusal: Refusal, by_abi: dict[int, Counter[str]]) -> Row:
     """A row for one kind of refused calls, with their number at each ABI that refuses them."""
     abis = sorted(by_abi)
     times = varied(abis, [f"{by_abi[abi].total():,}" for abi in abis])
@@ -231,7 +186,7 @@ def accepted(summaries: Sequence[Summary]) -> Markup:
     return table("accepted", ("times", "call", "place", "reason"), (_accepted(*one) for one in found.items()))
 
 
-def _accepted(one: Accepted, by_abi: dict[int, int]) -> Markup:
+def _accepted(one: Accepted, by_abi: dict[int, int]) -> Row:
     times = varied(list(by_abi), [f"{times:,}" for times in by_abi.values()])
     return row(times, one.call, named(one.place), named(one.reason), kind=kinds(by_abi))
 
@@ -248,42 +203,14 @@ def moot(summary: Summary) -> Markup:
 
 def paths(abis: Sequence[int], found: Paths) -> Markup:
     """The tree of paths."""
-    told = paragraph("Calls on paths about which Landlock is asked, at or below each directory. A call on two paths is "
-                     "counted once if both are below.")
+    told = paragraph("Calls on paths about which Landlock is asked, at or below each directory: as wide as they are many, "
+                     "the redder, the more are refused. A call on two paths is counted once if both are below. A click "
+                     "on a directory shows the groups and kinds there.")
     buttons = (element("button", title, attributes={"type": "button", "id": name})
                for title, name in (("Open directories with refusals", "open"), ("Close all", "close")))
-    return together((told, element("div", *buttons, kind="tools", attributes={"id": "doors", "hidden": ""}),
-                     tree(abis, found.root)))
-
-
-def rules(abis: Sequence[int], tried: Tried, found: Paths) -> Markup:
-    """The rules of the policy, with how many calls are at or below the place of each."""
-    rows = (_rule(abis, *one) for one in _rules(tried.policy, tried.tree, found))
-    told = paragraph("How many calls are at or below the path or port of a rule, whichever rules and layers allow or "
-                     "refuse them. Calls on an object there by another name are not counted. landaudit-record tighten "
-                     "says which rights no call needs.")
-    heads = ("layer", "rule", "place", "rights", "allowed", "refused", "moot", "")
-    return together((told, table("rules", heads, rows)))
-
-
-def _rules(policy: Policy, listed: Tree, found: Paths) -> Iterator[tuple[str, str, str, str, Counts]]:
-    """The layer, name, place, rights and calls of each rule, for each of its places."""
-    for layer in policy.layers:
-        number, fs, net = str(layer.number), layer.handled_access_fs.rights, layer.handled_access_net.rights
-        for rule in layer.path_beneath:
-            rights = ", ".join(FS.ordered(rule.allowed_access.rights & fs))
-            for parent in rule.parents:
-                real = listed.real(listed.resolved(parent, before_run=True))
-                yield number, rule.place, parent, rights, found.below(real)
-        for port_rule in layer.net_port:
-            rights = ", ".join(NET.ordered(port_rule.allowed_access.rights & net))
-            for port in port_rule.ports:
-                yield number, port_rule.place, f"port {port}", rights, found.on(port)
-
-
-def _rule(abis: Sequence[int], layer: str, rule: str, place: str, rights: str, counts: Counts) -> Markup:
-    numbers = (varied(abis, [f"{number:,}" for number in some]) for _, some in columns(abis, counts))
-    return row(layer, rule, named(place), rights, *numbers, bars(abis, counts), kind="" if counts.all else "idle")
+    doors = element("div", *buttons, kind="tools", attributes={"id": "doors", "hidden": ""})
+    listed = element("details", element("summary", "As a list, with numbers"), doors, tree(abis, found.root))
+    return together((told, icicle(abis, found.root), listed))
 
 
 def unsaid(summary: Summary) -> Markup:

@@ -15,8 +15,6 @@ from .markup import Markup, element, together
 #: The most rows of the tree, and how many of them are seen before a reader opens or closes any.
 MOST_ROWS = 1_500
 SEEN_ROWS = 24
-#: The fewest of a bar's hundred parts for a number that is not zero.
-LEAST = 2
 
 
 @dataclass
@@ -29,7 +27,7 @@ class Shape:
 
 def tree(abis: Sequence[int], root: Node) -> Markup:
     """The whole tree, and what its columns are."""
-    names = ("at or below", "", "allowed", "refused", "moot")
+    names = ("at or below", "allowed", "refused", "moot")
     heads = element("div", *(element("span", name) for name in names), kind="row heads")
     return together((heads, element("ul", _row(abis, root, root.name, _shape(root)), kind="tree")))
 
@@ -40,7 +38,7 @@ def _shape(root: Node) -> Shape:
     waiting = [((0, 0), next(turn), root)]
     while waiting:
         _, _, node = heapq.heappop(waiting)
-        inside = [_joined(child)[0] for child in _named(node)]
+        inside = [joined(child)[0] for child in _named(node)]
         if rows + len(inside) > MOST_ROWS:
             continue
         rows += len(inside)
@@ -60,7 +58,7 @@ def _named(node: Node) -> list[Node]:
     return [child for child in node.by_weight() if child.children or child.counts.ever_refused]
 
 
-def _joined(node: Node) -> tuple[Node, str]:
+def joined(node: Node) -> tuple[Node, str]:
     """The end of a chain of directories with only one directory in each, and the name of the chain."""
     name = node.name
     while len(node.children) == 1:
@@ -89,7 +87,7 @@ def _inside(abis: Sequence[int], node: Node, shape: Shape) -> Iterator[Markup]:
         rest.add(child.counts)
     for child in named:
         rest.add(child.counts, -1)
-        end, name = _joined(child)
+        end, name = joined(child)
         yield _row(abis, end, name, shape)
     left = len(node.children) - len(named)
     if left:
@@ -100,7 +98,6 @@ def _inside(abis: Sequence[int], node: Node, shape: Shape) -> Iterator[Markup]:
 def _cells(abis: Sequence[int], name: str, counts: Counts, kind: str = "path") -> Iterator[Markup]:
     """The columns of a row."""
     yield element("span", name, kind=kind, attributes={"dir": "ltr"})
-    yield bars(abis, counts)
     for title, numbers in columns(abis, counts):
         zero = " none" if not any(numbers) else ""
         yield element("span", varied(abis, [f"{number:,}" for number in numbers]), kind=title + zero)
@@ -111,31 +108,3 @@ def columns(abis: Sequence[int], counts: Counts) -> Iterator[tuple[str, list[int
     yield "allowed", [counts.allowed(at) for at in range(len(abis))]
     yield "refused", counts.refused
     yield "moot", counts.moot
-
-
-def bars(abis: Sequence[int], counts: Counts) -> Markup:
-    """The bar of counts, of each ABI."""
-    verdicts = zip(*(numbers for _, numbers in columns(abis, counts)))
-    return element("span", varied(abis, [bar(*each) for each in verdicts]), kind="bars")
-
-
-def bar(allowed: int, refused: int, moot: int) -> Markup:
-    """Allowed, refused and moot calls as parts of one bar; the numbers beside it say the same."""
-    parts = _parts((allowed, refused, moot))
-    left, drawn = 0.0, list[Markup]()
-    for part, kind in zip(parts, ("allowed", "refused", "moot")):
-        if part:
-            place = {"x": f"{left:g}", "width": f"{part:g}", "height": "1"}
-            drawn.append(element("rect", kind=kind, attributes=place))
-        left = round(left + part, 1)
-    shape = {"viewBox": "0 0 100 1", "preserveAspectRatio": "none", "aria-hidden": "true"}
-    return element("svg", *drawn, attributes=shape)
-
-
-def _parts(numbers: Sequence[int]) -> list[float]:
-    """Numbers as parts of a hundred; a number that is not zero has at least the least part that is seen."""
-    whole = sum(numbers)
-    if not whole:
-        return [0.0] * len(numbers)
-    least = [max(100 * number / whole, LEAST) if number > 0 else 0.0 for number in numbers]
-    return [round(100 * part / sum(least), 1) for part in least]

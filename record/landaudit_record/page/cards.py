@@ -1,0 +1,155 @@
+"""What to grant: a card for each group of refused calls, with a rule that would let them pass, to copy."""
+
+from __future__ import annotations
+
+import os
+import shlex
+from collections import Counter
+from collections.abc import Iterable, Iterator, Mapping, Sequence
+from dataclasses import replace
+from urllib.parse import quote
+
+from .. import grouping, suggestion_text
+from ..grouping import Group
+from ..policies import Policy
+from ..summary import Summary
+from ..summary_text import names, where_of
+from ..trying import Tried
+from ..wants import Rule
+from ..wording import counted, printable
+from .by_version import kinds
+from .markup import Markup, element, together
+from .offering import Offer, Offering
+from .tables import named
+
+#: The most cards, and the most exact rules that a card has.
+MOST_CARDS = 20
+MOST_EXACT = 60
+#: The width of a text that is not to be shortened.
+NO_LIMIT = 1_000_000
+_ALSO, _WARNING = "also ", "warning: "
+
+
+def cards(summaries: Sequence[Summary], tried: Tried | None, suggesting: Sequence[str]) -> Markup:
+    """The cards of each ABI, and the command that prints rules for all calls."""
+    if not any(summary.refusals for summary in summaries):
+        return Markup()
+    offering = Offering(tried) if tried else None
+    found: dict[Markup, list[int]] = {}
+    for summary in summaries:
+        found.setdefault(together(_of_abi(summary, offering, tried)), []).append(summary.abi)
+    shown = (element("div", some, kind=f"cards {kinds(abis)}") for some, abis in found.items())
+    return together((_told(suggesting) if tried else "", *shown))
+
+
+def _told(suggesting: Sequence[str]) -> Markup:
+    """What the rules are, and what checks them."""
+    told = element("p", "A rule for each group of refused calls, the group of the earliest refused call first. A rule "
+                        "on a directory grants more than these calls need, and what a rule lets pass may be followed "
+                        "by other calls. Audit the new policy again.")
+    if not suggesting:
+        return told
+    exact = element("p", "This command prints exact rules for all of them, and audits these rules:")
+    return together((told, exact, rule_text(shlex.join(suggesting))))
+
+
+def rule_text(text: str) -> Markup:
+    """A text to copy, with its button, which a script shows."""
+    button = element("button", "Copy", kind="copy", attributes={"type": "button", "hidden": ""})
+    lines = (part for line in text.split("\n") for part in (_line(line), Markup("\n")))
+    return element("div", element("pre", *lines, attributes={"tabindex": "0"}), button, kind="rule")
+
+
+def _line(line: str) -> Markup:
+    """A line of TOML or of a shell; comments are quiet."""
+    return element("span", line, kind="comment") if line.startswith("#") else together((line,))
+
+
+def _of_abi(summary: Summary, offering: Offering | None, tried: Tried | None) -> Iterator[Markup]:
+    """The cards of an ABI, the earliest first, and what they have in common."""
+    groups = grouping.grouped(summary.refusals.items())
+    alike = {_error_and_layers(group) for group in groups}
+    if len(groups) > 1 and len(alike) == 1:
+        yield element("p", "All: ", *alike, kind="once")
+        alike = set()
+    for group in groups[:MOST_CARDS]:
+        offer = offering.of(group, summary.abi) if offering else Offer(group, {}, {})
+        yield _card(offer, tried.policy if tried else None, [_error_and_layers(group)] if alike else [])
+    if len(groups) > MOST_CARDS:
+        more = counted(len(groups) - MOST_CARDS, "more group")
+        yield element("p", f"{more} without a card: see the refused calls below.", kind="quiet")
+
+
+def _error_and_layers(group: Group) -> str:
+    """The error of a group's calls, and the layers that refuse them."""
+    layers = ", ".join(group.lacking.layers)
+    return f"{group.lacking.error}, by {layers}" if layers else group.lacking.error
+
+
+def _card(offer: Offer, policy: Policy | None, also: Sequence[str]) -> Markup:
+    """The card of a group; `also` is what not all cards have in common."""
+    group = offer.group
+    first = [element("p", "Refused first: here the program meets the policy.", kind="first")] if not group.order else []
+    why = "; ".join(group.lacking.objections)
+    title = element("h3", element("b", counted(group.programs.total(), "call")), " ", element("span", named(why), kind="why"))
+    place = element("p", element("a", named(where_of(group)(NO_LIMIT)), kind="path", attributes={"href": _link(group)}))
+    programs = Counter[str]()
+    for name, calls in group.programs.items():
+        programs[os.path.basename(name)] += calls
+    by = element("p", " · ".join([names(programs), *also]), kind="quiet")
+    shown = [*_rules(offer.wide, policy), *_exactly(offer, policy)] if policy else []
+    helpless = [element("p", f"No rule here: {offer.helpless}.", kind="warned")] if offer.helpless else []
+    return element("article", *first, title, place, by, *helpless, *shown, kind="card",
+                   attributes={"data-at": group.directory} if group.directory else None)
+
+
+def _link(group: Group) -> str:
+    """Leads to the kinds of a group among all kinds."""
+    rights = group.lacking.objections[0].replace(", ", " ") if group.lacking.objections else ""
+    at = f"at={quote(printable(group.directory))}&" if group.directory else ""
+    return f"#{at}find={quote(printable(rights))}"
+
+
+def _rules(rules: Mapping[int, list[Rule]], policy: Policy) -> Iterator[Markup]:
+    """Rules, what they grant besides, and warnings about them."""
+    remarks = dict.fromkeys(text for some in rules.values() for rule in some for text in rule.remarks)
+    for text in remarks:
+        if text.startswith(_WARNING):
+            yield element("p", text.removeprefix(_WARNING), kind="warned")
+        elif text.startswith(_ALSO):
+            yield element("p", f"grants {text}", kind="also")
+    if rules:
+        yield rule_text(toml(rules, policy))
+
+
+def _exactly(offer: Offer, policy: Policy) -> Iterator[Markup]:
+    """The exact rules of an offer, if they are others."""
+    number = sum(map(len, offer.exact.values()))
+    if offer.exact == offer.wide or number > MOST_EXACT:
+        return
+    title = element("summary", f"or exactly: {counted(number, 'rule')}")
+    yield element("details", title, rule_text(toml(offer.exact, policy)))
+
+
+def toml(rules: Mapping[int, list[Rule]], policy: Policy) -> str:
+    """Rules as TOML to paste; what a card says of them is not said again."""
+    lines: list[str] = []
+    for layer in policy.layers:
+        if some := rules.get(layer.number):
+            told = suggestion_text.of_layer(layer, list(map(_without_said, some)), {}, policy)
+            lines += list(told)[len(policy.layers) == 1:]
+    return "\n".join(_single(lines)).strip("\n")
+
+
+def _without_said(rule: Rule) -> Rule:
+    """A rule without the remarks that a card has outside of its text."""
+    return replace(rule, remarks=tuple(text for text in rule.remarks if not text.startswith((_ALSO, _WARNING))))
+
+
+def _single(lines: Iterable[str]) -> Iterator[str]:
+    """Lines with at most one empty line between others."""
+    before = ""
+    for line in lines:
+        if line or before:
+            yield line
+        before = line
