@@ -257,7 +257,8 @@ class LivePage(unittest.TestCase):
     def test_a_click_on_a_directory_filters_the_page(self) -> None:
         self.tab.open(self.build())
         self.tab.says(EACH)
-        cards = "[...document.querySelectorAll('.card')].filter(card => card.checkVisibility()).map(card => card.dataset.at)"
+        cards = ("[...document.querySelectorAll('.card')].filter(card => card.checkVisibility())"
+                 ".map(card => card.dataset.at)")
         before = self.tab.says(cards)
         cell = "document.querySelector('.icicle [data-at=\"/etc/ssl/certs\"]')"
         self.tab.says(f"{cell}.dispatchEvent(new MouseEvent('click', {{bubbles: true, cancelable: true}}))")
@@ -294,8 +295,10 @@ class LivePage(unittest.TestCase):
         self.tab.wide(400)
         self.tab.open(self.build())
         self.tab.says(EACH)
-        lines = self.tab.says(f"Math.max(...{VISIBLE}.slice(0, 9).map(row => (row.scrollIntoView(), row.offsetHeight)))")
-        self.assertLess(lines, 4 * 22)
+        tall = "map(row => { row.scrollIntoView(); return row.offsetHeight; })"
+        heights = self.tab.says(f"{VISIBLE}.slice(0, 9).{tall}")
+        line = self.tab.says("parseFloat(getComputedStyle(document.body).lineHeight)")
+        self.assertLess(max(heights), 4 * line)
 
     def test_sorting_by_a_column_and_back(self) -> None:
         self.tab.open(self.build())

@@ -55,8 +55,9 @@ class Element:
         names = [one.text(abi) for one in head.all("th")]
         above = [one for one in self.elements() if one is table or "once" in one.kinds]
         before = above[above.index(table) - 1] if above.index(table) else table
-        parts = [one.text(abi).split(maxsplit=1) for one in before.all("span")] if "once" in before.kinds else []
-        once = {head: said for head, said in parts}
+        parts = before.all("span") if "once" in before.kinds else []
+        once = {part.text(abi).removesuffix(said.text(abi)).strip(): said.text(abi) for part in parts
+                for said in part.all("b")}
         return [{**once, **dict(zip(names, row, strict=True))} for row in self.rows(kind, abi)]
 
 

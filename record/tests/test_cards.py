@@ -90,12 +90,14 @@ class Cards(unittest.TestCase):
         self.assertEqual(self.granted(card), {"/a": {"read_file"}})
 
     def test_a_rule_for_what_the_run_replaces_is_on_the_directory(self) -> None:
-        tree = Tree({"/": "dir", "/a": "dir", "/a/f": "reg", "/a/~f~": "reg"}, made={"/a/~f~"}, shown={"/a/~f~": "/a/f"})
+        kinds = {"/": "dir", "/a": "dir", "/a/f": "reg", "/a/~f~": "reg"}
+        tree = Tree(kinds, made={"/a/~f~"}, shown={"/a/~f~": "/a/f"})
         (card,) = self.cards(opened("/a/f"), tree=tree)
         self.assertEqual(self.granted(card), {"/a": {"read_file"}})
 
     def test_a_move_needs_rules_on_both_directories(self) -> None:
-        move = refused("rename", "/a/f -> /b/f", Missing(("remove_file", "refer"), "/a"), Missing(("make_reg", "refer"), "/b"))
+        lacking = Missing(("remove_file", "refer"), "/a"), Missing(("make_reg", "refer"), "/b")
+        move = refused("rename", "/a/f -> /b/f", *lacking)
         (card,) = self.cards(move)
         self.assertEqual(self.granted(card), {"/a": {"remove_file", "refer"}, "/b": {"make_reg", "refer"}})
 
@@ -111,7 +113,8 @@ class Cards(unittest.TestCase):
         self.assertIn('# handled_access_fs = ["make_reg", "refer"]', card.all("pre")[0].text(5))
 
     def test_ports(self) -> None:
-        (card,) = self.cards(*(refused("connect", f"port {port}", Closed(("connect_tcp",), port)) for port in (80, 443)))
+        closed = (refused("connect", f"port {port}", Closed(("connect_tcp",), port)) for port in (80, 443))
+        (card,) = self.cards(*closed)
         (rule,) = self.layer(card).net_port
         self.assertEqual((rule.ports, rule.allowed_access.rights), ((80, 443), {"connect_tcp"}))
         self.assertIn("# 4 calls", card.all("pre")[0].text(5))
@@ -140,7 +143,8 @@ class Cards(unittest.TestCase):
     def test_a_rule_that_completes_write_and_run(self) -> None:
         text = f'{DENY}[[layer.path_beneath]]\nallowed_access = ["execute"]\nparent = "/a"\n'
         written = opened("/a/f", "write_file")
-        self.assertEqual([self.warned(one) for one in self.cards(written, text=text)], [["what is written there can be run"]])
+        warning = ["what is written there can be run"]
+        self.assertEqual([self.warned(one) for one in self.cards(written, text=text)], [warning])
         self.assertEqual([self.warned(one) for one in self.cards(written)], [[]])
         self.assertEqual([self.warned(one) for one in self.cards(opened("/b/f", "write_file"), text=text)], [[]])
 
@@ -155,10 +159,13 @@ class Cards(unittest.TestCase):
         self.assertIn("# 1 rule for layer 2: paste them under the [[layer]] of that number", card.all("pre")[0].text(5))
 
     def test_equal_cards_of_some_abis_are_written_once(self) -> None:
-        tried = Tried(None, self.policy(), None, Tree({"/": "dir", "/a": "reg", "/b": "reg"}), [])  # type: ignore[arg-type]
-        one, other = {opened("/a"): Counter(a=1)}, {opened("/a"): Counter(a=1), opened("/b"): Counter(a=1)}
-        page = read(cards.cards([Summary(3, refusals=one), Summary(4, refusals=one), Summary(5, refusals=other)], tried, []))
-        self.assertEqual([sorted(it.kinds) for it in page.all("div", "cards")], [["a", "a3", "a4", "cards"], ["a", "a5", "cards"]])
+        tree = Tree({"/": "dir", "/a": "reg", "/b": "reg"})
+        tried = Tried(None, self.policy(), None, tree, [])  # type: ignore[arg-type]
+        one, other = {opened("/a"): Counter(a=1)}, {opened("/a"): Counter(a=1), opened("/b", "execute"): Counter(a=1)}
+        summaries = [Summary(3, refusals=one), Summary(4, refusals=one), Summary(5, refusals=other)]
+        shown = read(cards.cards(summaries, tried, [])).all("div", "cards")
+        self.assertEqual([sorted(it.kinds) for it in shown], [["a", "a3", "a4", "cards"], ["a", "a5", "cards"]])
+        self.assertEqual([len(it.all("article")) for it in shown], [1, 2])
 
 
 if __name__ == "__main__":

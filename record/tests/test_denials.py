@@ -434,7 +434,8 @@ class Page(unittest.TestCase):
         self.assertEqual(sum(int(row[0]) for row in rows), 41)
         self.assertEqual([row[1] for row in found.rows("same", 0)], ["openat"])
         self.assertIn(["12b597920", "/usr/bin/python3.11 (python3)", "26899", "1", "1", "python3's"],
-                      found.rows("domains", 0))
+                      [[row[name] for name in ("domain", "made by", "process", "logged", "counted", "layer")]
+                       for row in found.said("domains", 0)])
         (rules,) = found.all("pre")
         self.assertIn('parent = "/work/box/in"', rules.text(0))
 

@@ -48,8 +48,8 @@ ABOUT = page.About("rec", "policy.toml", False)
 ELEMENTS = {
     "", "html", "head", "meta", "title", "style", "script", "body", "header", "h1", "h2", "p", "nav", "fieldset",
     "legend", "label", "input", "span", "ul", "li", "a", "main", "div", "b", "svg", "rect", "text", "section", "table",
-    "thead", "tbody", "tr", "th", "td", "details", "summary", "code", "button", "footer", "article", "h3", "dl", "dt", "dd",
-    "pre", "s",
+    "thead", "tbody", "tr", "th", "td", "details", "summary", "code", "button", "footer", "article", "h3", "dl", "dt",
+    "dd", "pre", "s",
 }
 ATTRIBUTES = {
     "lang", "charset", "http-equiv", "content", "name", "type", "class", "id", "value", "checked", "href", "for",
@@ -239,7 +239,8 @@ class Hostile(unittest.TestCase):
         file.write_text(f'{"".join(said)}[[layer]]\nhandled_access_fs = ["all"]\n{rule}', encoding="utf-8")
         kinds = {over: "dir" for name in HOSTILE for over in upwards(f"/a/{name}")}
         kinds |= {f"/a/{name}": "reg" for name in HOSTILE}
-        return Tried(None, policies.read(file), None, Tree(kinds, {"/a/javascript:alert(1)": HOSTILE[1]}), [])  # type: ignore[arg-type]
+        tree = Tree(kinds, {"/a/javascript:alert(1)": HOSTILE[1]})
+        return Tried(None, policies.read(file), None, tree, [])  # type: ignore[arg-type]
 
     def test_a_page_has_its_own_elements_and_attributes_alone(self) -> None:
         self.assertLessEqual({one.name for one in self.page.elements()}, ELEMENTS)
@@ -258,8 +259,9 @@ class Hostile(unittest.TestCase):
         names = {one.attributes.get("id") for one in self.page.elements()}
         links = [one.attributes["href"] or "" for one in self.page.all("a")]
         self.assertGreater(len(links), len(HOSTILE))
+        seen = re.compile(r"#(at=[\w%/.~-]*&?)?(find=[\w%/.~-]*)?", re.ASCII)
         for link in links:
-            self.assertTrue(link[1:] in names or re.fullmatch(r"#(at=[\w%/.~-]*&?)?(find=[\w%/.~-]*)?", link, re.ASCII), link)
+            self.assertTrue(link[1:] in names or seen.fullmatch(link), link)
 
     def test_links_lead_to_the_places_that_they_name(self) -> None:
         directories = {f"/a/{name}" for name in HOSTILE if name.isprintable() and "/" not in name}
@@ -513,9 +515,9 @@ port = 443
         shown = self.shown(summaries=summaries)
         rows = {row[0]: row[1:] for row in shown.rows("matrix", 4)}
         yes, dropped = matrix.PROTECTED, matrix.DROPPED
-        self.assertEqual({right: rows.get(right) for right in ("read_file", "write_file", "refer", "connect_tcp", "execute")},
-                         {"read_file": ["5", "5", "5"], "write_file": [yes] * 3, "refer": [yes] * 3,
-                          "connect_tcp": [dropped, dropped, yes], "execute": None})
+        wanted = {"read_file": ["5", "5", "5"], "write_file": [yes] * 3, "refer": [yes] * 3,
+                  "connect_tcp": [dropped, dropped, yes], "execute": None}
+        self.assertEqual({right: rows.get(right) for right in wanted}, wanted)
 
 
 if __name__ == "__main__":

@@ -12,6 +12,7 @@ from urllib.parse import quote
 from .. import grouping, suggestion_text
 from ..grouping import Group
 from ..policies import Policy
+from ..rights import FS
 from ..summary import Summary
 from ..summary_text import names, where_of
 from ..trying import Tried
@@ -22,11 +23,11 @@ from .markup import Markup, element, together
 from .offering import Offer, Offering
 from .tables import named
 
-#: The most cards, and the most exact rules that a card has.
+#: The most cards.
 MOST_CARDS = 20
-MOST_EXACT = 60
 #: The width of a text that is not to be shortened.
 NO_LIMIT = 1_000_000
+REFER = "refer"
 _ALSO, _WARNING = "also ", "warning: "
 
 
@@ -35,11 +36,26 @@ def cards(summaries: Sequence[Summary], tried: Tried | None, suggesting: Sequenc
     if not any(summary.refusals for summary in summaries):
         return Markup()
     offering = Offering(tried) if tried else None
-    found: dict[Markup, list[int]] = {}
-    for summary in summaries:
-        found.setdefault(together(_of_abi(summary, offering, tried)), []).append(summary.abi)
-    shown = (element("div", some, kind=f"cards {kinds(abis)}") for some, abis in found.items())
+    shown = (element("div", *_of_abi(some[-1], offering, tried), kind=f"cards {kinds(one.abi for one in some)}")
+             for some in _alike(summaries))
     return together((_told(suggesting) if tried else "", *shown))
+
+
+def _alike(summaries: Sequence[Summary]) -> Iterator[list[Summary]]:
+    """Neighbours that refuse the same calls in the same order, and for which the same rules help."""
+    alike: list[Summary] = []
+    for summary in summaries:
+        if alike and not _is_alike(alike[-1], summary):
+            yield alike
+            alike = []
+        alike.append(summary)
+    yield alike
+
+
+def _is_alike(one: Summary, other: Summary) -> bool:
+    """Whether two ABIs refuse the same calls; a rule may grant `refer` only at an ABI that knows it."""
+    knows = [REFER in FS.known(summary.abi) for summary in (one, other)]
+    return knows[0] == knows[1] and list(one.refusals.items()) == list(other.refusals.items())
 
 
 def _told(suggesting: Sequence[str]) -> Markup:
@@ -91,13 +107,14 @@ def _card(offer: Offer, policy: Policy | None, also: Sequence[str]) -> Markup:
     group = offer.group
     first = [element("p", "Refused first: here the program meets the policy.", kind="first")] if not group.order else []
     why = "; ".join(group.lacking.objections)
-    title = element("h3", element("b", counted(group.programs.total(), "call")), " ", element("span", named(why), kind="why"))
+    calls = element("b", counted(group.programs.total(), "call"))
+    title = element("h3", calls, " ", element("span", named(why), kind="why"))
     place = element("p", element("a", named(where_of(group)(NO_LIMIT)), kind="path", attributes={"href": _link(group)}))
     programs = Counter[str]()
-    for name, calls in group.programs.items():
-        programs[os.path.basename(name)] += calls
+    for name, times in group.programs.items():
+        programs[os.path.basename(name)] += times
     by = element("p", " · ".join([names(programs), *also]), kind="quiet")
-    shown = [*_rules(offer.wide, policy), *_exactly(offer, policy)] if policy else []
+    shown = [*_rules(offer.rules, policy), *_exactly(offer, policy)] if policy else []
     helpless = [element("p", f"No rule here: {offer.helpless}.", kind="warned")] if offer.helpless else []
     return element("article", *first, title, place, by, *helpless, *shown, kind="card",
                    attributes={"data-at": group.directory} if group.directory else None)
@@ -123,12 +140,10 @@ def _rules(rules: Mapping[int, list[Rule]], policy: Policy) -> Iterator[Markup]:
 
 
 def _exactly(offer: Offer, policy: Policy) -> Iterator[Markup]:
-    """The exact rules of an offer, if they are others."""
-    number = sum(map(len, offer.exact.values()))
-    if offer.exact == offer.wide or number > MOST_EXACT:
-        return
-    title = element("summary", f"or exactly: {counted(number, 'rule')}")
-    yield element("details", title, rule_text(toml(offer.exact, policy)))
+    """The exact rules besides others."""
+    if offer.exact:
+        title = element("summary", f"or exactly: {counted(sum(map(len, offer.exact.values())), 'rule')}")
+        yield element("details", title, rule_text(toml(offer.exact, policy)))
 
 
 def toml(rules: Mapping[int, list[Rule]], policy: Policy) -> str:

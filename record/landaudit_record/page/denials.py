@@ -99,4 +99,4 @@ def _domains(found: Counted) -> Markup:
     heads = ("domain", "made by", "process", "logged", "counted", "layer")
     told = paragraph("The layer that refuses is the youngest one of its domain. When the last process of a domain "
                      "ends, the kernel logs how many denials there were.")
-    return together((told, table("domains", heads, rows))) if found.log.domains else Markup()
+    return together((told, table("domains", heads, rows, once=("made by", "layer")))) if found.log.domains else Markup()

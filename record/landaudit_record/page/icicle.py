@@ -74,7 +74,11 @@ def _step(counts: Counts, at: int) -> int:
 
 def _legend() -> Markup:
     """What the colours are."""
+    said = ((0, " none refused "), (1, " few "), (STEPS // 2, " "), (STEPS - 1, " all refused"))
+    return element("p", *(part for step, name in said for part in (_key(step), name)), kind="legend")
+
+
+def _key(step: int) -> Markup:
+    """A small box in the colour of a step."""
     size = {"width": "18", "height": "12"}
-    keys = (together((element("svg", element("rect", kind=f"s{step}", attributes=size), attributes=size, kind="key"), said))
-            for step, said in ((0, " none refused "), (1, " few "), (STEPS // 2, " "), (STEPS - 1, " all refused")))
-    return element("p", *keys, kind="legend")
+    return element("svg", element("rect", kind=f"s{step}", attributes=size), attributes=size, kind="key")

@@ -112,8 +112,9 @@ def lacked(summary: Summary) -> Counter[str]:
     """How many refused calls lack each right; a call that lacks two counts at both."""
     found: Counter[str] = Counter()
     for refusal, programs in summary.refusals.items():
-        objections = [one for layer in refusal.layers for one in layer.objections]
-        rights = {right for one in objections if isinstance(one, (Missing, Closed, Gained, Kept)) for right in one.rights}
+        objections = (one for layer in refusal.layers for one in layer.objections)
+        about_rights = (one for one in objections if isinstance(one, (Missing, Closed, Gained, Kept)))
+        rights = {right for one in about_rights for right in one.rights}
         found.update(dict.fromkeys(rights, programs.total()))
     return found
 
@@ -123,8 +124,8 @@ def _legend(policy: Policy | None) -> Markup:
     signs = [element("p", element("b", "12", kind="bad"), " refused calls lack the right; a call can lack several. "
                           "A click on an ABI shows the page for it.", kind="legend")]
     if policy is not None:
-        told = (f"{PROTECTED} protected: the policy handles it, and no recorded call is refused for it. {DROPPED} dropped "
-                f"at best effort: the kernel does not know it, and what it would protect is open. {NOT_HANDLED} not "
-                "handled.")
+        told = (f"{PROTECTED} protected: the policy handles it, and no recorded call is refused for it. {DROPPED} "
+                "dropped at best effort: the kernel does not know it, and what it would protect is open. "
+                f"{NOT_HANDLED} not handled.")
         signs.append(element("p", told, kind="legend"))
     return together(signs)

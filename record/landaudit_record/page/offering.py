@@ -19,8 +19,8 @@ from ..trees import ROOT, Tree, directory_of, upwards
 from ..trying import Tried
 from ..wants import OnPaths, Rule
 
-#: Up to this number, exact rules for a group are the ones that are offered first.
-FEW = 3
+#: Up to this number, exact rules for a group are the only ones that are offered, and at most so many are offered.
+FEW, MOST_EXACT = 3, 60
 OF_PROGRAM = "a layer that the program makes itself refuses them"
 NO_RULE = "no rule of the policy lets them pass"
 WRITE_AND_RUN = "warning: what is written there can be run"
@@ -29,14 +29,14 @@ _WRITE_AND_RUN: Rights = frozenset({"execute", "write_file"})
 
 @dataclass(frozen=True)
 class Offer:
-    """The rules for a group of refused calls, by layer: the exact ones and, if those are many, fewer `wide` ones.
+    """The rules for a group of refused calls, by layer: exact ones or, if those are not few, `wide` ones.
 
-    `helpless` says why there are none.
+    The exact ones may be there besides the wide ones, unless they are too many. `helpless` says why there are no rules.
     """
 
     group: Group
+    rules: Mapping[int, list[Rule]]
     exact: Mapping[int, list[Rule]]
-    wide: Mapping[int, list[Rule]]
     helpless: str = ""
 
 
@@ -73,10 +73,12 @@ class Offering:
             return Offer(group, {}, {}, NO_RULE)
         made = [_Maker(self._tried.tree, layer, group, [lack for lack in lacks if lack.layer == layer.number])
                 for layer in self._tried.policy.layers]
-        exact = {it.layer.number: self._remarked(it, it.exact) for it in made if it.lacks}
-        if sum(map(len, exact.values())) <= FEW:
-            return Offer(group, exact, exact)
-        return Offer(group, exact, {it.layer.number: self._remarked(it, it.wide) for it in made if it.lacks})
+        makers = [it for it in made if it.lacks]
+        number = sum(len(it.exact) for it in makers)
+        exact = {it.layer.number: self._remarked(it, it.exact) for it in makers} if number <= MOST_EXACT else {}
+        if number <= FEW:
+            return Offer(group, exact, {})
+        return Offer(group, {it.layer.number: self._remarked(it, it.wide) for it in makers}, exact)
 
     def _remarked(self, made: _Maker, paths: OnPaths) -> list[Rule]:
         """Rules with all that a reader should know of them."""

@@ -33,8 +33,8 @@ def table(kind: str, heads: Sequence[str], rows: Iterable[Row], once: Sequence[s
     same = {head: each[0].cells[number] for number, head in enumerate(heads) if head in once and _is_same(each, number)}
     left = [(number, head) for number, head in enumerate(heads) if head not in same]
     columns = (element("th", head, kind=_class(head), attributes={"scope": "col"}) for _, head in left)
-    body = (element("tr", *(element("td", one.cells[number], kind=_class(head)) for number, head in left), kind=one.kind)
-            for one in each)
+    body = (element("tr", *(element("td", one.cells[number], kind=_class(head)) for number, head in left),
+                    kind=one.kind) for one in each)
     said = together(element("span", f" {head} ", element("b", cell)) for head, cell in same.items())
     above = element("p", "All:", said, kind="once") if same else ""
     shown = element("table", element("thead", element("tr", *columns)), element("tbody", *body), kind=kind)
