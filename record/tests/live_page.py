@@ -284,7 +284,9 @@ class LivePage(unittest.TestCase):
         self.assertEqual(self.tab.says(f"{buttons}.length"), self.tab.says("document.querySelectorAll('pre').length"))
         self.tab.says(f"{buttons}[0].click()")
         self.assertEqual(self.tab.says("copied"), self.tab.says("document.querySelector('pre').textContent"))
-        self.assertIn("landaudit-record suggest build.rec --policy policy.toml", self.tab.says("copied"))
+        self.assertIn("[[layer.path_beneath]]\nallowed_access = [", self.tab.says("copied"))
+        self.tab.says(f"[...{buttons}].at(-1).click()")
+        self.assertEqual(self.tab.says("copied"), "landaudit-record suggest build.rec --policy policy.toml")
 
     def test_a_page_is_printed_in_few_pages(self) -> None:
         self.tab.open(self.build(160))
@@ -383,13 +385,13 @@ class LiveBuild(unittest.TestCase):
             for width in WIDTHS:
                 for scheme, ground in SCHEMES:
                     with self.subTest(width=width, scheme=scheme):
-                        tab.wide(width, 760)
+                        tab.wide(width, 900)
                         tab.scheme(scheme)
                         tab.open(file)
                         kept(f"build-{width}-{scheme}", tab.picture())
                         self.assertEqual(tab.says("getComputedStyle(document.body).backgroundColor"), ground)
                         self.assertEqual((tab.says(WIDER), tab.says(CUT)), (0, []))
-                        self.assertGreater(tab.says(f"{VISIBLE}.length"), 0)
+                        self.assertGreater(tab.says("document.querySelectorAll('.card').length"), 0)
             self.assertEqual(tab.faults, [])
 
 

@@ -28,6 +28,8 @@ MOST_CARDS = 20
 #: The width of a text that is not to be shortened.
 NO_LIMIT = 1_000_000
 REFER = "refer"
+TOLD = element("p", "Rules for groups of refused calls, that of the earliest call first. A rule on a directory grants "
+                    "more than these calls need. Audit the new policy again: other calls may follow those that pass.")
 _ALSO, _WARNING = "also ", "warning: "
 
 
@@ -38,7 +40,7 @@ def cards(summaries: Sequence[Summary], tried: Tried | None, suggesting: Sequenc
     offering = Offering(tried) if tried else None
     shown = (element("div", *_of_abi(some[-1], offering, tried), kind=f"cards {kinds(one.abi for one in some)}")
              for some in _alike(summaries))
-    return together((_told(suggesting) if tried else "", *shown))
+    return together((TOLD, *shown, _exact(suggesting)) if tried else shown)
 
 
 def _alike(summaries: Sequence[Summary]) -> Iterator[list[Summary]]:
@@ -58,22 +60,20 @@ def _is_alike(one: Summary, other: Summary) -> bool:
     return knows[0] == knows[1] and list(one.refusals.items()) == list(other.refusals.items())
 
 
-def _told(suggesting: Sequence[str]) -> Markup:
-    """What the rules are, and what checks them."""
-    told = element("p", "A rule for each group of refused calls, the group of the earliest refused call first. A rule "
-                        "on a directory grants more than these calls need, and what a rule lets pass may be followed "
-                        "by other calls. Audit the new policy again.")
+def _exact(suggesting: Sequence[str]) -> Markup:
+    """The command that prints exact rules."""
     if not suggesting:
-        return told
-    exact = element("p", "This command prints exact rules for all of them, and audits these rules:")
-    return together((told, exact, rule_text(shlex.join(suggesting))))
+        return Markup()
+    told = element("p", "This command prints exact rules for all refused calls, and audits these rules:", kind="after")
+    return together((told, rule_text(shlex.join(suggesting))))
 
 
 def rule_text(text: str) -> Markup:
     """A text to copy, with its button, which a script shows."""
     button = element("button", "Copy", kind="copy", attributes={"type": "button", "hidden": ""})
-    lines = (part for line in text.split("\n") for part in (_line(line), Markup("\n")))
-    return element("div", element("pre", *lines, attributes={"tabindex": "0"}), button, kind="rule")
+    first, *others = text.split("\n")
+    lines = (part for line in others for part in (Markup("\n"), _line(line)))
+    return element("div", element("pre", _line(first), *lines, attributes={"tabindex": "0"}), button, kind="rule")
 
 
 def _line(line: str) -> Markup:
@@ -153,7 +153,7 @@ def toml(rules: Mapping[int, list[Rule]], policy: Policy) -> str:
         if some := rules.get(layer.number):
             told = suggestion_text.of_layer(layer, list(map(_without_said, some)), {}, policy)
             lines += list(told)[len(policy.layers) == 1:]
-    return "\n".join(_single(lines)).strip("\n")
+    return "\n".join(_single(lines)).strip("\n") + "\n"
 
 
 def _without_said(rule: Rule) -> Rule:

@@ -35,7 +35,7 @@ def made(title: str, found: Counted, rules: Iterable[str]) -> str:
 def _parts(found: Counted, rules: Iterable[str]) -> Iterator[Section]:
     """All parts that the page may have, in their order."""
     refused, written = dict(found.summary.by_frequency()), "\n".join(rules).strip("\n")
-    yield Section("grant", "What to grant", rule_text(written) if written else Markup())
+    yield Section("grant", "What to grant", rule_text(f"{written}\n") if written else Markup())
     yield Section("refused", "Refused", _refused(refused))
     yield Section("same", "Logged, and succeeded all the same", _succeeded(found.succeeded))
     yield Section("above", "Rules of the policy", _above(found))
