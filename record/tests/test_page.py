@@ -4,6 +4,7 @@ from __future__ import annotations
 
 import base64
 import hashlib
+import json
 import re
 import tempfile
 import unittest
@@ -14,7 +15,7 @@ from urllib.parse import unquote
 
 from landaudit_record import by_abi, page, policies, summary
 from landaudit_record.answers import Closed, Missing
-from landaudit_record.page import icicle, matrix, tree
+from landaudit_record.page import icicle, matrix, recorded, tree
 from landaudit_record.page.counting import Counts, Paths, asked
 from landaudit_record.page.markup import element
 from landaudit_record.reading import Place
@@ -152,6 +153,15 @@ class Data(unittest.TestCase):
             for said, step in zip(rows[title][1:], steps[1:]):
                 self.assertTrue(said.startswith(f"{len(step[change])} kind") if step[change] else said == "", said)
         self.assertIn("open r /a/f EACCES", rows["refused no more"][2])
+
+    def test_the_matrix_counts_what_may_be_refused(self) -> None:
+        found = summed(5, {READ: Counter(a=3)})
+        found.unsure = {READ: Counter(a=2), CUT: Counter(a=4)}
+        shown = made([found])
+        rows = {row[0]: row[1:] for row in shown.rows("matrix", 5)}
+        self.assertEqual((rows["read_file"], rows["truncate"]), (["3 2?"], ["4?"]))
+        self.assertIn("12? calls that may be refused lack it", shown.text(5))
+        self.assertNotIn("12?", self.page.text(4))
 
     def test_the_matrix_says_which_rights_are_lacking(self) -> None:
         rows = {row[0]: row[1:] for row in self.page.rows("matrix", 4)}
@@ -299,6 +309,36 @@ class Hostile(unittest.TestCase):
     def test_a_text_is_escaped_wherever_it_is_put(self) -> None:
         self.assertEqual(element("b", "<&\"'>", attributes={"id": "<\"'"}),
                          '<b id="&lt;&quot;&#x27;">&lt;&amp;&quot;&#x27;&gt;</b>')
+
+
+class Recorded(unittest.TestCase):
+    """What the page says of how a recording was made."""
+
+    def written(self, **said: Any) -> Path:
+        """A recording's folder that says something of itself."""
+        folder = Path(self.enterContext(tempfile.TemporaryDirectory()))
+        about = {"command": ["sort", "-o", "a b"], "directory": "/srv", "started": 1_000_000_000.5, "admin": False,
+                 "nnp": False, "descriptors": {}, "kernel": "6.1.0", "euid": 1000}
+        (folder / "recording.json").write_text(json.dumps({**about, **said}), encoding="utf-8")
+        return folder
+
+    def test_what_a_recording_says(self) -> None:
+        (found,) = recorded.facts({"rec": self.written()})
+        # date -u -d @1000000000 prints this time.
+        self.assertEqual(found, [("command", "sort -o 'a b'"), ("in", "/srv"), ("when", "2001-09-09 01:46 UTC"),
+                                 ("kernel", "Linux 6.1.0"), ("user", "number 1000")])
+        shown = read(page.made(page.About("rec", None, False, (), [found]), three(), Paths(Counter(), three())))
+        self.assertEqual([one.text(4) for one in shown.all("dd")], [said for _, said in found])
+
+    def test_several_recordings_are_named(self) -> None:
+        found = recorded.facts({"one": self.written(), "two": self.written(euid=0)})
+        self.assertEqual([one[0] for one in found], [("recording", "one"), ("recording", "two")])
+        self.assertEqual(found[1][-1], ("user", "root"))
+
+    def test_what_says_nothing(self) -> None:
+        for said in ({"started": 1e300}, {"other": 1}):
+            self.assertEqual(recorded.facts({"rec": self.written(**said)}), [])
+        self.assertEqual(recorded.facts({"rec": Path("/no/such/folder")}), [])
 
 
 class OwnPolicy(unittest.TestCase):

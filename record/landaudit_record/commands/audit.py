@@ -99,7 +99,7 @@ def run(arguments: argparse.Namespace) -> int:
     if arguments.html is not None:
         suggesting = _suggesting(arguments, summaries[-1].abi) if arguments.policy else []
         about = page.About(", ".join(arguments.recordings), arguments.policy, arguments.as_recorded, suggesting,
-                           page.recorded.facts(member.recording for member in members))
+                           page.recorded.facts({member.name: member.recording.folder for member in members}))
         parts = [part for member in members for part in member.recording.parts]
         page.write(arguments.html, about, summaries, parts, together.tried_of(members))
     if any(summary.others_refused for _, found in each for summary in found):

@@ -29,7 +29,8 @@ MOST_CARDS = 20
 NO_LIMIT = 1_000_000
 REFER = "refer"
 TOLD = element("p", "Rules for groups of refused calls, that of the earliest call first. A rule on a directory grants "
-                    "more than these calls need. Audit the new policy again: other calls may follow those that pass.")
+                    "more than these calls need: objects are counted on the machine that made this page. Audit the new "
+                    "policy again, since other calls may follow those that pass.")
 _ALSO, _WARNING = "also ", "warning: "
 
 

@@ -9,7 +9,7 @@ from ..answers import UNSURE, Closed, Gained, Kept, Missing
 from ..by_abi import Kind, Step
 from ..policies import Layer, Policy
 from ..rights import FS, NET, NEWEST_ABI, NONE, Rights
-from ..summary import Summary
+from ..summary import Refusal, Summary
 from ..wording import counted
 from .by_version import choice
 from .markup import Markup, element, together
@@ -28,7 +28,7 @@ def matrix(summaries: Sequence[Summary], steps: Sequence[Step], policy: Policy |
     head = element("thead", element("tr", corner, *heads))
     body = element("tbody", *_counts(steps), *_changes(steps), *_rights(summaries, policy))
     table = element("table", head, body, kind="matrix")
-    return together((table, _legend(policy)))
+    return together((table, _legend(summaries, policy)))
 
 
 def _head(abi: int) -> Markup:
@@ -80,19 +80,20 @@ def _some(some: Sequence[Kind]) -> Markup:
 
 def _rights(summaries: Sequence[Summary], policy: Policy | None) -> Iterator[Markup]:
     """The rows of the rights: those that the policy handles, and those that refused calls lack."""
-    lacking = {summary.abi: lacked(summary) for summary in summaries}
+    lacking = [(summary.abi, lacked(summary.refusals), lacked(summary.unsure)) for summary in summaries]
     handled = handled_by(policy.layers, NEWEST_ABI) if policy else NONE
     for family in (FS, NET):
         for right in family.since:
-            refused = {abi: counts[right] for abi, counts in lacking.items()}
-            if right in handled or any(refused.values()):
-                yield _row(right, [_cell(abi, right, number, policy) for abi, number in refused.items()])
+            if right in handled or any(refused[right] or unsure[right] for _, refused, unsure in lacking):
+                yield _row(right, [_cell(abi, right, (refused[right], unsure[right]), policy)
+                                   for abi, refused, unsure in lacking])
 
 
-def _cell(abi: int, right: str, refused: int, policy: Policy | None) -> tuple[int, str, str]:
-    """What an ABI does with a right."""
-    if refused:
-        return abi, f"{refused:,}", "bad"
+def _cell(abi: int, right: str, lacking: tuple[int, int], policy: Policy | None) -> tuple[int, str, str]:
+    """What an ABI does with a right; `lacking` has the calls that are refused for it, and those that may be."""
+    refused, unsure = lacking
+    if refused or unsure:
+        return abi, " ".join([f"{refused:,}"] * (refused > 0) + [f"{unsure:,}?"] * (unsure > 0)), "bad"
     if policy is None or right not in handled_by(policy.layers, NEWEST_ABI):
         return abi, NOT_HANDLED, "none"
     return (abi, PROTECTED, "good") if right in handled_by(policy.layers, abi) else (abi, DROPPED, "dropped")
@@ -108,10 +109,10 @@ def handled_by(layers: Iterable[Layer], abi: int) -> Rights:
     return frozenset(found)
 
 
-def lacked(summary: Summary) -> Counter[str]:
-    """How many refused calls lack each right; a call that lacks two counts at both."""
+def lacked(refusals: Mapping[Refusal, Counter[str]]) -> Counter[str]:
+    """How many calls lack each right; a call that lacks two counts at both."""
     found: Counter[str] = Counter()
-    for refusal, programs in summary.refusals.items():
+    for refusal, programs in refusals.items():
         objections = (one for layer in refusal.layers for one in layer.objections)
         about_rights = (one for one in objections if isinstance(one, (Missing, Closed, Gained, Kept)))
         rights = {right for one in about_rights for right in one.rights}
@@ -119,12 +120,15 @@ def lacked(summary: Summary) -> Counter[str]:
     return found
 
 
-def _legend(policy: Policy | None) -> Markup:
+def _legend(summaries: Sequence[Summary], policy: Policy | None) -> Markup:
     """What the signs mean."""
-    signs = [element("p", element("b", "12", kind="bad"), " refused calls lack the right; a call can lack several. "
-                          "A click on an ABI shows the page for it.", kind="legend")]
+    unsure = [element("b", " 12?", kind="bad"), " calls that may be refused lack it."]
+    signs = [element("p", element("b", "12", kind="bad"), " refused calls lack the right; a call can lack several.",
+                     *(unsure if any(summary.unsure for summary in summaries) else ()),
+                     " A click on an ABI shows the page for it.", kind="legend")]
     if policy is not None:
-        told = (f"{PROTECTED} protected: the policy handles it, and no recorded call is refused for it. {DROPPED} "
+        but = ", but for accepted ones" if any(summary.accepted for summary in summaries) else ""
+        told = (f"{PROTECTED} protected: the policy handles it, and no recorded call is refused for it{but}. {DROPPED} "
                 "dropped at best effort: the kernel does not know it, and what it would protect is open. "
                 f"{NOT_HANDLED} not handled.")
         signs.append(element("p", told, kind="legend"))

@@ -3,10 +3,10 @@
 from __future__ import annotations
 
 import shlex
-from collections.abc import Iterable, Iterator, Sequence
+from collections.abc import Iterable, Iterator, Mapping, Sequence
 from datetime import datetime, timezone
+from pathlib import Path
 
-from ..finished import Finished
 from ..problems import Problem
 from ..recorder.recordings import About, read_about
 from .markup import Markup, element
@@ -14,14 +14,16 @@ from .markup import Markup, element
 Facts = Sequence[tuple[str, str]]
 
 
-def facts(recordings: Iterable[Finished]) -> list[Facts]:
-    """What each recording says of itself; a recording that another program made says nothing."""
+def facts(recordings: Mapping[str, Path]) -> list[Facts]:
+    """What the recordings in some folders say of themselves, by their names; one that another program made says
+    nothing."""
     found: list[Facts] = []
-    for one in recordings:
+    for name, folder in recordings.items():
         try:
-            found.append(list(_of(read_about(one.folder))))
-        except Problem:
+            said = list(_of(read_about(folder)))
+        except (Problem, OverflowError, ValueError):
             continue
+        found.append([("recording", name), *said] if len(recordings) > 1 else said)
     return found
 
 
