@@ -8,6 +8,7 @@ LANDAUDIT_POLICY names, or else of a small build that is recorded for it.
 from __future__ import annotations
 
 import base64
+import json
 import os
 import re
 import shutil
@@ -31,6 +32,7 @@ from landaudit_record.trees import Tree, upwards
 from landaudit_record.trying import Tried
 
 from .chromium import CHROMIUM, Tab, browser
+from .pages import Element, read
 from .test_page import HOSTILE
 
 RECORDER = Path(__file__).resolve().parents[1] / "landaudit-record"
@@ -393,6 +395,26 @@ class LiveBuild(unittest.TestCase):
                         self.assertEqual((tab.says(WIDER), tab.says(CUT)), (0, []))
                         self.assertGreater(tab.says("document.querySelectorAll('.card').length"), 0)
             self.assertEqual(tab.faults, [])
+
+    def test_with_the_rules_of_all_cards_nothing_is_refused_that_was(self) -> None:
+        folder = Path(self.enterContext(tempfile.TemporaryDirectory())).resolve()
+        recording, policy = given() or build(folder)
+        before, page_before = self.audited(recording, policy, folder)
+        self.assertGreater(len(before), 9)
+        for which in (0, -1):
+            pasted = [card.all("pre")[which].text(5) for card in page_before.all("article") if card.all("pre")]
+            with_rules = folder / "with_rules.toml"
+            with_rules.write_text(policy.read_text(encoding="utf-8") + "\n" + "\n".join(pasted), encoding="utf-8")
+            after, _ = self.audited(recording, with_rules, folder)
+            self.assertEqual(before & after, set())
+
+    def audited(self, recording: Path, policy: Path, folder: Path) -> tuple[set[tuple[str, str]], Element]:
+        """The kinds of calls that a policy refuses, by call and place, and the page of the audit."""
+        words = ["audit", recording, "--policy", policy, "--abi", "5", "--json", "--html", folder / "audited.html"]
+        run = subprocess.run([RECORDER, *words], capture_output=True, text=True, check=False)
+        self.assertIn(run.returncode, (0, 1), run.stderr)
+        found = {(one["call"], one["place"]) for one in json.loads(run.stdout)["refusals"]}
+        return found, read((folder / "audited.html").read_text(encoding="utf-8"))
 
 
 if __name__ == "__main__":

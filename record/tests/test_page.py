@@ -143,8 +143,15 @@ class Data(unittest.TestCase):
         for title, verdict in (("allowed", "allowed"), ("refused", "refused"), ("not asked (moot)", "moot")):
             self.assertEqual(rows[title], [f"{step[verdict]:,}" for step in steps])
         (head,) = self.page.all("table", "matrix")[0].all("thead")
-        self.assertEqual([one.text(4) for one in head.all("th")], ["ABILinux", "25.19+", "36.2+", "46.7+"])
+        self.assertEqual([one.text(4) for one in head.all("th")],
+                         ["ABILinux", "25.19+Debian 12", "36.2+", "46.7+Ubuntu 24.04"])
         self.assertEqual([one.attributes["for"] for one in head.all("label")], ["abi-2", "abi-3", "abi-4"])
+
+    def test_kernels_and_releases_are_those_of_the_documents(self) -> None:
+        lines = (Path(__file__).resolve().parents[2] / "docs" / "QUESTIONS.md").read_text(encoding="utf-8").splitlines()
+        rows = [[cell.strip() for cell in line.split("|")[1:4]] for line in lines if line.startswith("| ")]
+        told = {int(abi): (kernel, re.sub(r" \(.*\)", "", release)) for abi, kernel, release in rows if abi in "12345"}
+        self.assertEqual(told, {abi: (kernel, matrix.RELEASES.get(abi, "")) for abi, kernel in matrix.KERNELS.items()})
 
     def test_the_matrix_says_what_changes(self) -> None:
         steps = by_abi.as_data(by_abi.steps(self.summaries))

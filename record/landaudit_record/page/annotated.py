@@ -17,9 +17,9 @@ from .markup import Markup, element, together
 from .tables import named
 
 _TOLD = ("How many calls are about the path or port of a rule, or are below the path, and how many of them are "
-         "allowed, whichever rules and layers allow them. Calls on descriptors, and on an object there by another name, "
-         "are not counted. What no call asked for is struck out. landaudit-record tighten says which rights no call "
-         "needs.")
+         "allowed, whichever rules and layers allow them. Calls on descriptors, and on an object there by another "
+         "name, are not counted. What no call asked for is struck out. landaudit-record tighten says which rights no "
+         "call needs.")
 
 
 @dataclass(frozen=True)

@@ -107,7 +107,7 @@ def _card(offer: Offer, policy: Policy | None, also: Sequence[str]) -> Markup:
     """The card of a group; `also` is what not all cards have in common."""
     group = offer.group
     first = [element("p", "Refused first: here the program meets the policy.", kind="first")] if not group.order else []
-    why = "; ".join(group.lacking.objections)
+    why = "; ".join(dict.fromkeys(group.lacking.objections))
     calls = element("b", counted(group.programs.total(), "call"))
     title = element("h3", calls, " ", element("span", named(why), kind="why"))
     place = element("p", element("a", named(where_of(group)(NO_LIMIT)), kind="path", attributes={"href": _link(group)}))

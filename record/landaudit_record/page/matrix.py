@@ -14,8 +14,9 @@ from ..wording import counted
 from .by_version import choice
 from .markup import Markup, element, together
 
-#: The first kernel with each ABI (landlock(7)).
+#: The first kernel with each ABI (landlock(7)), and releases whose kernels have it (docs/QUESTIONS.md).
 KERNELS: Mapping[int, str] = {1: "5.13", 2: "5.19", 3: "6.2", 4: "6.7", 5: "6.10"}
+RELEASES: Mapping[int, str] = {1: "Ubuntu 22.04", 2: "Debian 12", 4: "Ubuntu 24.04"}
 #: The most kinds that are named of those that change from ABI to ABI.
 MOST_KINDS = 20
 PROTECTED, DROPPED, NOT_HANDLED = "\u2713", "\u25cb", "\u00b7"
@@ -34,7 +35,8 @@ def matrix(summaries: Sequence[Summary], steps: Sequence[Step], policy: Policy |
 def _head(abi: int) -> Markup:
     """The head of a column, which is the label of the button that chooses its ABI."""
     kernel = element("span", f"{KERNELS[abi]}+", kind="kernel")
-    label = element("label", str(abi), kernel, attributes={"for": choice(abi)})
+    release = [element("span", RELEASES[abi], kind="release")] if abi in RELEASES else []
+    label = element("label", str(abi), kernel, *release, attributes={"for": choice(abi)})
     return element("th", label, kind=f"t{abi}", attributes={"scope": "col"})
 
 
