@@ -337,6 +337,11 @@ class Recorded(unittest.TestCase):
         shown = read(page.made(page.About("rec", None, False, (), [found]), three(), Paths(Counter(), three())))
         self.assertEqual([one.text(4) for one in shown.all("dd")], [said for _, said in found])
 
+    def test_who_recorded(self) -> None:
+        for said, by in (({"strace": "6.1"}, "strace 6.1"), ({"by": "witness"}, "landaudit-witness")):
+            (found,) = recorded.facts({"rec": self.written(**said)})
+            self.assertIn(("by", by), found)
+
     def test_several_recordings_are_named(self) -> None:
         found = recorded.facts({"one": self.written(), "two": self.written(euid=0)})
         self.assertEqual([one[0] for one in found], [("recording", "one"), ("recording", "two")])

@@ -96,6 +96,13 @@ class Trying(StandIn):
         command = f"landaudit-record suggest {self.recording} --policy {self.policy} --abi 3 --as-recorded"
         self.assertEqual(out.splitlines()[-2:], ["rules for these:", command])
 
+    def test_the_command_that_suggests_rules_has_the_values_of_this_audit(self) -> None:
+        self.policy.write_text(self.policy.read_text(encoding="utf-8").replace('"/a"', '"${A}"'), encoding="utf-8")
+        self.assertIn("${A}", self.policy.read_text(encoding="utf-8"))
+        _, out, _ = self.audited("audit", self.recording, "--policy", self.policy, "--set", "A=/a")
+        command = f"landaudit-record suggest {self.recording} --policy {self.policy} --set A=/a --abi 3"
+        self.assertEqual(out.splitlines()[-2:], ["rules for these:", command])
+
     def test_compare_judges_what_was_recorded(self) -> None:
         self.audited("compare", self.recording)
         self.assertEqual(self.ran(), ["3"])
@@ -178,11 +185,12 @@ class Trying(StandIn):
             plain = self.audited(*words, *more, abi="1-4")
             self.assertEqual(self.audited(*words, *more, "--html", file, abi="1-4"), plain)
             shown = pages.read(file.read_text(encoding="utf-8"))
-            refused = {abi: [row[:4] for row in shown.rows("refusals", abi)] for abi in range(1, 5)}
+            heads = ("times", "call", "place", "error")
+            refused = {abi: [[row[head] for head in heads] for row in shown.said("refusals", abi)] for abi in range(1, 5)}
             write = [["1", "open w", "/a", "EACCES"]]
             self.assertEqual(refused, {1: [["1", "exec", "/bin", "EACCES"]], 2: write, 3: write, 4: write})
-            self.assertEqual([row[4:7] for row in shown.rows("rules", 4)], [["0", "1", "0"]])
-            self.assertEqual([row[4:7] for row in shown.rows("rules", 1)], [["1", "0", "0"]])
+            for abi, counts in ((4, ["1", "0 1 refused"]), (1, ["1", "1"])):
+                self.assertEqual([row[2:] for row in shown.rows("policy", abi) if len(row) > 2], [counts])
 
     def test_the_calls_on_paths_of_a_page_are_those_of_the_data(self) -> None:
         file = self.folder / "page.html"

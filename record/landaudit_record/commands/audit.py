@@ -165,5 +165,6 @@ def _suggesting(arguments: argparse.Namespace, abi: int) -> list[str]:
     """The command that suggests rules for what this audit found at the newest ABI."""
     words = ["landaudit-record", "suggest", *arguments.recordings, "--policy", arguments.policy]
     words += ["--program", arguments.program] if arguments.program else []
+    words += [word for name, value in arguments.set for word in ("--set", f"{name}={value}")]
     words += ["--abi", str(abi)] if abi != NEWEST_ABI else []
     return words + (["--as-recorded"] if arguments.as_recorded else [])

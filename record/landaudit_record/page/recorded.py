@@ -8,7 +8,7 @@ from datetime import datetime, timezone
 from pathlib import Path
 
 from ..problems import Problem
-from ..recorder.recordings import About, read_about
+from ..recorder.recordings import WITNESS, About, read_about
 from .markup import Markup, element
 
 Facts = Sequence[tuple[str, str]]
@@ -29,12 +29,15 @@ def facts(recordings: Mapping[str, Path]) -> list[Facts]:
 
 def _of(about: About) -> Iterator[tuple[str, str]]:
     """The facts of one recording."""
-    yield "command", shlex.join(map(str, about.command))
+    if about.command:
+        yield "command", shlex.join(map(str, about.command))
     yield "in", about.directory
     began = datetime.fromtimestamp(about.started, timezone.utc)
     yield "when", f"{began:%Y-%m-%d %H:%M} UTC"
-    kernel = f"Linux {about.kernel}" if about.kernel else "not said"
-    yield "kernel", kernel
+    if about.by == WITNESS or about.strace:
+        yield "by", "landaudit-witness" if about.by == WITNESS else f"strace {about.strace}"
+    if about.kernel:
+        yield "kernel", f"Linux {about.kernel}"
     if about.euid is not None:
         yield "user", "root" if about.euid == 0 else f"number {about.euid}"
 
