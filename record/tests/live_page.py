@@ -252,6 +252,8 @@ class LivePage(unittest.TestCase):
         self.assertEqual((len(self.shown()), self.counted()), (30, "30 kinds, 90 calls"))
         self.assertNotIn("open w trunc", self.shown(1))
         self.assertEqual(self.tab.says("location.hash"), "#abi=2")
+        self.tab.says("document.querySelector('.matrix label[for=abi-4]').click()")
+        self.assertEqual((len(self.shown()), self.tab.says("location.hash")), (40, "#abi=4"))
         self.tab.open(self.folder / "page.html", "#abi=2")
         self.tab.says(EACH)
         self.assertEqual(len(self.shown()), 30)

@@ -186,7 +186,8 @@ class Trying(StandIn):
             self.assertEqual(self.audited(*words, *more, "--html", file, abi="1-4"), plain)
             shown = pages.read(file.read_text(encoding="utf-8"))
             heads = ("times", "call", "place", "error")
-            refused = {abi: [[row[head] for head in heads] for row in shown.said("refusals", abi)] for abi in range(1, 5)}
+            refused = {abi: [[row[head] for head in heads] for row in shown.said("refusals", abi)]
+                       for abi in range(1, 5)}
             write = [["1", "open w", "/a", "EACCES"]]
             self.assertEqual(refused, {1: [["1", "exec", "/bin", "EACCES"]], 2: write, 3: write, 4: write})
             for abi, counts in ((4, ["1", "0 1 refused"]), (1, ["1", "1"])):
