@@ -137,6 +137,12 @@ class Data(unittest.TestCase):
         (section,) = (one for one in self.page.all("section") if one.attributes["id"] == "refused")
         self.assertEqual([one.text(4) for one in section.all("p", "once")], ["All: error EACCES"])
 
+    def test_a_single_row_has_all_columns(self) -> None:
+        shown = made([summed(5, {READ: Counter(a=1)})])
+        (table,) = shown.all("table", "refusals")
+        self.assertEqual([one.text(5) for one in table.all("th")],
+                         ["times", "call", "place", "error", "why", "layers", "program"])
+
     def test_the_matrix_has_the_numbers_of_each_abi(self) -> None:
         steps = by_abi.as_data(by_abi.steps(self.summaries))
         rows = {row[0]: row[1:] for row in self.page.rows("matrix", 4)}
@@ -564,11 +570,11 @@ port = 443
 
     def test_the_matrix_says_what_an_abi_protects(self) -> None:
         summaries = [summed(abi, {READ: Counter({"a": 5})}) for abi in (1, 3, 4)]
-        shown = self.shown(summaries=summaries)
+        shown = self.shown(self.POLICY.replace('"write_file"', '"write_file", "truncate"', 1), summaries)
         rows = {row[0]: row[1:] for row in shown.rows("matrix", 4)}
         yes, dropped = matrix.PROTECTED, matrix.DROPPED
         wanted = {"read_file": ["5", "5", "5"], "write_file": [yes] * 3, "refer": [yes] * 3,
-                  "connect_tcp": [dropped, dropped, yes], "execute": None}
+                  "truncate": [dropped, yes, yes], "connect_tcp": [dropped, dropped, yes], "execute": None}
         self.assertEqual({right: rows.get(right) for right in wanted}, wanted)
 
 
