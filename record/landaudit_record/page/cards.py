@@ -106,7 +106,7 @@ def _error_and_layers(group: Group) -> str:
 def _card(offer: Offer, policy: Policy | None, also: Sequence[str]) -> Markup:
     """The card of a group; `also` is what not all cards have in common."""
     group = offer.group
-    first = [element("p", "Refused first: here the program meets the policy.", kind="first")] if not group.order else []
+    first = [element("p", "Refused first", kind="first")] if not group.order else []
     why = "; ".join(dict.fromkeys(group.lacking.objections))
     calls = element("b", counted(group.programs.total(), "call"))
     title = element("h3", calls, " ", element("span", named(why), kind="why"))
