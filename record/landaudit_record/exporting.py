@@ -11,9 +11,10 @@ from collections.abc import Iterable, Iterator, Sequence
 
 from .comments import Comments
 from .confining import ABI_OF_SCOPES
+from .fitting import rights_on_file
 from .landlock_calls import ABI_OF_LOG, LOG_NEW_EXEC_ON
 from .policies import SCOPES, Layer, PathRule, Policy, PortRule
-from .rights import FILE_RIGHTS, FS, NET, NEWEST_ABI, Family, Rights
+from .rights import FS, NET, NEWEST_ABI, Family, Rights
 
 WIDTH = 100
 _HEAD = """\
@@ -44,7 +45,6 @@ _TYPES = """\
 struct policy_path {
 	const char *path;
 	uint64_t on_directory, on_file; /* what is allowed, by what the path is */
-	int of_group; /* left out on a file that it allows nothing on */
 };
 
 struct policy_port {
@@ -100,9 +100,7 @@ static int policy_add_path(int ruleset, const struct policy_path *rule, uint64_t
 	if (fstat(attr.parent_fd, &about)) {
 		error = errno;
 	} else {
-		attr.allowed_access = rule->on_directory & handled;
-		if (!S_ISDIR(about.st_mode) && (rule->of_group || (rule->on_file & handled)))
-			attr.allowed_access = rule->on_file & handled;
+		attr.allowed_access = (S_ISDIR(about.st_mode) ? rule->on_directory : rule->on_file) & handled;
 		if (attr.allowed_access && syscall(SYS_landlock_add_rule, ruleset, LANDLOCK_RULE_PATH_BENEATH, &attr, 0))
 			error = errno;
 	}
@@ -228,12 +226,12 @@ def _rules(layer: Layer, comments: Comments) -> Iterator[str]:
 
 def _path_rows(rule: PathRule, layer: Layer) -> Iterator[str]:
     """A row for each object that a rule is on."""
-    on_directory = rule.allowed_access.rights & layer.handled_access_fs.rights
-    on_file = (rule.allowed_access.outright | FILE_RIGHTS) & on_directory
+    handled = layer.handled_access_fs.rights
+    on_directory, on_file = rule.allowed_access.rights & handled, rights_on_file(rule, handled)
     for parent in rule.parents:
         yield f"\t{{{_text(parent)},"
         yield from _wrapped(f"{_set('FS', FS, on_directory)},")
-        yield from _wrapped(f"{_set('FS', FS, on_file)}, {int(rule.group is not None)}}},")
+        yield from _wrapped(f"{_set('FS', FS, on_file)}}},")
 
 
 def _port_rows(rule: PortRule, layer: Layer) -> Iterator[str]:

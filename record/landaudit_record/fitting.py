@@ -14,10 +14,10 @@ from .rights import FILE_RIGHTS, FS, NET, Family, Rights
 
 @dataclass(frozen=True)
 class FittedPathRule:
-    """What a rule grants under its parents; a parent that is a file gets only those rights of a group that files have.
+    """What a rule asks for on its parents: `on_directory` on a directory, `on_file` on what is none.
 
-    `group` is the group of rules that the rule belongs to, if any: its parents that are missing, or that are files and
-    get no right, are left out without a note.
+    `group` is the group of rules that the rule belongs to, if any: its parents that are missing are left out without a
+    note. A rule that asks for nothing is left out, too.
     """
 
     place: str
@@ -27,14 +27,8 @@ class FittedPathRule:
     group: str | None = None
 
     def on(self, kind: str | None) -> list[str]:
-        """The rights that the rule asks for on an object of a kind; None is an object that is not listed.
-
-        If no right of the rule applies to a file, a rule of a group asks for nothing, and is left out. Any other rule
-        asks for all of them and the kernel refuses it: the audit then names the rule.
-        """
-        if kind in ("dir", None):
-            return self.on_directory
-        return self.on_file if self.on_file or self.group is not None else self.on_directory
+        """The rights that the rule asks for on an object of a kind; None is an object that is not listed."""
+        return self.on_directory if kind in ("dir", None) else self.on_file
 
 
 @dataclass(frozen=True)
@@ -79,7 +73,7 @@ def _layer(layer: Layer, abi: int, notes: list[str]) -> FittedLayer | None:
         layer.number,
         FS.ordered(handled_fs),
         NET.ordered(handled_net),
-        tuple(fitted for rule in layer.path_beneath if (fitted := _path_rule(rule, handled_fs, abi, where, notes))),
+        tuple(fitted for rule in layer.path_beneath if (fitted := _path_rule(rule, layer, abi, notes))),
         tuple(port for rule in layer.net_port if (port := _port_rule(rule, handled_net, abi, where, notes))),
     )
 
@@ -93,13 +87,27 @@ def _known(access: Access, family: Family, abi: int, where: str, notes: list[str
     return access.rights & known
 
 
-def _path_rule(rule: PathRule, handled: Rights, abi: int, where: str, notes: list[str]) -> FittedPathRule | None:
-    on_directory = _known(rule.allowed_access, FS, abi, f"{where}, {rule.place}", notes) & handled
-    on_file = (rule.allowed_access.outright | FILE_RIGHTS) & on_directory
+def rights_on_file(rule: PathRule, handled: Rights) -> Rights:
+    """The rights of a rule, in a layer that handles some, that count on what is no directory, whatever the ABI knows.
+
+    They are those that the rule names, and those of its groups that files have. If that is nothing, a rule of a group
+    of rules asks for nothing. Any other rule asks for all of its rights, and the kernel refuses it: the audit then
+    names the rule.
+    """
+    on_directory = rule.allowed_access.rights & handled
+    for_files = on_directory & (rule.allowed_access.outright | FILE_RIGHTS)
+    return for_files if for_files or rule.group is not None else on_directory
+
+
+def _path_rule(rule: PathRule, layer: Layer, abi: int, notes: list[str]) -> FittedPathRule | None:
+    where = f"layer {layer.number}, {rule.place}"
+    handled = layer.handled_access_fs.rights
+    on_directory = _known(rule.allowed_access, FS, abi, where, notes) & handled
     if not on_directory:
         if rule.group is None:
-            notes.append(f"{where}, {rule.place} is left out: ABI {abi} knows nothing that it allows")
+            notes.append(f"{where} is left out: ABI {abi} knows nothing that it allows")
         return None
+    on_file = rights_on_file(rule, handled) & FS.known(abi)
     return FittedPathRule(rule.place, rule.parents, FS.ordered(on_directory), FS.ordered(on_file), rule.group)
 
 

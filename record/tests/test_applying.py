@@ -175,7 +175,9 @@ class Applying(unittest.TestCase):
         writing, renewed = Access(grouped=FS.groups["write"]), access("truncate", "refer")
         paths = PathRule("path_beneath 1", writing, ("/usr", "/usr/ls", "/none"))
         newer = PathRule("path_beneath 2", renewed, ("/usr",))
-        tried = Policy(Path("P.toml"), (Layer(1, everything, ports, (paths, newer), (PortRule("p", ports, (443,)),)),))
+        on_file = PathRule("path_beneath 3", Access(frozenset({"truncate"}), frozenset({"make_reg"})), ("/usr/ls",))
+        rules = (paths, newer, on_file)
+        tried = Policy(Path("P.toml"), (Layer(1, everything, ports, rules, (PortRule("p", ports, (443,)),)),))
         for abi in ABIS:
             with self.subTest(abi):
                 fitted = applying.records(tried, fit(tried, abi)[0], TREE, 1)

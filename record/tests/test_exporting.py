@@ -89,7 +89,7 @@ class Code(unittest.TestCase):
         for allowed, on_file in (('["read"]', "POLICY_FS_READ_FILE"), ('["read_dir"]', "POLICY_FS_READ_DIR")):
             with self.subTest(allowed):
                 row = exported(layer + allowed).partition('{"/x",')[2].splitlines()[2]
-                self.assertEqual(row, f"\t {on_file}, 0}},")
+                self.assertEqual(row, f"\t {on_file}}},")
 
     @unittest.skipUnless(COMPILERS, "no C compiler is installed")
     def test_compilers_warn_of_nothing(self) -> None:

@@ -71,8 +71,28 @@ class Fitting(unittest.TestCase):
         self.assertEqual(layer.path_rules[0].on("reg"), ["read_file", "read_dir"])
 
     def test_a_rule_without_a_right_for_files_asks_for_all_of_it(self) -> None:
-        rule = FittedPathRule("path_beneath 1", ("/a",), ["make_reg"], [])
-        self.assertEqual(rule.on("reg"), ["make_reg"])
+        making = Access(grouped=frozenset({"make_reg"}))
+        for group, on_file in ((None, ["make_reg"]), ("base", [])):
+            rule = PathRule("path_beneath 1", making, ("/a",), group)
+            for handled in (ALL_FS, making):
+                (layer,), _ = fit(policy(handled, paths=(rule,)), 1)
+                self.assertEqual(layer.path_rules[0].on("reg"), on_file)
+
+    def test_what_counts_on_a_file_is_the_same_at_each_abi(self) -> None:
+        """The kernel knows truncate from ABI 3 on, and refer, which only directories have, from ABI 2 on."""
+        for named, since in (("truncate", 3), ("refer", 2)):
+            access = Access(outright=frozenset({named}), grouped=frozenset({"make_reg"}))
+            for abi in range(1, 6):
+                with self.subTest(named, abi=abi):
+                    (layer,), _ = fit(policy(access, paths=(PathRule("path_beneath 1", access, ("/a",)),)), abi)
+                    (rule,) = layer.path_rules
+                    self.assertEqual(rule.on("reg"), [named] if abi >= since else [])
+                    self.assertEqual(set(rule.on("dir")), {"make_reg", named} if abi >= since else {"make_reg"})
+
+    def test_a_right_that_the_layer_does_not_handle_counts_nowhere(self) -> None:
+        rule = PathRule("path_beneath 1", Access(grouped=FS.groups["write"]), ("/a",))
+        (layer,), _ = fit(policy(Access(outright=frozenset({"make_reg", "refer"})), paths=(rule,)), 1)
+        self.assertEqual(layer.path_rules[0].on("reg"), ["make_reg"])
 
 
 if __name__ == "__main__":
