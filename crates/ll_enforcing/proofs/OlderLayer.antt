@@ -1,11 +1,12 @@
 -- What the calls do for a layer that was left at a newer version and is made at best effort at an older one.
-use Rattle.std.proofs.Common.{◌≡◌, ℕ, ◌≤◌, Bool, true, false, not, ◌&&◌, List, [], ◌∷◌, ◌++◌, map, length, Option, Some, None, refl, sym, ap, ◌∙◌}
+use Rattle.std.proofs.Common.{◌≡◌, ℕ, ◌≤◌, Bool, true, false, not, ◌&&◌, ◌||◌, List, [], ◌∷◌, ◌++◌, map, length, Option, Some, None, refl, sym, ap, ◌∙◌}
 use Rattle.std.proofs.Common.{if◌then◌else◌, subst, All, nat_le}
 use Rattle.std.specs.List.{flat_map, enumerate_from}
 use Rattle.std.proofs.lemmas.Bool.{true≢false, eq-eqb}
 use Rattle.std.proofs.lemmas.List.{map-append}
 use Rattle.std.proofs.lemmas.List.Concat.{flat_map-append}
 use Rattle.std.proofs.lemmas.List.Elements.{All-head, All-tail}
+use Rattle.std.proofs.lemmas.List.Folds.{list_any-append}
 use Rattle.ll_rights.specs.declared.abi.Abi.{Abi}
 use Rattle.ll_rights.specs.declared.fs.Fs.{Fs}
 use Rattle.ll_rights.specs.declared.net.Net.{Net}
@@ -36,7 +37,7 @@ use Rattle.ll_fitting.specs.Written as policies
 use Rattle.ll_fitting.specs.Written.{listed, listed_on_ports, common_on_ports}
 use Rattle.ll_fitting.specs.Fitting.{rights_at, rights_on, rights_on_port, fitted_path_rule, fitted_port_rule, fitted_path_rules, fitted_port_rules}
 use Rattle.ll_fitting.specs.Fitting.{handled_files, handled_network, fitted_layer}
-use Rattle.ll_fitting.specs.Taken.{is_refused_on, is_refused, granted_by, rules_of}
+use Rattle.ll_fitting.specs.Taken.{is_refused, granted_by, rules_of}
 use Rattle.ll_fitting.proofs.Left.{on_within, port_valid, AreFit, IsAskedOnPort, created}
 use Rattle.ll_enforcing.specs.declared.calls.Call.{Call}
 use Rattle.ll_enforcing.specs.Calls.{operation_of, calls_of_layer}
@@ -45,18 +46,11 @@ use Rattle.ll_enforcing.proofs.Runs.{leads_allowed}
 use Rattle.ll_enforcing.proofs.OneLayer.{with_granted, with_granted-append, handles_same, network_same, with_ports, IsAskedOfPort, leads_create}
 use Rattle.ll_enforcing.proofs.OneLayer.{leads_restrict, leads_close}
 use Rattle.ll_enforcing.proofs.AllLayers.{filled, filled_is, mapped, after_layer}
-use Rattle.ll_enforcing.proofs.OlderRights.{keeps, net_supported_nothing, is_zero, net_is_zero}
-use Rattle.ll_enforcing.proofs.OlderRules.{Goes, goes_none, goes_one, goes_on, all_left, all_right, nothing_refused, best_path, best_port, IsSame}
+use Rattle.ll_enforcing.proofs.OlderRights.{older_rights, net_supported_nothing, is_zero, net_is_zero}
+use Rattle.ll_enforcing.proofs.OlderRules.{Goes, goes_none, goes_one, goes_on, all_left, all_right, or_false, any_refused, best_path, best_port, IsSame}
 use Rattle.ll_enforcing.proofs.OlderRules.{goes_rule, goes_port_by}
 
 -- ---- a rule that is left, or isn't
-
-taken_of : (b : Bool) (index : ℕ) (parent : Parent) (rights : Fs) → files.is_empty rights ≡ b
-    → All (λ (rule : FittedPathRule). is_refused rule ≡ false) (if b then [] else record { rule = index; parent = parent; rights = rights } ∷ [])
-    → is_refused_on parent rights ≡ false
-unfolding is_refused
-taken_of true index parent rights empty all = nothing_refused parent rights empty
-taken_of false index parent rights empty all = All-head (λ rule. is_refused rule ≡ false) (record { rule = index; parent = parent; rights = rights }) [] all
 
 listed_of : (tree : List Entry) (b : Bool) (index : ℕ) (parent : Parent) (rights : Fs)
     → All (λ (rule : FittedPathRule). IsListed tree rule.parent) (if b then [] else record { rule = index; parent = parent; rights = rights } ∷ [])
@@ -88,30 +82,27 @@ module _ (tree : List Entry) (older newer : Abi) (le : number_of older ≤ numbe
 
     same_rule : (own : Layer) (numbered : ℕ × PathRule) → own.handled_files ≡ handled_files older layer →
         All (λ (rule : FittedPathRule). IsListed tree rule.parent) (fitted_path_rule newer layer numbered)
-        → All (λ rule. is_refused rule ≡ false) (fitted_path_rule older layer numbered)
         → IsSame tree older missing rs own numbered.1.parent (rights_on newer layer numbered.1) (rights_on older layer numbered.1)
     unfolding fitted_path_rule rights_on
-    same_rule own numbered handles listed unrefused =
+    same_rule own numbered handles listed =
         let rule : PathRule = numbered.1 in
-        let taken : is_refused_on rule.parent (rights_at older layer rule rule.parent) ≡ false = taken_of _ numbered.0 rule.parent _ refl unrefused in
         record {
-          keeps = keeps older newer le layer known rule rule.parent taken;
+          keeps = older_rights older newer le layer rule rule.parent;
           listed = listed_of tree (files.is_empty (rights_at newer layer rule rule.parent)) numbered.0 rule.parent
               (rights_at newer layer rule rule.parent) listed;
           within = ap (λ (handled : Fs). files.is_within (rights_at older layer rule rule.parent) handled) handles
               ∙ on_within older layer known rule rule.parent;
-          taken = taken;
         }
 
     goes_paths : (before : List Layer) (own : Layer) (s : State) (xs : List (ℕ × PathRule)) → IsTree tree → IsNoObject (place tree missing) →
         s.held rs ≡ Some (length before) → own.handled_files ≡ handled_files older layer →
-        All (λ (rule : FittedPathRule). IsListed tree rule.parent) (flat_map (fitted_path_rule newer layer) xs) →
-        All (λ rule. is_refused rule ≡ false) (flat_map (fitted_path_rule older layer) xs)
-        → Goes tree older (before ++ own ∷ []) s (map (best_path tree older missing rs) (flat_map (fitted_path_rule newer layer) xs))
+        All (λ (rule : FittedPathRule). IsListed tree rule.parent) (flat_map (fitted_path_rule newer layer) xs)
+        → Goes tree older (any_refused (flat_map (fitted_path_rule older layer) xs)) (before ++ own ∷ []) s
+        (map (best_path tree older missing rs) (flat_map (fitted_path_rule newer layer) xs))
         (before ++ with_granted tree own (flat_map granted_by (flat_map (fitted_path_rule older layer) xs)) ∷ []) s
     unfolding fitted_path_rule
-    goes_paths before own s [] is_tree not_listed held handles listed unrefused = goes_none tree older (before ++ own ∷ []) s
-    goes_paths before own s (numbered ∷ xs) is_tree not_listed held handles listed unrefused =
+    goes_paths before own s [] is_tree not_listed held handles listed = goes_none tree older (before ++ own ∷ []) s
+    goes_paths before own s (numbered ∷ xs) is_tree not_listed held handles listed =
         let newest : List FittedPathRule = fitted_path_rule newer layer numbered in
         let here : List FittedPathRule = fitted_path_rule older layer numbered in
         let later : List FittedPathRule = flat_map (fitted_path_rule newer layer) xs in
@@ -119,26 +110,28 @@ module _ (tree : List Entry) (older newer : Abi) (le : number_of older ≤ numbe
         let next : Layer = with_granted tree own (flat_map granted_by here) in
         let first = goes_rule tree older missing rs before own s numbered.0 numbered.1.parent (rights_on newer layer numbered.1)
         (rights_on older layer numbered.1)
-        is_tree not_listed held (same_rule own numbered handles (all_left (λ (rule : FittedPathRule). IsListed tree rule.parent) newest later listed)
-        (all_left (λ rule. is_refused rule ≡ false) here others unrefused)) in
+        is_tree not_listed held (same_rule own numbered handles (all_left (λ (rule : FittedPathRule). IsListed tree rule.parent) newest later listed)) in
         let last = goes_paths before next s xs is_tree not_listed held (handles_same tree older missing rs own (flat_map granted_by here) ∙ handles)
-        (all_right (λ (rule : FittedPathRule). IsListed tree rule.parent) newest later listed)
-        (all_right (λ rule. is_refused rule ≡ false) here others unrefused) in
-        subst (λ (ops : List Op). Goes tree older (before ++ own ∷ []) s ops (before ++ with_granted tree own (flat_map granted_by (here ++ others)) ∷ []) s)
+        (all_right (λ (rule : FittedPathRule). IsListed tree rule.parent) newest later listed) in
+        subst (λ (b : Bool). Goes tree older b (before ++ own ∷ []) s
+        (map (best_path tree older missing rs) (newest ++ later)) (before ++ with_granted tree own (flat_map granted_by (here ++ others)) ∷ []) s)
+        (sym (list_any-append is_refused here others))
+        (subst (λ (ops : List Op). Goes tree older (any_refused here || any_refused others) (before ++ own ∷ []) s ops
+        (before ++ with_granted tree own (flat_map granted_by (here ++ others)) ∷ []) s)
         (sym (map-append (best_path tree older missing rs) newest later))
-        (subst (λ (after : Layer). Goes tree older (before ++ own ∷ []) s
+        (subst (λ (after : Layer). Goes tree older (any_refused here || any_refused others) (before ++ own ∷ []) s
         (map (best_path tree older missing rs) newest ++ map (best_path tree older missing rs) later)
         (before ++ after ∷ []) s)
         (with_granted-append tree own (flat_map granted_by here) (flat_map granted_by others)
         ∙ ap (with_granted tree own) (sym (flat_map-append granted_by here others)))
-        (goes_on tree older _ _ _ s s s (map (best_path tree older missing rs) newest) (map (best_path tree older missing rs) later) first last))
+        (goes_on tree older _ _ _ _ _ s s s (map (best_path tree older missing rs) newest) (map (best_path tree older missing rs) later) first last)))
 
   module _ (known : network.has (listed_on_ports layer.handled_network) network.other ≡ false) where
     -- ---- all rules for ports
 
     goes_port : (before : List Layer) (own : Layer) (s : State) (numbered : ℕ × PortRule) → s.held rs ≡ Some (length before) →
         own.handled_network ≡ handled_network older layer → AreFit older layer known numbered
-        → Goes tree older (before ++ own ∷ []) s (map (best_port tree older missing rs) (fitted_port_rule newer layer numbered))
+        → Goes tree older false (before ++ own ∷ []) s (map (best_port tree older missing rs) (fitted_port_rule newer layer numbered))
         (before ++ with_ports own (fitted_port_rule older layer numbered) ∷ []) s
     unfolding fitted_port_rule rights_on_port
     goes_port before own s numbered held handles fits =
@@ -154,7 +147,7 @@ module _ (tree : List Entry) (older newer : Abi) (le : number_of older ≤ numbe
 
     goes_ports : (before : List Layer) (own : Layer) (s : State) (xs : List (ℕ × PortRule)) → s.held rs ≡ Some (length before) →
         own.handled_network ≡ handled_network older layer → All (AreFit older layer known) xs
-        → Goes tree older (before ++ own ∷ []) s (map (best_port tree older missing rs) (flat_map (fitted_port_rule newer layer) xs))
+        → Goes tree older false (before ++ own ∷ []) s (map (best_port tree older missing rs) (flat_map (fitted_port_rule newer layer) xs))
         (before ++ with_ports own (flat_map (fitted_port_rule older layer) xs) ∷ []) s
     goes_ports before own s [] held handles fits = goes_none tree older (before ++ own ∷ []) s
     goes_ports before own s (numbered ∷ xs) held handles fits =
@@ -165,12 +158,12 @@ module _ (tree : List Entry) (older newer : Abi) (le : number_of older ≤ numbe
         let next : Layer = with_ports own here in
         let first = goes_port before own s numbered held handles (All-head (AreFit older layer known) numbered xs fits) in
         let last = goes_ports before next s xs held (ports_network own here ∙ handles) (All-tail (AreFit older layer known) numbered xs fits) in
-        subst (λ (ops : List Op). Goes tree older (before ++ own ∷ []) s ops (before ++ with_ports own (here ++ others) ∷ []) s)
+        subst (λ (ops : List Op). Goes tree older false (before ++ own ∷ []) s ops (before ++ with_ports own (here ++ others) ∷ []) s)
         (sym (map-append (best_port tree older missing rs) newest later))
-        (subst (λ (after : Layer). Goes tree older (before ++ own ∷ []) s
+        (subst (λ (after : Layer). Goes tree older false (before ++ own ∷ []) s
         (map (best_port tree older missing rs) newest ++ map (best_port tree older missing rs) later)
         (before ++ after ∷ []) s) (with_ports-append own here others)
-        (goes_on tree older _ _ _ s s s (map (best_port tree older missing rs) newest) (map (best_port tree older missing rs) later) first last))
+        (goes_on tree older _ _ _ _ _ s s s (map (best_port tree older missing rs) newest) (map (best_port tree older missing rs) later) first last))
 
   -- ---- the ruleset, which handles nothing where the older version knows nothing that the layer handles
 
@@ -223,34 +216,34 @@ module _ (tree : List Entry) (older newer : Abi) (le : number_of older ≤ numbe
       ∙ ap (λ (set : Net). Create rs (handled_files older layer) set) network_left
 
   goes_create_empty : (r : List Layer) (s : State) → s.held rs ≡ None
-      → Goes tree older r s (CreateEmpty rs ∷ []) (r ++ without_rules files.no_right network.no_right ∷ []) (with_held s rs (Some (length r)))
+      → Goes tree older false r s (CreateEmpty rs ∷ []) (r ++ without_rules files.no_right network.no_right ∷ []) (with_held s rs (Some (length r)))
   unfolding answer rules change effect state_by rulesets_by
   goes_create_empty r s free =
       goes_one tree older r _ s _ (CreateEmpty rs) Allowed
-      (leads_allowed tree older r _ s _ (CreateEmpty rs) (ap (λ (held : Option ℕ). if_free held Allowed) free) refl refl) refl
+      (leads_allowed tree older r _ s _ (CreateEmpty rs) (ap (λ (held : Option ℕ). if_free held Allowed) free) refl refl)
 
   goes_create : (none : Bool) (r : List Layer) (s : State) → s.held rs ≡ None → files.has (listed layer.handled_files) files.other ≡ false →
       network.has (listed_on_ports layer.handled_network) network.other ≡ false →
       (files.is_empty (handled_files newer layer) && network.is_empty (handled_network newer layer)) ≡ false →
       (files.is_empty (handled_files older layer) && network.is_empty (handled_network older layer)) ≡ none
-      → Goes tree older r s (best_create ∷ []) (r ++ without_rules (handled_files older layer) (handled_network older layer) ∷ [])
+      → Goes tree older false r s (best_create ∷ []) (r ++ without_rules (handled_files older layer) (handled_network older layer) ∷ [])
       (with_held s rs (Some (length r)))
   goes_create true r s free known known_on_ports some none =
       let parts = both_parts (files.is_empty (handled_files older layer)) (network.is_empty (handled_network older layer)) none in
-      subst (λ (op : Op). Goes tree older r s (op ∷ []) (r ++ without_rules (handled_files older layer) (handled_network older layer) ∷ [])
+      subst (λ (op : Op). Goes tree older false r s (op ∷ []) (r ++ without_rules (handled_files older layer) (handled_network older layer) ∷ [])
       (with_held s rs (Some (length r))))
       (sym (empty_op none some))
-      (subst (λ (own : Layer). Goes tree older r s (CreateEmpty rs ∷ []) (r ++ own ∷ []) (with_held s rs (Some (length r))))
+      (subst (λ (own : Layer). Goes tree older false r s (CreateEmpty rs ∷ []) (r ++ own ∷ []) (with_held s rs (Some (length r))))
       (ap (λ (n : ℕ). without_rules (record { 0 = n }) network.no_right) (sym (is_zero (handled_files older layer) parts.0))
       ∙ ap (λ (n : ℕ). without_rules (handled_files older layer) (record { 0 = n })) (sym (net_is_zero (handled_network older layer) parts.1)))
       (goes_create_empty r s free))
   goes_create false r s free known known_on_ports some none =
-      subst (λ (op : Op). Goes tree older r s (op ∷ []) (r ++ without_rules (handled_files older layer) (handled_network older layer) ∷ [])
+      subst (λ (op : Op). Goes tree older false r s (op ∷ []) (r ++ without_rules (handled_files older layer) (handled_network older layer) ∷ [])
       (with_held s rs (Some (length r))))
       (sym (some_op none))
       (goes_one tree older r _ s _ (Create rs (handled_files older layer) (handled_network older layer)) Allowed
       (leads_create tree older missing rs r s (handled_files older layer) (handled_network older layer) free
-      (created older layer known known_on_ports none)) refl)
+      (created older layer known known_on_ports none)))
 
   -- ---- the whole layer
 
@@ -261,13 +254,13 @@ module _ (tree : List Entry) (older newer : Abi) (le : number_of older ≤ numbe
       (known_on_ports : network.has (listed_on_ports layer.handled_network) network.other ≡ false) →
       All (AreFit older layer known_on_ports) (enumerate_from 0 layer.port_rules) → IsTree tree → IsNoObject (place tree missing) →
       All (λ (rule : FittedPathRule). IsListed tree rule.parent) (fitted_path_rules newer layer) →
-      All (λ (rule : FittedPathRule). is_refused rule ≡ false) (fitted_path_rules older layer) →
       (files.is_empty (handled_files newer layer) && network.is_empty (handled_network newer layer)) ≡ false →
       s.held rs ≡ None → s.no_new_privs ≡ true → nat_le MOST_LAYERS (length s.domain) ≡ false
-      → Goes tree older r s (map best (calls_of_layer (fitted_layer newer index layer))) (r ++ in_tree tree (rules_of (fitted_layer older index layer)) ∷ [])
+      → Goes tree older (any_refused (fitted_path_rules older layer)) r s (map best (calls_of_layer (fitted_layer newer index layer)))
+      (r ++ in_tree tree (rules_of (fitted_layer older index layer)) ∷ [])
       (after_layer tree older missing rs s (length r) (in_tree tree (rules_of (fitted_layer older index layer))))
   unfolding operation_of fitted_path_rules fitted_port_rules at_best_effort
-  goes_layer r s index known known_on_ports fits is_tree not_listed listed unrefused some free unprivileged room =
+  goes_layer r s index known known_on_ports fits is_tree not_listed listed some free unprivileged room =
       let empty : Layer = without_rules (handled_files older layer) (handled_network older layer) in
       let granted : Layer = with_granted tree empty (flat_map granted_by (fitted_path_rules older layer)) in
       let full : Layer = filled tree (fitted_layer older index layer) in
@@ -275,20 +268,25 @@ module _ (tree : List Entry) (older newer : Abi) (le : number_of older ≤ numbe
       let held : holding.held rs ≡ Some (length r) = rw (eq-eqb rs rs refl) refl in
       let path_ops : List Op = map (best_path tree older missing rs) (fitted_path_rules newer layer) in
       let port_ops : List Op = map (best_port tree older missing rs) (fitted_port_rules newer layer) in
-      let whole : Goes tree older r s (best_create ∷ (path_ops ++ port_ops ++ Restrict rs ∷ CloseRs rs ∷ [])) (r ++ full ∷ [])
+      let refused : Bool = any_refused (fitted_path_rules older layer) in
+      let whole : Goes tree older ((refused || false) || false) r s (best_create ∷ (path_ops ++ port_ops ++ Restrict rs ∷ CloseRs rs ∷ [])) (r ++ full ∷ [])
       (after_layer tree older missing rs s (length r) full) =
-      goes_on tree older _ _ _ s holding _ (best_create ∷ []) (path_ops ++ port_ops ++ Restrict rs ∷ CloseRs rs ∷ [])
+      goes_on tree older _ _ _ _ _ s holding _ (best_create ∷ []) (path_ops ++ port_ops ++ Restrict rs ∷ CloseRs rs ∷ [])
       (goes_create _ r s free known known_on_ports some refl)
-      (goes_on tree older _ _ _ holding holding _ (path_ops ++ port_ops) (Restrict rs ∷ CloseRs rs ∷ [])
-      (goes_on tree older _ _ _ holding holding holding path_ops port_ops
-      (goes_paths known r empty holding (enumerate_from 0 layer.path_rules) is_tree not_listed held refl listed unrefused)
+      (goes_on tree older _ _ _ _ _ holding holding _ (path_ops ++ port_ops) (Restrict rs ∷ CloseRs rs ∷ [])
+      (goes_on tree older _ _ _ _ _ holding holding holding path_ops port_ops
+      (goes_paths known r empty holding (enumerate_from 0 layer.path_rules) is_tree not_listed held refl listed)
       (goes_ports known_on_ports r granted holding (enumerate_from 0 layer.port_rules) held
       (network_same tree older missing rs empty (flat_map granted_by (fitted_path_rules older layer))) fits))
-      (goes_on tree older _ _ _ holding (with_layer holding (Some full)) _ (Restrict rs ∷ []) (CloseRs rs ∷ [])
-      (goes_one tree older _ _ holding _ (Restrict rs) Allowed (leads_restrict tree older missing rs r full holding held unprivileged room) refl)
+      (goes_on tree older _ _ _ _ _ holding (with_layer holding (Some full)) _ (Restrict rs ∷ []) (CloseRs rs ∷ [])
+      (goes_one tree older _ _ holding _ (Restrict rs) Allowed (leads_restrict tree older missing rs r full holding held unprivileged room))
       (goes_one tree older _ _ _ _ (CloseRs rs) Allowed
-      (leads_close tree older missing rs (r ++ full ∷ []) (with_layer holding (Some full)) (length r) held) refl))) in
-      subst (λ (own : Layer). Goes tree older r s (map best (calls_of_layer (fitted_layer newer index layer))) (r ++ own ∷ [])
+      (leads_close tree older missing rs (r ++ full ∷ []) (with_layer holding (Some full)) (length r) held)))) in
+      subst (λ (b : Bool). Goes tree older b r s (map best (calls_of_layer (fitted_layer newer index layer)))
+      (r ++ in_tree tree (rules_of (fitted_layer older index layer)) ∷ [])
+      (after_layer tree older missing rs s (length r) (in_tree tree (rules_of (fitted_layer older index layer)))))
+      (or_false (refused || false) ∙ or_false refused)
+      (subst (λ (own : Layer). Goes tree older ((refused || false) || false) r s (map best (calls_of_layer (fitted_layer newer index layer))) (r ++ own ∷ [])
       (after_layer tree older missing rs s (length r) own)) (filled_is tree (fitted_layer older index layer))
-      (subst (λ (ops : List Op). Goes tree older r s ops (r ++ full ∷ []) (after_layer tree older missing rs s (length r) full))
-      (sym (mapped best (fitted_layer newer index layer))) whole)
+      (subst (λ (ops : List Op). Goes tree older ((refused || false) || false) r s ops (r ++ full ∷ []) (after_layer tree older missing rs s (length r) full))
+      (sym (mapped best (fitted_layer newer index layer))) whole))

@@ -57,15 +57,20 @@ abbrev pub confined : List Record
 confined =
     records_of 0 (operations.Start false false ∷ operations_of worked_tree nowhere 3 (fitted V4 small))
 
--- ---- a rule that best effort leaves out at version 1, and that the kernel refuses if it is fitted to this version: all that the
--- rule names is newer, and all else that it lists is for directories
+-- ---- a rule on a file of which version 1 knows nothing but what is for directories; and one that lists nothing else
 
 abbrev pub newer_on_a_file : List Layer
-newer_on_a_file = layer (lists (truncate ∷ make_reg ∷ []) []) (lists_on_ports []) (on (lists (truncate ∷ []) (make_reg ∷ [])) (file 6) ∷ []) [] ∷ []
+newer_on_a_file = handling (truncate ∷ make_reg ∷ []) (on (lists (truncate ∷ []) (make_reg ∷ [])) (file 6) ∷ [])
+
+abbrev pub directories_on_a_file : List Layer
+directories_on_a_file = handling (truncate ∷ make_reg ∷ []) (on (lists [] (make_reg ∷ [])) (file 6) ∷ [])
 
 abbrev pub left_out : List Op
 left_out =
     operations.Nnp ∷ operations.Create 3 (these (make_reg ∷ [])) (these_on_ports []) ∷ operations.LeaveOutPath (codes "/b/g") ∷ operations.Restrict 3 ∷ operations.CloseRs 3 ∷ []
+
+abbrev pub without_the_rule : List Op
+without_the_rule = operations.Nnp ∷ operations.Create 3 (these (make_reg ∷ [])) (these_on_ports []) ∷ operations.Restrict 3 ∷ operations.CloseRs 3 ∷ []
 
 -- ---- a process that may enforce a policy: it has just started, and the tree is the root alone
 

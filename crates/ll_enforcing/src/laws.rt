@@ -29,11 +29,11 @@ pub fn the_first_refused_rule_is_named()
 {}
 
 /// The calls for a newer version, made at best effort at an older one, give a process the layers that the older version
-/// leaves of the policy, and besides only layers that handle nothing, if the older version refuses no rule of the
-/// policy. None of these calls is refused.
+/// leaves of the policy, and besides only layers that handle nothing. Some of these calls is refused exactly if the older
+/// version refuses a rule of the policy.
 pub fn best_effort_gives_the_same_layers()
     ensures { (older newer : Abi) → number_of older ≤ number_of newer → (policy : List Layer)
-        → misfit policy ≡ None → first_refused (fitted older policy) ≡ None
+        → misfit policy ≡ None
         → (tree : List Entry) (missing : List ℕ) (rs process : ℕ) (world : World)
         → MayEnforce tree missing rs process (fitted newer policy) world
         → IsTheSame tree missing rs older newer process policy world }

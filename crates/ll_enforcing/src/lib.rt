@@ -7,4 +7,4 @@ mod worked;
 
 pub use calls::{Call, enforce};
 pub use laws::{best_effort_gives_the_same_layers, the_first_refused_rule_is_named};
-pub use worked::{worked_calls, worked_difference, worked_start};
+pub use worked::{worked_best_effort, worked_calls, worked_start};

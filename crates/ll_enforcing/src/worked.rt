@@ -12,7 +12,8 @@ ghost use Rattle.ll_enforcing.specs.Answered.{operations_of, MayEnforce};
 ghost use Rattle.ll_tree.specs.Trees.{root};
 ghost use Rattle.ll_enforcing.specs.AtBestEffort.{taken_at};
 ghost use Rattle.ll_fitting.specs.Taken.{first_refused};
-ghost use Rattle.ll_enforcing.specs.WorkedCalls.{small, small_operations, nowhere, confined, newer_on_a_file, left_out, on_the_root, just_started};
+ghost use Rattle.ll_enforcing.specs.WorkedCalls.{small, small_operations, nowhere, confined, newer_on_a_file, directories_on_a_file, left_out};
+ghost use Rattle.ll_enforcing.specs.WorkedCalls.{without_the_rule, on_the_root, just_started};
 
 /// Two layers: a group on a file is masked, a rule on a missing object is moot, and a rule that only a directory can
 /// have is refused on a file.
@@ -23,14 +24,18 @@ pub fn worked_calls()
         ∷ Allowed ∷ [] }
 {}
 
-/// A rule that names only rights that an older version doesn't know, and lists others that only directories can have:
-/// on a file, best effort leaves it out there, and the kernel refuses what is fitted to that version. So the law of
-/// best effort asks that no rule is refused.
-pub fn worked_difference()
+/// A rule on a file that names only a right which an older version doesn't know, and lists others that only directories
+/// can have: best effort leaves it out there, and so does what is fitted to that version. If it has the others alone, it
+/// is refused in both.
+pub fn worked_best_effort()
     ensures left_out { taken_at worked_tree nowhere 3 V1 V5 newer_on_a_file ≡ left_out }
-    ensures refused { first_refused (fitted V1 newer_on_a_file)
+    ensures none { operations_of worked_tree nowhere 3 (fitted V1 newer_on_a_file)
+        ≡ without_the_rule }
+    ensures taken { first_refused (fitted V1 newer_on_a_file) ≡ None }
+    ensures kept { taken_at worked_tree nowhere 3 V1 V5 directories_on_a_file
+        ≡ operations_of worked_tree nowhere 3 (fitted V1 directories_on_a_file) }
+    ensures refused { first_refused (fitted V1 directories_on_a_file)
         ≡ Some (record { layer = 0; rule = 0 }) }
-    ensures newer { first_refused (fitted V5 newer_on_a_file) ≡ None }
 {}
 
 /// A process that has just started may enforce a policy with a rule on the root.

@@ -28,7 +28,7 @@ use Rattle.ll_fitting.specs.declared.policy.TheConstants.{MOST_LAYERS}
 use Rattle.ll_fitting.specs.declared.policy.RuleMisfit.TheVariants as misfit
 use Rattle.ll_fitting.specs.declared.policy.Misfit.{Misfit}
 use Rattle.ll_fitting.specs.declared.policy.Misfit.TheVariants as wrong
-use Rattle.ll_fitting.specs.Written.{Layer, listed, listed_on_ports, listed_for_files, common, common_on_ports}
+use Rattle.ll_fitting.specs.Written.{Layer, listed, listed_on_ports, common, common_on_ports}
 use Rattle.ll_fitting.specs.Fitting.{left_of, rights_on_kind, rights_at, rights_on, rights_on_port, fitted_path_rule, fitted_port_rule, fitted_path_rules}
 use Rattle.ll_fitting.specs.Fitting.{fitted_port_rules, handled_files, handled_network, fitted_if_any, fitted}
 use Rattle.ll_fitting.specs.Misfits as misfits
@@ -226,9 +226,7 @@ module _ (abi : Abi) (layer : Layer) (known : files.has (listed layer.handled_fi
 
   pub on_within : (rule : PathRule) (parent : Parent) → IsHandled (rights_at abi layer rule parent)
   unfolding rights_on_kind
-  on_within rule (There object kind) =
-      either _ _ _ (left_within (listed rule.allowed))
-      (either _ _ _ (left_within (listed rule.allowed)) (left_within (listed_for_files rule.allowed)))
+  on_within rule (There object kind) = left_within _
   on_within rule Missing = either rule.included _ _ (nothing_within (handled_files abi layer)) (left_within (listed rule.allowed))
 
   abbrev IsAsked : FittedPathRule → Type 0

@@ -1,5 +1,5 @@
 -- The rights of a rule, right by right.
-use Rattle.std.proofs.Common.{◌≡◌, ℕ, Bool, not, if◌then◌else◌, true, false, ◌&&◌, ◌||◌, refl, ap, ◌∙◌, inl, inr}
+use Rattle.std.proofs.Common.{◌≡◌, ℕ, Bool, true, false, ◌&&◌, ◌||◌, refl, ap, ◌∙◌, inl, inr}
 use Rattle.ll_rights.specs.declared.abi.Abi.{Abi}
 use Rattle.ll_rights.specs.declared.fs.Fs.{Fs}
 use Rattle.ll_rights.specs.declared.net.Net.{Net}
@@ -16,7 +16,7 @@ use Rattle.ll_fitting.specs.declared.written.PathRule.{PathRule}
 use Rattle.ll_fitting.specs.declared.written.PortRule.{PortRule}
 use Rattle.ll_fitting.specs.declared.written.Parent.TheVariants.{There, Missing}
 use Rattle.ll_fitting.specs.Written.{Layer, listed, listed_on_ports, listed_for_files, file_rights, common, common_on_ports}
-use Rattle.ll_fitting.specs.Fitting.{left_of, or_whole, rights_on_kind, rights_at, rights_on_port}
+use Rattle.ll_fitting.specs.Fitting.{left_of, is_for_files, counted_on_files, rights_on_kind, rights_at, rights_on_port}
 use Rattle.ll_fitting.specs.ByRight.{lists, lists_on_ports, lists_for_files, is_left, is_left_on_ports}
 use Rattle.ll_fitting.proofs.Left.{has_common, has_common_on_ports, other_or_not, other_or_not_on_ports}
 
@@ -39,15 +39,6 @@ without a true k l is = absurd (cc)
 grouped : (a b k : Bool) → ((a && b) && k) ≡ (a && (b && k))
 grouped true b k = refl
 grouped false b k = refl
-
-pub chosen : (empty own : Bool) (whole part : Fs) → empty ≡ false → (if empty && own then whole else part) ≡ part
-chosen false own whole part is = refl
-chosen true own whole part is = absurd (cc)
-
-pub chosen_whole : (empty included : Bool) (whole part : Fs) → empty ≡ true → included ≡ false → (if empty && not included then whole else part) ≡ whole
-chosen_whole true false whole part is own = refl
-chosen_whole true true whole part is own = absurd (cc)
-chosen_whole false included whole part is own = absurd (cc)
 
 pub left_by_right : (abi : Abi) (layer : Layer) (rights : Fs) (right : files.FsRight) → files.has (listed layer.handled_files) files.other ≡ false
     → files.has (left_of abi layer rights) right ≡ (files.has rights right && is_left abi layer right)
@@ -101,27 +92,18 @@ unfolding rights_on_kind
 on_directories abi layer rule object right known =
     left_by_right abi layer (listed rule.allowed) right known ∙ ap (λ (b : Bool). b && is_left abi layer right) (listed_by_right rule.allowed right)
 
-pub other_kind : (abi : Abi) (layer : Layer) (rule : PathRule) (object : ℕ) (kind : Kind) → is_dir kind ≡ false
-    → rights_at abi layer rule (There object kind)
-    ≡ or_whole rule.included (left_of abi layer (listed_for_files rule.allowed)) (left_of abi layer (listed rule.allowed))
-unfolding rights_on_kind
-other_kind abi layer rule object kind other = rw other refl
-
 pub on_files : (abi : Abi) (layer : Layer) (rule : PathRule) (object : ℕ) (kind : Kind) (right : files.FsRight) →
-    files.has (listed layer.handled_files) files.other ≡ false → is_dir kind ≡ false →
-    files.is_empty (left_of abi layer (listed_for_files rule.allowed)) ≡ false
+    files.has (listed layer.handled_files) files.other ≡ false → is_dir kind ≡ false → (is_for_files layer rule || rule.included) ≡ true
     → files.has (rights_at abi layer rule (There object kind)) right ≡ (lists_for_files rule.allowed right && is_left abi layer right)
+unfolding rights_on_kind counted_on_files
 on_files abi layer rule object kind right known other some =
-    ap (λ (set : Fs). files.has set right) (other_kind abi layer rule object kind other ∙ chosen _ (not rule.included) _ _ some)
-    ∙ left_by_right abi layer (listed_for_files rule.allowed) right known
+    rw (other, some) (left_by_right abi layer (listed_for_files rule.allowed) right known)
     ∙ ap (λ (b : Bool). b && is_left abi layer right) (listed_for_files_by_right rule.allowed right)
 
 pub on_files_whole : (abi : Abi) (layer : Layer) (rule : PathRule) (object : ℕ) (kind : Kind) → is_dir kind ≡ false →
-    files.is_empty (left_of abi layer (listed_for_files rule.allowed)) ≡ true → rule.included ≡ false
-    → rights_at abi layer rule (There object kind) ≡ rights_at abi layer rule (There object Dir)
-unfolding rights_on_kind
-on_files_whole abi layer rule object kind other none own =
-    other_kind abi layer rule object kind other ∙ chosen_whole _ rule.included _ _ none own
+    (is_for_files layer rule || rule.included) ≡ false → rights_at abi layer rule (There object kind) ≡ rights_at abi layer rule (There object Dir)
+unfolding rights_on_kind counted_on_files
+on_files_whole abi layer rule object kind other none = rw (other, none) refl
 
 pub on_nothing : (abi : Abi) (layer : Layer) (rule : PathRule) → rule.included ≡ true → rights_at abi layer rule Missing ≡ files.no_right
 on_nothing abi layer rule included = rw included refl

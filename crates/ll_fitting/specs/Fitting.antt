@@ -1,6 +1,6 @@
 -- What a version of the interface leaves of a policy: the rights that it knows, the rules that still grant something, and the layers that still handle something.
 -- Source: the kernel's userspace document on Landlock, "Defining and enforcing a security policy", which advises "a best-effort security approach"; landlock_add_rule(2), "ERRORS".
-use Rattle.std.specs.Prelude.{ℕ, Bool, not, ◌&&◌, List, [], ◌∷◌, if◌then◌else◌}
+use Rattle.std.specs.Prelude.{ℕ, Bool, not, ◌&&◌, ◌||◌, List, [], ◌∷◌, if◌then◌else◌}
 use Rattle.std.specs.List.{flat_map, enumerate_from}
 use Rattle.ll_rights.specs.declared.abi.Abi.{Abi}
 use Rattle.ll_rights.specs.declared.fs.Fs.{Fs}
@@ -24,15 +24,17 @@ use Rattle.ll_fitting.specs.Written.{Layer, listed, listed_on_ports, listed_for_
 unfoldable pub left_of : Abi → Layer → Fs → Fs
 left_of abi layer rights = supported_fs abi (common rights (listed layer.handled_files))
 
--- A group stands for what the object can have. If that is nothing, a rule of the policy's own is asked for as it is written, and the kernel refuses it.
-abbrev pub or_whole : Bool → Fs → Fs → Fs
-or_whole included for_files whole = if files.is_empty for_files && not included then whole else for_files
+-- a rule has a right for files among those that its layer handles, whatever a version knows
+unfoldable pub is_for_files : Layer → PathRule → Bool
+is_for_files layer rule = not (files.is_empty (common (listed_for_files rule.allowed) (listed layer.handled_files)))
+
+-- What counts of a rule on what isn't a directory: of a group, what the object can have. Where a rule of the policy's own has no right for files, all of it counts, and the kernel refuses it.
+unfoldable pub counted_on_files : Layer → PathRule → Fs
+counted_on_files layer rule = if is_for_files layer rule || rule.included then listed_for_files rule.allowed else listed rule.allowed
 
 -- what a rule asks for on an object of a kind
 unfoldable pub rights_on_kind : Abi → Layer → PathRule → Kind → Fs
-rights_on_kind abi layer rule kind =
-    if is_dir kind then left_of abi layer (listed rule.allowed)
-    else or_whole rule.included (left_of abi layer (listed_for_files rule.allowed)) (left_of abi layer (listed rule.allowed))
+rights_on_kind abi layer rule kind = left_of abi layer (if is_dir kind then listed rule.allowed else counted_on_files layer rule)
 
 -- a rule of an included group is left out where its object is missing
 abbrev pub rights_at : Abi → Layer → PathRule → Parent → Fs

@@ -103,7 +103,8 @@ first_rights =
 unfoldable pub fitting : Unit {0}
 unfolding
     Rattle.ll_rules.specs.WorkedRules.checking Rattle.ll_rights.specs.Supported.supported_fs Rattle.ll_rights.specs.Supported.supported_net
-    Rattle.ll_fitting.specs.Fitting.left_of Rattle.ll_fitting.specs.Fitting.rights_on_kind Rattle.ll_fitting.specs.Fitting.rights_on
+    Rattle.ll_fitting.specs.Fitting.left_of Rattle.ll_fitting.specs.Fitting.is_for_files Rattle.ll_fitting.specs.Fitting.counted_on_files
+    Rattle.ll_fitting.specs.Fitting.rights_on_kind Rattle.ll_fitting.specs.Fitting.rights_on
     Rattle.ll_fitting.specs.Fitting.rights_on_port Rattle.ll_fitting.specs.Fitting.fitted_path_rule Rattle.ll_fitting.specs.Fitting.fitted_port_rule
     Rattle.ll_fitting.specs.Fitting.fitted_path_rules Rattle.ll_fitting.specs.Fitting.fitted_port_rules Rattle.ll_fitting.specs.Fitting.handled_files
     Rattle.ll_fitting.specs.Fitting.handled_network Rattle.ll_fitting.specs.Fitting.fitted_if_any Rattle.ll_fitting.specs.Fitting.fitted

@@ -1,6 +1,6 @@
 //! What holds of fitted policies by their definitions.
 
-ghost use Rattle.std.specs.Prelude.{◌≡◌, ◌&&◌, ℕ, true, false, List, None, All};
+ghost use Rattle.std.specs.Prelude.{◌≡◌, ◌&&◌, ◌||◌, ℕ, true, false, List, None, All};
 ghost use Rattle.ll_rights.specs.declared.kind.Kind.{Kind as ObjectKind};
 ghost use Rattle.ll_rights.specs.Rights as files;
 ghost use Rattle.ll_rights.specs.NetRights as network;
@@ -9,8 +9,8 @@ ghost use Rattle.ll_fitting.specs.declared.written.PathRule.{PathRule as Rule};
 ghost use Rattle.ll_fitting.specs.declared.written.PortRule.{PortRule as RuleOnPort};
 ghost use Rattle.ll_fitting.specs.ByRight.{lists, lists_on_ports, lists_for_files, is_left, is_left_on_ports};
 ghost use Rattle.ll_rights.specs.declared.abi.Abi.{Abi};
-ghost use Rattle.ll_fitting.specs.Written.{Layer, listed, listed_on_ports, listed_for_files};
-ghost use Rattle.ll_fitting.specs.Fitting.{fitted, left_of, rights_at, rights_on_port};
+ghost use Rattle.ll_fitting.specs.Written.{Layer, listed, listed_on_ports};
+ghost use Rattle.ll_fitting.specs.Fitting.{fitted, is_for_files, rights_at, rights_on_port};
 ghost use Rattle.ll_fitting.specs.Misfits.{misfit};
 ghost use Rattle.ll_fitting.specs.Taken.{IsValid};
 
@@ -25,9 +25,9 @@ pub fn what_is_left_is_valid()
 {}
 
 /// A rule asks on a directory for each right that it lists, that its layer handles and that the version knows. On what
-/// isn't a directory its groups stand for those of their rights that apply there; if nothing is left then, a rule of
-/// the policy's own is asked for as on a directory, and the kernel refuses it. A rule of an included group is left out
-/// where its object is missing.
+/// isn't a directory its groups stand for those of their rights that apply there. A rule of the policy's own that then
+/// lists nothing of what its layer handles, whatever the version, is asked for as on a directory, and the kernel refuses
+/// it. A rule of an included group is left out where its object is missing.
 pub fn rules_ask_right_by_right()
     ensures directory { (abi : Abi) (layer : Layer) (rule : Rule) (object : ℕ)
         (right : files.FsRight)
@@ -37,13 +37,12 @@ pub fn rules_ask_right_by_right()
     ensures file { (abi : Abi) (layer : Layer) (rule : Rule) (object : ℕ) (kind : ObjectKind)
         (right : files.FsRight)
         → files.has (listed layer.handled_files) files.other ≡ false → is_dir kind ≡ false
-        → files.is_empty (left_of abi layer (listed_for_files rule.allowed)) ≡ false
+        → (is_for_files layer rule || rule.included) ≡ true
         → files.has (rights_at abi layer rule (Parent.There object kind)) right
         ≡ (lists_for_files rule.allowed right && is_left abi layer right) }
     ensures whole { (abi : Abi) (layer : Layer) (rule : Rule) (object : ℕ) (kind : ObjectKind)
         → is_dir kind ≡ false
-        → files.is_empty (left_of abi layer (listed_for_files rule.allowed)) ≡ true
-        → rule.included ≡ false
+        → (is_for_files layer rule || rule.included) ≡ false
         → rights_at abi layer rule (Parent.There object kind)
         ≡ rights_at abi layer rule (Parent.There object Kind.Dir) }
     ensures missing { (abi : Abi) (layer : Layer) (rule : Rule) → rule.included ≡ true

@@ -63,20 +63,37 @@ pub(crate) fn is_directory(kind: Kind) -> bool
     matches!(kind, Kind::Dir)
 }
 
+/// Whether a rule has a right for files among those that its layer handles, whatever a version knows.
+#[tactic(auto, unfolding(crate::specs::Fitting::is_for_files))]
+fn is_for_files(layer: &Layer, rule: PathRule) -> bool
+    ensures { result ≡ fitted.is_for_files (written layer.now) rule }
+{
+    !common(listed_for_files(rule.allowed), listed(layer.handled_files)).is_empty()
+}
+
+/// What counts of a rule on what isn't a directory.
+#[tactic(auto, unfolding(crate::specs::Fitting::counted_on_files))]
+fn counted_on_files(layer: &Layer, rule: PathRule) -> Fs
+    ensures { result ≡ fitted.counted_on_files (written layer.now) rule }
+{
+    if is_for_files(layer, rule) || rule.included {
+        listed_for_files(rule.allowed)
+    } else {
+        listed(rule.allowed)
+    }
+}
+
 /// The rights that a rule asks for on an object of a kind.
 #[tactic(auto, unfolding(crate::specs::Fitting::rights_on_kind))]
 fn rights_on_kind(layer: &Layer, abi: Abi, rule: PathRule, kind: Kind) -> Fs
     ensures { result ≡ fitted.rights_on_kind abi (written layer.now) rule kind }
 {
-    let whole = left_of(layer, abi, listed(rule.allowed));
-    if is_directory(kind) {
-        return whole;
-    }
-    let for_files = left_of(layer, abi, listed_for_files(rule.allowed));
-    if for_files.is_empty() && !rule.included {
-        return whole;
-    }
-    for_files
+    let counted = if is_directory(kind) {
+        listed(rule.allowed)
+    } else {
+        counted_on_files(layer, rule)
+    };
+    left_of(layer, abi, counted)
 }
 
 /// The rights that a rule asks for on its parent at a version: none if it is left out.

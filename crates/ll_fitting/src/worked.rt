@@ -49,6 +49,13 @@ pub fn worked_rules()
         (on (lists [] (make_reg ∷ [])) (file 1)
         ∷ of_group (lists [] (make_reg ∷ [])) (file 1) ∷ []))
         ≡ left_handling (make_reg ∷ []) (grants 0 (file 1) (make_reg ∷ []) ∷ []) }
+    ensures newer_for_files { fitted V1 (handling (truncate ∷ make_reg ∷ [])
+        (on (lists (truncate ∷ []) (make_reg ∷ [])) (file 1)
+        ∷ on (lists [] (make_reg ∷ [])) (file 1) ∷ []))
+        ≡ left_handling (make_reg ∷ []) (grants 1 (file 1) (make_reg ∷ []) ∷ []) }
+    ensures known_for_files { fitted V5 (handling (truncate ∷ make_reg ∷ [])
+        (on (lists (truncate ∷ []) (make_reg ∷ [])) (file 1) ∷ []))
+        ≡ left_handling (truncate ∷ make_reg ∷ []) (grants 0 (file 1) (truncate ∷ []) ∷ []) }
     ensures missing { fitted V1 (handling (read_file ∷ [])
         (on (lists (read_file ∷ []) []) Parent.Missing
         ∷ of_group (lists (read_file ∷ []) []) Parent.Missing ∷ []))

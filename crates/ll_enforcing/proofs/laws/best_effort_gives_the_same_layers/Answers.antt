@@ -3,4 +3,4 @@ use Rattle.ll_enforcing.proofs.laws.best_effort_gives_the_same_layers.Goals as g
 
 pub returns : goal.returns
 returns c =
-    λ older newer le policy fits taken tree missing rs process world may. the_same tree older newer le missing rs policy process world fits taken may
+    λ older newer le policy fits tree missing rs process world may. the_same tree older newer le missing rs policy process world fits may
