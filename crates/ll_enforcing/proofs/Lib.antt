@@ -7,3 +7,5 @@ pub mod OlderRights
 pub mod OlderRules
 pub mod OlderLayer
 pub mod OlderPolicy
+pub mod ReadCalls
+pub mod Handling

@@ -1,9 +1,10 @@
-//! What holds of the calls that put a policy in force.
+//! What holds of the calls that put a policy in force, and of traces that were read.
 
 ghost use Rattle.std.specs.Prelude.{◌≡◌, ◌≤◌, ℕ, false, List, Some, None, All, find};
 ghost use Rattle.ll_rights.specs.{declared.abi.Abi.Abi, Abis.number_of};
 ghost use Rattle.ll_tree.specs.Trees.{Entry};
-ghost use Rattle.ll_semantics.specs.Worlds.{World};
+ghost use Rattle.ll_trace.specs.{declared.op.Record.Record, Records.IsTrace};
+ghost use Rattle.ll_semantics.specs.Worlds.{World, judged};
 ghost use Rattle.ll_fitting.specs.Written.{Layer};
 ghost use Rattle.ll_fitting.specs.Misfits.{misfit};
 ghost use Rattle.ll_fitting.specs.Fitting.{Fitted, fitted};
@@ -13,6 +14,7 @@ ghost use Rattle.ll_fitting.specs.declared.refusing.RefusedRule.{RefusedRule};
 ghost use Rattle.ll_enforcing.specs.Calls.{calls_of};
 ghost use Rattle.ll_enforcing.specs.Answered.{answer_of, is_refusal, MayEnforce};
 ghost use Rattle.ll_enforcing.specs.AtBestEffort.{IsTheSame};
+ghost use Rattle.ll_enforcing.specs.PlainRestricting.{plainly_judged};
 
 use crate::calls::Call;
 
@@ -37,4 +39,12 @@ pub fn best_effort_gives_the_same_layers()
         → (tree : List Entry) (missing : List ℕ) (rs process : ℕ) (world : World)
         → MayEnforce tree missing rs process (fitted newer policy) world
         → IsTheSame tree missing rs older newer process policy world }
+{}
+
+/// The semantics answer a `restrict` by a ruleset that handles nothing in a way of its own, since best effort has such
+/// rulesets and the kernel has none. Every trace that was read from a file is judged the same without that rule.
+pub fn rulesets_that_handle_nothing_are_not_read()
+    ensures { (bytes : List ℕ) (records : List Record) → IsTrace bytes records
+        → (tree : List Entry) (abi : Abi)
+        → judged tree abi records ≡ plainly_judged tree abi records }
 {}

@@ -25,8 +25,8 @@ use Rattle.ll_semantics.specs.CallContexts.{rules, rulesets_by, rulesets_after}
 use Rattle.ll_semantics.specs.Worlds.{World, empty_world, if_allowed, affected, answer_in, step, judged_from, judged}
 use Rattle.ll_semantics.proofs.Steps.{step-rulesets}
 use Rattle.ll_semantics.proofs.MakingDo.{made_handles}
-use Rattle.ll_read_traces.specs.PlainRestricting.{restricts_plainly, answered_plainly, steps_plainly, plainly_judged_from, plainly_judged}
-use Rattle.ll_read_traces.proofs.ReadCalls.{is_empty_creation, IsMade, all_made}
+use Rattle.ll_enforcing.specs.PlainRestricting.{restricts_plainly, answered_plainly, steps_plainly, plainly_judged_from, plainly_judged}
+use Rattle.ll_enforcing.proofs.ReadCalls.{is_empty_creation, IsMade, all_made}
 
 abbrev Handles : Layer → Type 0
 Handles rules = handles_nothing rules ≡ false

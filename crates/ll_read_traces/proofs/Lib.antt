@@ -1,2 +1,0 @@
-pub mod ReadCalls
-pub mod Handling

@@ -1,5 +1,0 @@
-use Rattle.ll_read_traces.proofs.Handling.{read_traces}
-use Rattle.ll_read_traces.proofs.laws.rulesets_that_handle_nothing_are_not_read.Goals as goal
-
-pub returns : goal.returns
-returns c = read_traces
