@@ -116,6 +116,20 @@ class Confining(unittest.TestCase):
         self.assertNotIn("port", [call[0] for call in kernel.calls])
         self.assertIn("layer 1, handled_access_fs: ABI 1 does not know refer: dropped", notes)
 
+    def test_a_rule_on_a_file_of_which_an_older_abi_knows_only_what_directories_have(self) -> None:
+        """Rules on files have no make_reg (landlock_add_rule(2), EINVAL), and truncate is known from ABI 3 on."""
+        text = """[[layer]]
+handled_access_fs = ["truncate", "make_reg"]
+[[layer.path_beneath]]
+allowed_access = ["truncate", "write"]
+parent = ["{folder}", "{folder}/file"]
+"""
+        for abi, asked in ((2, {"": ["make_reg"]}), (3, {"": ["make_reg", "truncate"], "/file": ["truncate"]})):
+            kernel = Kernel(abi)
+            self.confined(text, kernel, abi)
+            rules = [call for call in kernel.calls if call[0] == "path"]
+            self.assertEqual(rules, [("path", f"{self.folder}{name}", rights) for name, rights in asked.items()])
+
     def test_scopes_where_the_kernel_has_them(self) -> None:
         text = '[[layer]]\nhandled_access_fs = ["refer"]\nscoped = ["signal"]\n[[layer]]\nscoped = ["abstract_unix_socket"]\n'
         newer, older = Kernel(6), Kernel(5)

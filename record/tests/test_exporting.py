@@ -91,6 +91,14 @@ class Code(unittest.TestCase):
                 row = exported(layer + allowed).partition('{"/x",')[2].splitlines()[2]
                 self.assertEqual(row, f"\t {on_file}}},")
 
+    def test_a_rule_without_a_right_for_files_asks_for_all_of_it(self) -> None:
+        """The kernel refuses it then; what counts on a file is written without a look at the kernel's ABI."""
+        rule = '[[layer.path_beneath]]\nparent = "/x"\nallowed_access = ["write"]\n'
+        for handled, on_file in (('"make_reg"', "MAKE_REG"), ('"make_reg", "truncate"', "TRUNCATE")):
+            with self.subTest(handled):
+                code = exported(f"[[layer]]\nhandled_access_fs = [{handled}]\n{rule}")
+                self.assertEqual(code.partition('{"/x",')[2].splitlines()[2], f"\t POLICY_FS_{on_file}}},")
+
     @unittest.skipUnless(COMPILERS, "no C compiler is installed")
     def test_compilers_warn_of_nothing(self) -> None:
         texts = {file.name: file.read_text() for file in sorted(POLICIES.rglob("*.toml"))} | {"commented": COMMENTED}
