@@ -133,6 +133,7 @@ test:
 	{ $(MAKE) --no-print-directory --output-sync --jobs 4 $(TRIED) && bench/drive; } > $$log 2>&1; status=$$?; \
 	test $$status -eq 0 || { cat $$log >&2; rm -f '$(GATE)'; }; rm -f $$log; exit $$status
 	@$(MAKE) --no-print-directory test-witness
+	@python3 -c 'import jsonschema' 2> /dev/null || echo 'jsonschema is not installed: the tests of schemas were skipped'
 
 # The tests of the recorder, in two parts that take about as long as one another.
 test-record: test-record-first test-record-rest

@@ -70,6 +70,27 @@ class Gate(unittest.TestCase):
         self.assertEqual(run.stderr, "packaging/gate: cannot run no-such-command: No such file or directory\n")
 
 
+class Run(unittest.TestCase):
+    """`.ci/run`, with stand-ins for what it calls, which print their words and fail if they are to."""
+
+    def called(self, *failing: str) -> list[str]:
+        folder = Path(self.enterContext(tempfile.TemporaryDirectory()))
+        for name in ("python3", "apt-get", "make"):
+            fails = "".join(f"'{words}'*) exit 1 ;; " for words in failing)
+            (folder / name).write_text(f'#!/bin/sh\necho "{name} $1 $2"\ncase "{name} $*" in {fails}esac\n')
+            (folder / name).chmod(0o755)
+        words = {"PATH": f"{folder}:/usr/bin:/bin"}
+        run = subprocess.run([TOP / ".ci" / "run"], capture_output=True, text=True, check=True, env=words)
+        return run.stdout.splitlines()
+
+    def test_the_library_of_the_tests_is_installed_only_where_it_is_missing(self) -> None:
+        look, pip, update, install = ("python3 -c import", "python3 -m pip", "apt-get update", "apt-get install")
+        self.assertEqual(len(self.called()), 2)
+        self.assertEqual(self.called(look)[1:], [pip, "make test "])
+        self.assertEqual(self.called(look, pip)[1:], [pip, f"{update} --quiet", f"{install} --quiet", "make test "])
+        self.assertEqual(self.called("python3", "apt-get")[-1], "make test ")
+
+
 class Sources(unittest.TestCase):
     def setUp(self) -> None:
         self.top = Path(self.enterContext(tempfile.TemporaryDirectory()))

@@ -10,12 +10,20 @@ from typing import Any
 
 from .places import TOP
 from .report_text import objects
-from .schema import CHECKS, SILENT, Validator
+
+try:
+    from jsonschema import Draft202012Validator
+except ImportError:
+    Draft202012Validator = None
 
 DATA = TOP / "examples"
 SCHEMA = json.loads((TOP / "docs" / "report.schema.json").read_text(encoding="utf-8"))
+NEEDS_LIBRARY = unittest.skipIf(Draft202012Validator is None, "jsonschema is not installed")
 COMMAND = (TOP / "crates" / "ll_command" / "src" / "command.rt").read_text(encoding="utf-8")
 INDEX = [json.loads(line) for line in (DATA / "index.jsonl").read_text(encoding="utf-8").splitlines()]
+
+#: Keywords that say nothing of a value.
+SAYING_NOTHING = {"$schema", "$defs", "title", "description"}
 
 RECORD = {
     "line": 7,
@@ -48,6 +56,14 @@ def version() -> str:
     found = re.search(r'^pub const VERSION: &str = "(.+)";$', COMMAND, re.MULTILINE)
     assert found is not None
     return found[1]
+
+
+def keywords(schema: dict[str, Any]) -> set[str]:
+    """The keywords of a schema and of those inside."""
+    inside = [*schema.get("$defs", {}).values(), *schema.get("properties", {}).values()]
+    inside += [one for name in ("allOf", "anyOf", "oneOf") for one in schema.get(name, ())]
+    inside += [schema[name] for name in ("items", "additionalProperties") if isinstance(schema.get(name), dict)]
+    return set(schema).union(*map(keywords, inside))
 
 
 def abis_of(example: dict[str, Any]) -> range:
@@ -89,21 +105,23 @@ class Examples(unittest.TestCase):
             with self.subTest(example["name"]):
                 self.assertEqual((DATA / example["json"]).read_text(encoding="utf-8").splitlines(), printed)
 
+    @NEEDS_LIBRARY
     def test_the_schema_describes_each_line(self) -> None:
-        schema = Validator(SCHEMA)
+        schema = Draft202012Validator(SCHEMA)
         for example in INDEX:
             for line in (DATA / example["json"]).read_text(encoding="utf-8").splitlines():
                 with self.subTest(example["name"], line=line):
-                    self.assertTrue(schema.allows(json.loads(line)))
+                    self.assertTrue(schema.is_valid(json.loads(line)))
 
 
+@NEEDS_LIBRARY
 class Schema(unittest.TestCase):
     def test_it_describes_the_lines_of_the_documents(self) -> None:
-        self.assertTrue(Validator(SCHEMA).allows(RECORD))
-        self.assertTrue(Validator(SCHEMA).allows(LAST))
+        self.assertTrue(Draft202012Validator(SCHEMA).is_valid(RECORD))
+        self.assertTrue(Draft202012Validator(SCHEMA).is_valid(LAST))
 
     def test_it_refuses_other_lines(self) -> None:
-        schema = Validator(SCHEMA)
+        schema = Draft202012Validator(SCHEMA)
         layer: list[str | int] = ["answers", 0, "layers", 0]
         for way, to in (
             (["line"], 0),
@@ -133,18 +151,30 @@ class Schema(unittest.TestCase):
             ([*layer, "objections", 1, "in"], None),
         ):
             with self.subTest(way=way, to=to):
-                self.assertFalse(schema.allows(changed(RECORD, list(way), to)))
+                self.assertFalse(schema.is_valid(changed(RECORD, list(way), to)))
         for way, to in ((["version"], ""), (["version"], None), (["totals"], []), (["totals", 0, "moot"], None)):
             with self.subTest(way=way, to=to):
-                self.assertFalse(schema.allows(changed(LAST, list(way), to)))
+                self.assertFalse(schema.is_valid(changed(LAST, list(way), to)))
 
-    def test_each_of_its_keywords_is_checked(self) -> None:
-        def words(schema: Any) -> set[str]:
-            below = [*schema.get("$defs", {}).values(), *schema.get("properties", {}).values(), *schema.get("oneOf", [])]
-            below += [schema["items"]] if "items" in schema else []
-            return set(schema).union(*(words(one) for one in below))
 
-        self.assertLessEqual(words(SCHEMA), {*CHECKS, *SILENT, "additionalProperties"})
+@NEEDS_LIBRARY
+class Schemas(unittest.TestCase):
+    """All schemas of docs/: what the library does not know in one it would leave unread."""
+
+    def test_each_is_of_the_dialect_and_each_keyword_is_checked(self) -> None:
+        for file in sorted((TOP / "docs").glob("*.schema.json")):
+            with self.subTest(file.name):
+                schema = json.loads(file.read_text(encoding="utf-8"))
+                self.assertEqual(schema["$schema"], Draft202012Validator.META_SCHEMA["$id"])
+                Draft202012Validator.check_schema(schema)
+                self.assertLessEqual(keywords(schema), {*Draft202012Validator.VALIDATORS, *SAYING_NOTHING})
+
+    def test_references_are_to_what_is_there(self) -> None:
+        for file in sorted((TOP / "docs").glob("*.schema.json")):
+            with self.subTest(file.name):
+                text = file.read_text(encoding="utf-8")
+                known = {"#", *(f"#/$defs/{name}" for name in json.loads(text)["$defs"])}
+                self.assertLessEqual(set(re.findall(r'"\$ref": *"(.*?)"', text)), known)
 
 
 class Words(unittest.TestCase):

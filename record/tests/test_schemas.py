@@ -1,4 +1,4 @@
-"""The data that `audit --json` and `check --json` print, by the schemas in docs/; and the validator that reads these."""
+"""The data that `audit --json` and `check --json` print, and the files of a recording, by the schemas in docs/."""
 
 from __future__ import annotations
 
@@ -24,7 +24,7 @@ from landaudit_record.recorder import converting
 from landaudit_record.recorder.ports import Ports
 from landaudit_record.summary import Accepted, Refusal, RefusingLayer, Summary, as_data
 
-from .json_schema import DIALECT, DOCS, Schema, Unknown, Validator
+from .json_schema import DIALECT, DOCS, Schema, Validator
 from .kept_logs import LOGS, KeptLogs
 from .stand_in import StandIn
 from .test_page import HOSTILE
@@ -37,31 +37,6 @@ HEARD = Path(__file__).parent / "heard"
 OF_AN_OP = {"op", "pid"} | set(re.findall(r"`(\w+)`", "".join(
     row.split("|")[2] for row in (DOCS / "FORMATS.md").read_text(encoding="utf-8").partition("| `op` | ")[2]
     .partition("\n\n")[0].splitlines()[2:])))
-
-#: A schema, values that are as it says, and values that are not, by the documents Core and Validation of 2020-12.
-KEYWORDS: tuple[tuple[Schema, tuple[Any, ...], tuple[Any, ...]], ...] = (
-    ({"type": "integer"}, (0, -3, 2.0), (True, "1", 1.5, None, [])),
-    ({"type": ["string", "null"]}, ("", None), (0, False, {})),
-    ({"type": "object"}, ({},), ([], "", None)),
-    ({"type": "array"}, ([],), ({}, "")),
-    ({"type": "boolean"}, (True, False), (0, 1, "true")),
-    ({"const": 1}, (1,), (2, "1", True, None)),
-    ({"enum": ["a", None]}, ("a", None), ("b", False, "")),
-    ({"required": ["a"]}, ({"a": None}, {"a": 1, "b": 2}, "no object"), ({}, {"b": 1})),
-    ({"dependentRequired": {"a": ["b"]}}, ({}, {"b": 1}, {"a": 1, "b": 2}, 3), ({"a": 1},)),
-    ({"properties": {"a": {"type": "null"}}}, ({}, {"a": None}, {"b": 1}, []), ({"a": 1},)),
-    ({"additionalProperties": {"minimum": 1}}, ({}, {"x": 1}, 0), ({"x": 0}, {"x": 1, "y": 0})),
-    ({"items": {"type": "string"}}, ([], ["a"], {"a": 1}), ([1], ["a", None])),
-    ({"minItems": 1}, ([0], "", {}), ([],)),
-    ({"maxItems": 1}, ([], [0], "ab"), ([0, 0],)),
-    ({"minimum": 1}, (1, 2.5, "0", True), (0, 0.5, -1)),
-    ({"maximum": 1}, (1, 0.5, "2"), (2, 1.5)),
-    ({"minLength": 1}, ("a", 0, []), ("",)),
-    ({"pattern": "^/"}, ("/", "/a", 3), ("a/", "")),
-    ({"oneOf": [{"type": "integer"}, {"minimum": 2}]}, (1, 2.5), (2, 0.5)),
-    ({"$ref": "#/$defs/a", "$defs": {"a": {"const": 1}}}, (1,), (2,)),
-    ({"properties": {"a": {"$ref": "#"}}, "required": ["b"]}, ({"b": 1, "a": {"b": 1}},), ({"b": 1, "a": {}},)),
-)
 
 #: All that a layer objects to.
 OBJECTIONS = (
@@ -118,31 +93,8 @@ port = 80
 """
 
 
-class Keywords(unittest.TestCase):
-    """The validator itself."""
-
-    def test_each_keyword(self) -> None:
-        for schema, good, bad in KEYWORDS:
-            validator = Validator({"$schema": DIALECT, **schema})
-            for value in good:
-                with self.subTest(schema, good=value):
-                    self.assertEqual(validator.faults(value), [])
-            for value in bad:
-                with self.subTest(schema, bad=value):
-                    self.assertNotEqual(validator.faults(value), [])
-
-    def test_what_it_does_not_know(self) -> None:
-        for schema in ({"maxLength": 3}, {"format": "uri"}, {"anyOf": [{}]}, {"type": "number"},
-                       {"$ref": "other.json"}, {"$ref": "#/$defs/none", "$defs": {}}, {"properties": {"a": {"not": {}}}}):
-            with self.subTest(schema), self.assertRaises(Unknown):
-                Validator({"$schema": DIALECT, **schema}).faults({"a": 1})
-        for dialect in ({}, {"$schema": "http://json-schema.org/draft-07/schema#"}):
-            with self.subTest(dialect), self.assertRaises(Unknown):
-                Validator(dialect)
-
-    def test_faults_say_where(self) -> None:
-        schema = {"properties": {"a": {"items": {"type": "null"}}}}
-        self.assertEqual(Validator({"$schema": DIALECT, **schema}).faults({"a": [None, 1]}), ["/a/1: is no null"])
+class Members(unittest.TestCase):
+    """What is found beside the faults that the library finds."""
 
     def test_members_that_no_schema_names(self) -> None:
         inner: Schema = {"properties": {"b": {}}, "oneOf": [{"properties": {"c": {}}}]}
