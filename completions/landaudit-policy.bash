@@ -1,22 +1,16 @@
-# Completion of landaudit-policy for bash.
+# Completion of landaudit-policy for bash, made by packaging/completions.
 
 # The options of a subcommand, or what can come instead of one.
 _landaudit_policy_words() {
     case $1 in
-        confine) echo '-h --help --abi --log --set --' ;;
+        confine) echo '-h --help --set --abi --log --' ;;
+        check) echo '-h --help --set --json --landaudit' ;;
         lint) echo '-h --help --set' ;;
-        diff) echo '-h --help --abi --set --landaudit' ;;
-        check) echo '-h --help --json --set --landaudit' ;;
-        export) echo '-h --help --c --log --set' ;;
-        import) echo '-h --help --program --process --landlockconfig --setpriv --landrun --firejail --set' ;;
+        diff) echo '-h --help --set --abi --landaudit' ;;
+        export) echo '-h --help --set --c --log' ;;
+        import) echo '-h --help --landlockconfig --setpriv --landrun --firejail --program --process --set' ;;
         *) echo 'confine check lint diff export import -h --help -V --version' ;;
     esac
-}
-
-# The versions that a subcommand can be asked about: those that compare policies take ranges of them too.
-_landaudit_policy_abis() {
-    echo '1 2 3 4 5'
-    [[ $1 != diff ]] || echo '1-2 1-3 1-4 1-5 2-3 2-4 2-5 3-4 3-5 4-5'
 }
 
 # The command behind the dashes, which are at an index of the line.
@@ -24,8 +18,18 @@ _landaudit_policy_command() {
     if declare -F _command_offset > /dev/null; then
         _command_offset $(($1 + 1))
     elif ((COMP_CWORD == $1 + 1)); then
-        mapfile -t COMPREPLY < <(compgen -c -- "$cur")
+        _landaudit_policy_offer -c
     fi
+}
+
+# What compgen makes that begins as $cur does.
+_landaudit_policy_offer() {
+    mapfile -t -O ${#COMPREPLY[@]} COMPREPLY < <(compgen "$@" -- "$cur")
+}
+
+_landaudit_policy_offer_files() {
+    compopt -o filenames 2> /dev/null
+    _landaudit_policy_offer "$@"
 }
 
 _landaudit_policy() {
@@ -34,7 +38,7 @@ _landaudit_policy() {
     COMPREPLY=()
     ((COMP_CWORD > 1)) && sub=${COMP_WORDS[1]}
     for ((i = 2; i < COMP_CWORD; i++)); do
-        if [[ $sub == confine && ${COMP_WORDS[i]} == -- ]]; then
+        if [[ " confine " == *" $sub "* && ${COMP_WORDS[i]} == -- ]]; then
             _landaudit_policy_command "$i"
             return
         fi
@@ -45,21 +49,21 @@ _landaudit_policy() {
     elif [[ $prev == = ]]; then
         prev=${COMP_WORDS[COMP_CWORD - 2]}
     fi
-    case $prev in
-        --abi) mapfile -t COMPREPLY < <(compgen -W "$(_landaudit_policy_abis "$sub")" -- "$cur") ;;
-        --landaudit | --process | --set | --setpriv | --landrun) ;;
-        --landlockconfig | --firejail)
-            compopt -o filenames 2> /dev/null
-            mapfile -t COMPREPLY < <(compgen -f -- "$cur")
-            ;;
-        --program) mapfile -t COMPREPLY < <(compgen -c -- "$cur") ;;
+    case "$sub $prev" in
+        'confine --set' | 'check --set' | 'lint --set' | 'diff --set' | 'export --set' | 'import --setpriv' | 'import --landrun' | 'import --process' | 'import --set') compopt +o bashdefault +o default 2> /dev/null ;;
+        'confine --abi') _landaudit_policy_offer -W '1 2 3 4 5' ;;
+        'check --landaudit' | 'diff --landaudit' | 'import --landlockconfig' | 'import --firejail') _landaudit_policy_offer_files -f ;;
+        'diff --abi') _landaudit_policy_offer -W '1 2 3 4 5 1-2 1-3 1-4 1-5 2-3 2-4 2-5 3-4 3-5 4-5' ;;
+        'import --program') _landaudit_policy_offer -c ;;
         *)
             if [[ -z $sub || $cur == -* ]]; then
-                mapfile -t COMPREPLY < <(compgen -W "$(_landaudit_policy_words "$sub")" -- "$cur")
-            else
-                compopt -o filenames 2> /dev/null
-                mapfile -t COMPREPLY < <(compgen -f -X '!*.toml' -- "$cur"; compgen -d -- "$cur")
+                _landaudit_policy_offer -W "$(_landaudit_policy_words "$sub")"
+                return
             fi
+            case $sub in
+                confine | check | lint | diff | export) _landaudit_policy_offer_files -d; _landaudit_policy_offer_files -f -X '!*.toml' ;;
+                import) _landaudit_policy_offer_files -d ;;
+            esac
             ;;
     esac
 }

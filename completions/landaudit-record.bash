@@ -1,4 +1,4 @@
-# Completion of landaudit-record for bash.
+# Completion of landaudit-record for bash, made by packaging/completions.
 
 # The options of a subcommand, or what can come instead of one.
 _landaudit_record_words() {
@@ -8,17 +8,11 @@ _landaudit_record_words() {
         apply) echo '-h --help --out --tree --set --program --abi' ;;
         audit) echo '-h --help --policy --accepted --set --program --abi --as-recorded --all --json --html --landaudit' ;;
         compare) echo '-h --help --abi --json --differences --landaudit' ;;
-        tighten) echo '-h --help --policy --of-program --process --list --set --program --abi --as-recorded --landaudit' ;;
         suggest) echo '-h --help --policy --of-program --process --rules --style --set --program --abi --as-recorded --landaudit' ;;
+        tighten) echo '-h --help --policy --of-program --process --list --set --program --abi --as-recorded --landaudit' ;;
         denials) echo '-h --help --policy --set --program --all --suggest --json --html' ;;
         *) echo 'run convert apply audit compare suggest tighten denials -h --help -V --version' ;;
     esac
-}
-
-# The versions that a subcommand can be asked about: audit takes ranges of them too.
-_landaudit_record_abis() {
-    echo '1 2 3 4 5'
-    [[ $1 != audit ]] || echo '1-2 1-3 1-4 1-5 2-3 2-4 2-5 3-4 3-5 4-5'
 }
 
 # The command behind the dashes, which are at an index of the line.
@@ -26,8 +20,18 @@ _landaudit_record_command() {
     if declare -F _command_offset > /dev/null; then
         _command_offset $(($1 + 1))
     elif ((COMP_CWORD == $1 + 1)); then
-        mapfile -t COMPREPLY < <(compgen -c -- "$cur")
+        _landaudit_record_offer -c
     fi
+}
+
+# What compgen makes that begins as $cur does.
+_landaudit_record_offer() {
+    mapfile -t -O ${#COMPREPLY[@]} COMPREPLY < <(compgen "$@" -- "$cur")
+}
+
+_landaudit_record_offer_files() {
+    compopt -o filenames 2> /dev/null
+    _landaudit_record_offer "$@"
 }
 
 _landaudit_record() {
@@ -36,7 +40,7 @@ _landaudit_record() {
     COMPREPLY=()
     ((COMP_CWORD > 1)) && sub=${COMP_WORDS[1]}
     for ((i = 2; i < COMP_CWORD; i++)); do
-        if [[ $sub == run && ${COMP_WORDS[i]} == -- ]]; then
+        if [[ " run " == *" $sub "* && ${COMP_WORDS[i]} == -- ]]; then
             _landaudit_record_command "$i"
             return
         fi
@@ -47,23 +51,26 @@ _landaudit_record() {
     elif [[ $prev == = ]]; then
         prev=${COMP_WORDS[COMP_CWORD - 2]}
     fi
-    case $prev in
-        --abi) mapfile -t COMPREPLY < <(compgen -W "$(_landaudit_record_abis "$sub")" -- "$cur") ;;
-        --style) mapfile -t COMPREPLY < <(compgen -W 'exact base' -- "$cur") ;;
-        --program) mapfile -t COMPREPLY < <(compgen -c -- "$cur") ;;
-        --policy | --port-rules | --accepted)
-            compopt -o filenames 2> /dev/null
-            mapfile -t COMPREPLY < <(compgen -f -X '!*.toml' -- "$cur"; compgen -d -- "$cur")
-            ;;
-        --watch)
-            compopt -o filenames 2> /dev/null
-            mapfile -t COMPREPLY < <(compgen -d -- "$cur")
-            ;;
-        --out | --tree | --differences | --html | --landaudit | --rules | --set | --process) ;;
+    case "$sub $prev" in
+        'run --watch' | 'run --cgroup') _landaudit_record_offer_files -d ;;
+        'run --policy' | 'run --port-rules' | 'convert --port-rules' | 'audit --policy' | 'audit --accepted' | 'suggest --policy' | 'tighten --policy' | 'denials --policy') _landaudit_record_offer_files -d; _landaudit_record_offer_files -f -X '!*.toml' ;;
+        'run --abi' | 'apply --abi' | 'compare --abi' | 'suggest --abi' | 'tighten --abi') _landaudit_record_offer -W '1 2 3 4 5' ;;
+        'run --set' | 'run --for' | 'convert --set' | 'apply --set' | 'audit --set' | 'suggest --process' | 'suggest --rules' | 'suggest --set' | 'tighten --process' | 'tighten --set' | 'denials --set') compopt +o bashdefault +o default 2> /dev/null ;;
+        'run --by') _landaudit_record_offer -W 'strace witness' ;;
+        'run --pid') _landaudit_record_offer -W "$(cd /proc && echo [0-9]*)" ;;
+        'apply --out' | 'apply --tree' | 'audit --html' | 'audit --landaudit' | 'compare --differences' | 'compare --landaudit' | 'suggest --landaudit' | 'tighten --landaudit' | 'denials --html') _landaudit_record_offer_files -f ;;
+        'apply --program' | 'audit --program' | 'suggest --program' | 'tighten --program' | 'denials --program') _landaudit_record_offer -c ;;
+        'audit --abi') _landaudit_record_offer -W '1 2 3 4 5 1-2 1-3 1-4 1-5 2-3 2-4 2-5 3-4 3-5 4-5' ;;
+        'suggest --style') _landaudit_record_offer -W 'exact base' ;;
         *)
             if [[ -z $sub || $cur == -* ]]; then
-                mapfile -t COMPREPLY < <(compgen -W "$(_landaudit_record_words "$sub")" -- "$cur")
+                _landaudit_record_offer -W "$(_landaudit_record_words "$sub")"
+                return
             fi
+            case $sub in
+                run | convert | audit | compare | suggest | tighten) _landaudit_record_offer_files -d ;;
+                apply | denials) _landaudit_record_offer_files -f ;;
+            esac
             ;;
     esac
 }

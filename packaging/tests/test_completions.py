@@ -9,6 +9,7 @@ import select
 import shlex
 import shutil
 import subprocess
+import tempfile
 import unittest
 from pathlib import Path
 
@@ -16,7 +17,7 @@ from landaudit_record import cli
 from landaudit_record.rights import NEWEST_ABI, OLDEST_ABI
 
 from . import options
-from .places import COMPLETIONS
+from .places import COMPLETIONS, script
 
 #: The versions of Landlock's interface, and the ranges of them.
 ABIS = {str(abi) for abi in range(OLDEST_ABI, NEWEST_ABI + 1)}
@@ -100,12 +101,34 @@ class Zsh:
         return found
 
 
+class Generated(unittest.TestCase):
+    def test_the_files_of_programs_with_subcommands(self) -> None:
+        for name, text in script("completions").made().items():
+            with self.subTest(name):
+                made = (COMPLETIONS / name).read_text(encoding="utf-8")
+                self.assertEqual(made, text, "call packaging/completions completions")
+
+
 class Asked:
     """What each shell must offer."""
 
-    def assert_offers(self, line: str, wanted: set[str]) -> None:
-        """Sees what a shell offers for the last word of a line."""
+    #: What a folder has, and what of it can be a policy.
+    files = {"directory", "a.toml", "b.log"}
+    policies = {"directory", "a.toml"}
+
+    def offered(self, line: str) -> set[str]:
+        """What the shell offers for the last word of a line."""
         raise NotImplementedError
+
+    def assert_offers(self, line: str, wanted: set[str]) -> None:
+        """Sees what the shell offers."""
+        with self.subTest(line):
+            self.assertEqual(self.offered(line), wanted)
+
+    def assert_names(self, line: str, wanted: set[str]) -> None:
+        """Sees what names of files the shell offers; some give them with their directory."""
+        with self.subTest(line):
+            self.assertEqual({Path(name).name for name in self.offered(line)}, wanted)
 
     def test_the_options_of_landaudit(self) -> None:
         self.assert_offers("landaudit -", options.of_landaudit() | {"-"})
@@ -115,17 +138,17 @@ class Asked:
         self.assert_offers("landaudit --abi ", ABIS | RANGES)
 
     def test_the_subcommands(self) -> None:
-        for script in options.SCRIPTS:
-            self.assert_offers(f"{script.name} ", set(options.subcommands(script)))
+        for program in options.SCRIPTS:
+            self.assert_offers(f"{program.name} ", set(options.subcommands(program)))
 
     def test_the_options_before_a_subcommand(self) -> None:
-        for script in options.SCRIPTS:
-            self.assert_offers(f"{script.name} -", options.before_a_subcommand(script))
+        for program in options.SCRIPTS:
+            self.assert_offers(f"{program.name} -", options.before_a_subcommand(program))
 
     def test_the_options_of_each_subcommand(self) -> None:
-        for script in options.SCRIPTS:
-            for name, having in options.subcommands(script).items():
-                self.assert_offers(f"{script.name} {name} -", having)
+        for program in options.SCRIPTS:
+            for name, having in options.subcommands(program).items():
+                self.assert_offers(f"{program.name} {name} -", having)
 
     def test_a_folder_named_as_a_subcommand(self) -> None:
         self.assert_offers("landaudit-record convert run -", options.subcommands(cli.RECORD)["convert"])
@@ -138,6 +161,22 @@ class Asked:
     def test_the_styles_of_suggestions(self) -> None:
         self.assert_offers("landaudit-record suggest rec --style ", {"exact", "base"})
 
+    def test_the_recorders(self) -> None:
+        self.assert_offers("landaudit-record run rec --by ", {"strace", "witness"})
+
+    def test_names_of_files(self) -> None:
+        folder = Path(self.enterContext(tempfile.TemporaryDirectory()))
+        (folder / "directory").mkdir()
+        for name in ("a.toml", "b.log"):
+            (folder / name).touch()
+        for words, wanted in (
+            ("run rec --watch", {"directory"}), ("audit", {"directory"}), ("apply p.toml t --out", self.files),
+            ("audit rec --policy", self.policies), ("denials", self.files),
+        ):
+            self.assert_names(f"landaudit-record {words} {folder}/", wanted)
+        for words in ("confine", "check p.toml"):
+            self.assert_names(f"landaudit-policy {words} {folder}/", self.policies)
+
     def test_the_ranges_of_abis_that_an_audit_and_a_comparison_take(self) -> None:
         for words in ("record audit rec", "policy diff old.toml new.toml"):
             self.assert_offers(f"landaudit-{words} --abi ", ABIS | RANGES)
@@ -145,11 +184,9 @@ class Asked:
 
 @unittest.skipUnless(shutil.which("bash"), "bash is not installed")
 class OfBash(Asked, unittest.TestCase):
-    def assert_offers(self, line: str, wanted: set[str]) -> None:
+    def offered(self, line: str) -> set[str]:
         """Bash offers the options beside the subcommands too, and the dashes before a command."""
-        with self.subTest(line):
-            offered = {word for word in bash(line) if not word.startswith("-") or line.endswith("-")} - {"--"}
-            self.assertEqual(offered, wanted)
+        return {word for word in bash(line) if not word.startswith("-") or line.endswith("-")} - {"--"}
 
     def test_an_option_with_a_sign(self) -> None:
         self.assertEqual(bash("landaudit --abi = 4"), {"4", "4-5"})
@@ -162,9 +199,11 @@ class OfBash(Asked, unittest.TestCase):
 
 @unittest.skipUnless(shutil.which("fish"), "fish is not installed")
 class OfFish(Asked, unittest.TestCase):
-    def assert_offers(self, line: str, wanted: set[str]) -> None:
-        with self.subTest(line):
-            self.assertEqual(fish(line), wanted)
+    #: fish offers all files for a policy.
+    policies = Asked.files
+
+    def offered(self, line: str) -> set[str]:
+        return fish(line)
 
     def test_a_command_behind_the_dashes(self) -> None:
         for words in ("record run rec", "policy confine p.toml"):
@@ -181,14 +220,20 @@ class OfZsh(Asked, unittest.TestCase):
         cls.zsh = Zsh(COMPLETIONS)
         cls.addClassCleanup(cls.zsh.close)
 
-    def assert_offers(self, line: str, wanted: set[str]) -> None:
-        with self.subTest(line):
-            self.assertEqual(self.zsh(line), wanted)
+    def offered(self, line: str) -> set[str]:
+        return self.zsh(line)
 
     def test_a_command_behind_the_dashes(self) -> None:
         for words in ("record run rec", "policy confine p.toml"):
             self.assertIn("bash", self.zsh(f"landaudit-{words} -- bas"))
             self.assertNotIn("--abi", self.zsh(f"landaudit-{words} -- bash --a"))
+
+    def test_options_that_do_not_go_together(self) -> None:
+        for line, other in (("denials --json -", "--suggest"), ("suggest --of-program rec -", "--policy")):
+            with self.subTest(line):
+                offered = self.zsh(f"landaudit-record {line}")
+                self.assertTrue(offered)
+                self.assertNotIn(other, offered)
 
 
 if __name__ == "__main__":
