@@ -20,6 +20,7 @@ from typing import Any, BinaryIO
 from . import jsonl, resolving
 from .fitting import FittedLayer
 from .jsonl import Record
+from .operations import OPERATIONS
 from .policies import Policy
 from .problems import Problem
 from .processes import program_run
@@ -35,9 +36,7 @@ MOST_LINES_OF_A_CALL = 1_000
 _KNOWN = len(b'{"op":"nnp"')
 _TELL_NOTHING = frozenset(
     f'{{"op":"{op}"'[:_KNOWN].encode()
-    for op in ("fork", "nnp", "add_path", "close_rs", "restrict", "open", "adopt", "dup", "close", "ftruncate",
-               "truncate", "mknod", "mkdir", "symlink", "unlink", "rmdir", "rename", "link", "mount", "bind", "connect",
-               "ioctl")
+    for op in OPERATIONS.keys() - {"start", "exec", "exit", "create"}
 )
 _AGAIN = b'"again":true'
 _BLANKS = b" \t\r\n"

@@ -15,6 +15,7 @@ from typing import Any
 from . import applying, fitting, jsonl, landaudit, reports
 from .answers import Answer
 from .jsonl import Record
+from .operations import OPERATIONS
 from .policies import Policy
 from .problems import Problem
 from .trees import ROOT, Tree
@@ -24,7 +25,6 @@ RULESET = 1
 """The number of each ruleset: it is closed before the next one is made."""
 
 FIRST_DESCRIPTOR = 3
-_ON_DESCRIPTORS = ("open", "ftruncate", "ioctl", "close")
 
 
 def opening(path: str, mode: str, **flags: bool) -> Record:
@@ -92,7 +92,7 @@ def _trace(confined: Sequence[Sequence[Record]], questions: Sequence[Sequence[Qu
         yield from ({**record, "pid": pid} for record in own)
         for fd, question in enumerate(asked, start=FIRST_DESCRIPTOR):
             for record in question:
-                numbered: dict[str, Any] = {"fd": fd} if record["op"] in _ON_DESCRIPTORS else {}
+                numbered: dict[str, Any] = {"fd": fd} if "fd" in OPERATIONS[record["op"]].numbers else {}
                 yield {**record, "pid": pid, **numbered}
 
 

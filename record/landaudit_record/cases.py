@@ -23,6 +23,7 @@ from typing import Any
 from . import options, resolving, variables
 from .asking import Question, opening
 from .documents import Place, check_keys, tables, unknown
+from .operations import DESCRIPTOR_CALLS, EXCHANGE, JUDGED, MAKING, OPERATIONS, REMOVING
 from .policies import HIGHEST_PORT, LONGEST_PATH
 from .recorder import disk
 from .recorder.disk import MOST_INTERPRETERS
@@ -35,24 +36,15 @@ ALL_ABIS = range(OLDEST_ABI, NEWEST_ABI + 1)
 KINDS = ("reg", "dir", "sym", "char", "block", "fifo", "sock")
 MODES = ("r", "w", "rw")
 MADE = ("reg", "char", "block", "fifo", "sock")
-#: The calls on a path that exists; those of the first set follow a link at its end.
-FOLLOWING = ("truncate", "exec")
-ON_LINKS = ("unlink", "rmdir")
-MAKING = ("mkdir", "symlink")
-MOVES = ("rename", "exchange", "link")
-PORTS = ("bind", "connect")
-CALLS = (
-    *(f"open {mode}{flags}" for mode in MODES for flags in ("", " create", " trunc", " create trunc")),
-    *FOLLOWING,
-    "ftruncate",
-    *(f"ioctl {mode}" for mode in MODES),
-    *ON_LINKS,
-    *MAKING,
-    *(f"mknod {kind}" for kind in MADE),
-    *MOVES,
-    *PORTS,
-    "mount",
-)
+#: What a case says of some calls besides the operation.
+WORDS = {
+    "open": [f" {mode}{flags}" for mode in MODES for flags in ("", " create", " trunc", " create trunc")],
+    "ioctl": [f" {mode}" for mode in MODES],
+    "mknod": [f" {kind}" for kind in MADE],
+}
+CALLS = tuple(word + rest for of in OPERATIONS.values() if of.name in JUDGED
+              for word in ((of.name, EXCHANGE) if EXCHANGE in of.optional else (of.name,))
+              for rest in WORDS.get(word, [""]))
 KEYS = ("call", "path", "kind", "from", "to", "to_kind", "port", "abi")
 NEW_NAME = "~new~"
 #: The place of a call that has none.
@@ -138,13 +130,8 @@ class _Reader:
     def _members(self, call: str) -> tuple[str, ...]:
         """The members that a call has besides its name; others are a fault."""
         op = call.split()[0]
-        needed: tuple[str, ...] = ("path",)
-        if op in MOVES:
-            needed = ("from", "to")
-        elif op in PORTS:
-            needed = ("port",)
-        elif op == "mount":
-            needed = ()
+        operation = OPERATIONS["rename" if op == EXCHANGE else op]
+        needed = ("path",) if op in DESCRIPTOR_CALLS else operation.paths + operation.ports
         kinds = {"path": ("kind",), "from": ("kind", "to_kind")}.get(needed[0] if needed else "", ())
         check_keys(self.table, ("call", *needed, *kinds, "abi"), self.place)
         for key in needed:
@@ -177,16 +164,14 @@ class _Reader:
         return port
 
     def _on_path(self, op: str, words: list[str]) -> Question:
-        if op in MAKING:
-            return ({"op": op, "path": self._new("path")},)
-        if op == "mknod":
-            return ({"op": op, "path": self._new("path"), "kind": words[0]},)
         if op == "open":
             mode, *flags = words
             makes = "create" in flags
             path = self._there("path", "kind", follows=True, or_new=makes)
             return (opening(path, mode, **{flag: True for flag in flags}),)
-        path = self._there("path", "kind", follows=op not in ON_LINKS)
+        if op in MAKING:
+            return ({"op": op, "path": self._new("path"), **dict(zip(OPERATIONS[op].values, words))},)
+        path = self._there("path", "kind", follows=op not in REMOVING)
         if op == "ftruncate":
             return opening(path, "w"), {"op": op}
         if op == "ioctl":
@@ -208,9 +193,9 @@ class _Reader:
 
     def _move(self, op: str) -> Question:
         moved = self._there("from", "kind", follows=False)
-        there = self._there("to", "to_kind", follows=False, or_new=op != "exchange")
-        if op == "exchange":
-            return ({"op": "rename", "from": moved, "to": there, "exchange": True},)
+        there = self._there("to", "to_kind", follows=False, or_new=op != EXCHANGE)
+        if op == EXCHANGE:
+            return ({"op": "rename", "from": moved, "to": there, EXCHANGE: True},)
         return ({"op": op, "from": moved, "to": there},)
 
     def _there(self, key: str, kind_key: str, *, follows: bool, or_new: bool = False) -> str:

@@ -14,14 +14,13 @@ from collections.abc import Callable, Iterable, Iterator
 from dataclasses import dataclass, field
 
 from .answers import MOOT
-from .kernel_calls import RULESET_CALLS, Call, newer_rights
 from .jsonl import Record
+from .kernel_calls import Call, newer_rights
+from .operations import MOVES, PATH_CALLS, PORT_CALLS, RULESET_CALLS
 from .processes import shown
 from .trees import ROOT, Tree, directory_of
 
 OK = "ok"
-MOVES = frozenset({"rename", "link"})
-PATH_CALLS = frozenset({"open", "truncate", "exec", "mknod", "mkdir", "symlink", "unlink", "rmdir"}) | MOVES
 LEFT_OUT_ERRORS = frozenset({"EFAULT", "EOPNOTSUPP", "EBADFD", "EAFNOSUPPORT"})
 
 Stat = Callable[[str], os.stat_result | None]
@@ -59,12 +58,9 @@ class Difference:
 
 def errors_of_landlock(op: str) -> frozenset[str]:
     """The errors by which Landlock refuses a call."""
-    match op:
-        case "rename" | "link":
-            return frozenset({"EACCES", "EXDEV"})
-        case "mount":
-            return frozenset({"EPERM"})
-    return frozenset({"EACCES"})
+    if op == "mount":
+        return frozenset({"EPERM"})
+    return frozenset({"EACCES", "EXDEV"} if op in MOVES else {"EACCES"})
 
 
 def agree(call: Call) -> bool:
@@ -180,7 +176,7 @@ class Classes:
 
 
 def _left_out(call: Call) -> bool:
-    return call.kernel in LEFT_OUT_ERRORS and (call.op in RULESET_CALLS or call.op in ("bind", "connect"))
+    return call.kernel in LEFT_OUT_ERRORS and call.op in RULESET_CALLS | PORT_CALLS
 
 
 def _ports_and_moves(call: Call) -> bool:

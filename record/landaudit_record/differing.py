@@ -25,6 +25,7 @@ from .differing_layers import Abis, OfLayers
 from .fitting import FittedLayer
 from .jsonl import Record
 from .jsonl import value as json_of
+from .operations import OPERATIONS
 from .policies import Policy
 from .problems import Problem
 from .regions import ALL_ABIS, RULED_KINDS, Region, Regions, as_named
@@ -218,8 +219,8 @@ def _rights(regions: Regions) -> Iterator[_Question]:
         yield from _on_files(as_file, regions.as_file(path, "reg"), regions.as_file(path, "char"), fds)
     for port in dict.fromkeys((*regions.tried_ports, regions.other_port)):
         named = port if port in regions.tried_ports else None
-        for op in ("bind", "connect"):
-            yield _Question(About(f"{op}_tcp", port=named), (_record(op, port=port),))
+        for right, op in ((right, op) for op in ("bind", "connect") for right in OPERATIONS[op].asks or ()):
+            yield _Question(About(right, port=named), (_record(op, port=port),))
 
 
 def _on_files(region: Region, file: str, device: str, fds: Iterator[int]) -> Iterator[_Question]:

@@ -19,35 +19,9 @@ from typing import Any, NamedTuple
 
 from . import jsonl, reports
 from .jsonl import Record
+from .operations import DESCRIPTOR_CALLS, JUDGED, OPERATIONS
 from .problems import Problem
 from .processes import of_policy
-
-#: The calls that Landlock judges by themselves, with the members that decide.
-_JUDGED: Mapping[str, tuple[str, ...]] = {
-    "open": ("path", "mode", "create", "trunc"),
-    "truncate": ("path",),
-    "exec": ("path",),
-    "mknod": ("path", "kind"),
-    "mkdir": ("path",),
-    "symlink": ("path",),
-    "unlink": ("path",),
-    "rmdir": ("path",),
-    "rename": ("from", "to", "exchange"),
-    "link": ("from", "to"),
-    "mount": (),
-    "bind": ("port",),
-    "connect": ("port",),
-}
-#: Calls on a descriptor, which Landlock judges by the layers at the time when the descriptor was opened.
-_USES: Mapping[str, tuple[str, ...]] = {"ftruncate": (), "ioctl": ("driver",)}
-_ON_RULESETS: Mapping[str, tuple[str, ...]] = {
-    "create": ("fs", "net"),
-    "add_path": ("path", "fs"),
-    "add_port": ("port", "net"),
-    "restrict": (),
-    "close_rs": (),
-}
-_MEMBERS = {**_JUDGED, **_USES, **_ON_RULESETS}
 
 Call = tuple[Any, ...]
 """A call without its process and its number: its operation, and then the members that decide the answer."""
@@ -68,7 +42,7 @@ class Question(NamedTuple):
     def about(self) -> Iterator[str | int]:
         """The paths and ports that the calls name."""
         for op, *values in self.calls:
-            yield from (value for name, value in zip(_MEMBERS[op], values) if name in ("path", "from", "to", "port"))
+            yield from values[: len(OPERATIONS[op].paths + OPERATIONS[op].ports)]
 
 
 @dataclass(slots=True)
@@ -122,14 +96,14 @@ class Distilling:
             self._by_pid[pid] = _Process()
             return
         process = self._by_pid[pid]
-        if op in _JUDGED:
-            question = self._ask(process.domain, record, (call_of(record),))
-            if op == "open":
-                process.opened[record["fd"]] = question
-        elif op in _USES:
+        if op in DESCRIPTOR_CALLS:
             opened = process.opened.get(record["fd"])
             if opened is not None:
                 self._ask(opened.domain, record, (*opened.calls, call_of(record)))
+        elif op in JUDGED:
+            question = self._ask(process.domain, record, (call_of(record),))
+            if op == "open":
+                process.opened[record["fd"]] = question
         else:
             self._change(process, op, record)
 
@@ -181,12 +155,12 @@ def _refused(record: Record, origin: Mapping[str, Any]) -> Problem:
 def call_of(record: Record) -> Call:
     """A record with only the members that its answer depends on."""
     op = record["op"]
-    return (op, *[tuple(value) if type(value) is list else value for value in map(record.get, _MEMBERS[op])])
+    return (op, *[tuple(value) if type(value) is list else value for value in map(record.get, OPERATIONS[op].decides)])
 
 
 def text(call: Call, member: str, number: int) -> str:
     """A call as the end of a line, after its process, with the number of its descriptor or its ruleset."""
     op, *values = call
-    named = [(name, value) for name, value in zip(_MEMBERS[op], values) if value is not None]
+    named = [(name, value) for name, value in zip(OPERATIONS[op].decides, values) if value is not None]
     said = [("op", op), *named, (member, number)]
     return ",".join(f'"{name}":{jsonl.value(list(of) if isinstance(of, tuple) else of)}' for name, of in said)

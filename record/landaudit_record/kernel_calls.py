@@ -9,12 +9,10 @@ from typing import Any
 
 from .answers import MOOT, Answer
 from .jsonl import Record
+from .operations import RULESET_CALLS
 from .processes import Layer
 from .reading import Judged
 from .rights import FS, NET
-
-RULESET_CALLS = frozenset({"create", "add_path", "add_port", "restrict"})
-"""The calls by which a process makes rulesets and layers: they are judged outside a layer too."""
 
 
 @dataclass(frozen=True)

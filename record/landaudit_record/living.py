@@ -15,6 +15,7 @@ from dataclasses import dataclass, field
 from typing import Any
 
 from .jsonl import Record
+from .operations import OPERATIONS
 
 Members = Mapping[str, Any]
 #: The first number of the processes, descriptors and rulesets that only carriers have: Linux has none so high.
@@ -89,9 +90,7 @@ class Opened:
     @property
     def record(self) -> Record:
         """The record without process and number."""
-        if self.certain:
-            return _of("adopt", self.members, "kind")
-        return _of("open", self.members, "path", "mode", "create", "trunc", *_SHOWN)
+        return _of("adopt" if self.certain else "open", self.members)
 
     def like(self, other: Opened) -> bool:
         """Whether both get the same answer."""
@@ -140,7 +139,7 @@ class Living:
         """Follows the beginning or the end of a process, or a program that it runs."""
         living = self._by_pid.get(pid)
         if op == "start":
-            given = {name: True for name in ("nnp", "admin") if members.get(name)}
+            given = {name: True for name in OPERATIONS["start"].optional if members.get(name)}
             self._by_pid[pid] = _Living(Step(Started(given), None), True, "nnp" in given)
         elif living is None:
             return
@@ -168,8 +167,9 @@ class Living:
         return _Again(self._by_pid).records()
 
 
-def _of(op: str, members: Members, *names: str) -> Record:
-    """A record without its process, with those of the given members that are set."""
+def _of(op: str, members: Members) -> Record:
+    """A record without its process and numbers, with those of its members that are set."""
+    names = OPERATIONS[op].decides + _SHOWN
     return {"op": op, **{name: members[name] for name in names if members.get(name) not in (None, False)}}
 
 
@@ -220,7 +220,7 @@ def _confine(living: _Living, op: str, members: Members) -> None:
     ruleset = living.rulesets.get(rs)
     if op == "create":
         if ruleset is None:
-            living.rulesets[rs] = made = Ruleset(rs, _of("create", members, "fs", "net"))
+            living.rulesets[rs] = made = Ruleset(rs, _of("create", members))
             living.take(Made(made))
     elif ruleset is None:
         return
@@ -229,7 +229,7 @@ def _confine(living: _Living, op: str, members: Members) -> None:
     elif op == "restrict":
         living.take(Confined(ruleset, len(ruleset.rules)))
     else:
-        ruleset.rules.append(_of(op, members, "path", "port", "fs", "net", *_SHOWN))
+        ruleset.rules.append(_of(op, members))
 
 
 def _openings(living: _Living) -> dict[Opened, int | None]:

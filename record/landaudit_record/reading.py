@@ -21,6 +21,7 @@ from . import jsonl, reports
 from .answers import MOOT, REFUSED, Answer, Answered, Refusing
 from .following import NOWHERE, Followed
 from .jsonl import Record
+from .operations import OPERATIONS, PATH_CALLS, PORT_CALLS
 from .problems import Problem
 from .processes import Process, Processes, shown
 from .recorder.progress import Progress
@@ -29,21 +30,14 @@ Judged = tuple[Record, Answer, Process]
 #: What a call is about by name: its path or both paths, as a person knows them, or its port.
 Place = tuple[str, ...] | int
 
-#: Calls on paths, and the kernel's answers to those about which it asked Landlock.
-PATH_CALLS = frozenset(
-    {"open", "truncate", "exec", "mknod", "mkdir", "symlink", "unlink", "rmdir", "rename", "link"},
-)
+#: The kernel's answers to the calls on paths about which it asked Landlock.
 ASKED_LANDLOCK = (None, "ok", "EACCES", "EPERM", "EXDEV")
 #: Calls that a process makes on its way to a layer.
 ASKS_FOR_LAYERS = frozenset({"create", "restrict"})
 
-#: Calls on TCP ports.
-PORT_CALLS = frozenset({"bind", "connect"})
-
 _STATES = ASKS_FOR_LAYERS | {"start", "fork", "exit", "exec"}
 _RULES = frozenset({"add_path", "add_port"})
 _OPENS = frozenset({"open", "adopt", "dup"})
-_OTHERS = PORT_CALLS | {"nnp", "close_rs", "close", "ftruncate", "mount", "ioctl"}
 #: Progress is shown each time that this many records were read.
 EVERY = 10_000
 #: The number of kinds of records that are counted before they are yielded.
@@ -64,7 +58,7 @@ _OTHERWISE = 64
 _UNKNOWN, _INSTEAD = b'"unknown":', b'"otherwise":'
 #: How records begin as landaudit-record writes them: enough of a line to know what to do with it.
 _KNOWN = len('{"op":"nnp"')
-_BEGINS = {f'{{"op":"{op}"'[:_KNOWN].encode(): _to_do(op) for op in _STATES | _RULES | _OPENS | _OTHERS | PATH_CALLS}
+_BEGINS = {f'{{"op":"{op}"'[:_KNOWN].encode(): _to_do(op) for op in OPERATIONS}
 _KERNEL = b'"kernel":"'
 _LET_THROUGH = b'"kernel":"ok"}\n'
 _ASKED = tuple(f'{answer}"'.encode() for answer in ASKED_LANDLOCK if answer)
@@ -373,18 +367,13 @@ def _asked(line: bytes) -> bool:
 
 def call_text(record: Record) -> str:
     """A call in one or several words, such as `open rw create`."""
-    op = record["op"]
-    if op == "rename" and record.get("exchange"):
-        return "exchange"
-    words = [op, record.get("mode"), record["kind"] if op == "mknod" else None]
-    words += [flag for flag in ("create", "trunc") if op == "open" and record.get(flag)]
-    return " ".join(word for word in words if word)
+    return OPERATIONS[record["op"]].text(record)
 
 
 def place_of(record: Record) -> Place | None:
     """The paths or port that Landlock was asked about; None for other calls, and if Landlock was not asked."""
     if record["op"] in PATH_CALLS and record.get("kernel") in ASKED_LANDLOCK:
-        return tuple(str(shown(record, member)) for member in ("path", "from", "to") if member in record)
+        return tuple(str(shown(record, member)) for member in OPERATIONS[record["op"]].paths)
     return int(record["port"]) if record["op"] in PORT_CALLS else None
 
 

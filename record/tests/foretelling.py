@@ -21,7 +21,7 @@ from typing import Any, NamedTuple
 
 from landaudit_record import finished, jsonl
 from landaudit_record.comparing import OK
-from landaudit_record.kernel_calls import RULESET_CALLS
+from landaudit_record.operations import RULESET_CALLS
 from landaudit_record.problems import NOT_ALL_JUDGED
 from landaudit_record.reading import call_text
 

@@ -6,6 +6,7 @@ from collections.abc import Callable, Iterator, Mapping
 from dataclasses import dataclass, replace
 from typing import Any
 
+from ..operations import MAKING, REMOVING, USING
 from ..trees import ROOT, directory_of, upwards
 
 READ, WRITE, RUN = 4, 2, 1
@@ -86,10 +87,9 @@ def _wanted(op: str, members: Mapping[str, Any], runs: bool) -> Iterator[tuple[s
     """The objects that a call looks at, each with the access that its mode must allow."""
     path: str | None = members.get("shown") or members.get("path") or members.get("from")
     target: str | None = members.get("shown_to") or members.get("to")
-    match op:
-        case "open" | "exec" | "truncate" if path and not members.get("create"):
-            yield path, RUN if runs else _OF_MODE.get(members.get("mode", ""), WRITE)
-        case "open" | "mknod" | "mkdir" | "symlink" | "unlink" | "rmdir" | "rename" if path:
-            yield directory_of(path), WRITE | RUN
+    if path and op in USING and not members.get("create"):
+        yield path, RUN if runs else _OF_MODE.get(members.get("mode", ""), WRITE)
+    elif path and op in MAKING | REMOVING:
+        yield directory_of(path), WRITE | RUN
     if target:
         yield directory_of(target), WRITE | RUN

@@ -12,6 +12,7 @@ from collections.abc import Callable, Iterator
 from pathlib import Path
 
 from .. import jsonl
+from ..operations import DESCRIPTOR_CALLS, JUDGED, MAKING, MOVES, PATH_CALLS
 from . import witness
 from .calls.others import INTO_ANOTHER
 from .witness import Heard, text
@@ -167,26 +168,17 @@ class Asked:
 
 
 _TAKEN: dict[str, Callable[[Asked, jsonl.Record], None]] = {
+    **dict.fromkeys(JUDGED, Asked._without_object),
+    **dict.fromkeys(PATH_CALLS, Asked._on_object),
+    **dict.fromkeys(MAKING, Asked._make),
+    **dict.fromkeys(MOVES, Asked._move),
+    **dict.fromkeys(DESCRIPTOR_CALLS, Asked._on_descriptor),
     "open": Asked._open,
     "adopt": Asked._close,
     "close": Asked._close,
     "dup": Asked._dup,
     "fork": Asked._fork,
     "exit": Asked._exit,
-    "exec": Asked._on_object,
-    "truncate": Asked._on_object,
-    "unlink": Asked._on_object,
-    "rmdir": Asked._on_object,
-    "mkdir": Asked._make,
-    "mknod": Asked._make,
-    "symlink": Asked._make,
-    "rename": Asked._move,
-    "link": Asked._move,
-    "ftruncate": Asked._on_descriptor,
-    "ioctl": Asked._on_descriptor,
-    "mount": Asked._without_object,
-    "bind": Asked._without_object,
-    "connect": Asked._without_object,
     "create": Asked._create,
     "close_rs": Asked._close_ruleset,
     "restrict": Asked._restrict,
