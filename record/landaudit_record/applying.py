@@ -8,7 +8,6 @@ the process.
 from __future__ import annotations
 
 import difflib
-import json
 import shutil
 from collections import deque
 from collections.abc import Iterable, Iterator, Sequence
@@ -26,20 +25,15 @@ from .problems import Problem
 from .processes import program_run
 from .resolving import NOWHERE, LinkLoop, Parent, Walked
 from .rights import FS, NET
+from .trace_lines import AGAIN, HEAD, heads
 from .trees import Tree, upwards
 from .wording import some_of
 
 MOST_PROGRAMS_SHOWN = 8
 MOST_RECORDS = 1_000_000
 MOST_LINES_OF_A_CALL = 1_000
-#: The beginnings of lines, as landaudit-record writes them, that are not about programs, processes and rulesets.
-_KNOWN = len(b'{"op":"nnp"')
-_TELL_NOTHING = frozenset(
-    f'{{"op":"{op}"'[:_KNOWN].encode()
-    for op in OPERATIONS.keys() - {"start", "exec", "exit", "create"}
-)
-_AGAIN = b'"again":true'
-_BLANKS = b" \t\r\n"
+#: The beginnings of lines that are not about programs, processes and rulesets.
+_TELL_NOTHING = heads(OPERATIONS.keys() - {"start", "exec", "exit", "create"})
 
 
 @dataclass(frozen=True)
@@ -91,8 +85,8 @@ class _Planning:
         number, again = 0, True
         with open(self._trace, "rb") as lines:
             for number, line in enumerate(lines, start=1):
-                again = again and _AGAIN in line
-                if again or (line[:_KNOWN] not in _TELL_NOTHING and line.strip(_BLANKS)):
+                again = again and AGAIN in line
+                if again or (line[:HEAD] not in _TELL_NOTHING and line.strip(jsonl.BLANKS)):
                     self._take(number, line)
                 self._last.append((number, line))
         return Plan(self._before, self._rs + 1, number, self._behind, frozenset(self._programs))
@@ -127,7 +121,7 @@ class _Planning:
         The records that start a process come before its first call, even if they share its number.
         """
         for number, line in reversed(self._last) if call is not None else ():
-            if not line.strip(_BLANKS):
+            if not line.strip(jsonl.BLANKS):
                 continue
             record = jsonl.read(self._trace, number, line)
             if record.get("op") == "fork" and record.get("child") == pid:
@@ -293,13 +287,9 @@ def write(trace: Path, places: Plan, inserted: list[Record], out: BinaryIO) -> N
             out.writelines(islice(lines, number - 1 - at))
             pid = places.before.get(number)
             if pid is not None:
-                out.writelines(_line({**record, "pid": pid}) for record in inserted)
+                out.writelines(jsonl.line({**record, "pid": pid}).encode() for record in inserted)
             out.writelines(islice(lines, 1))
             for again in places.behind.get(number, ()):
-                out.writelines(_line({**record, "pid": again, "again": True}) for record in inserted)
+                out.writelines(jsonl.line({**record, "pid": again, "again": True}).encode() for record in inserted)
             at = number
         shutil.copyfileobj(lines, out)
-
-
-def _line(record: Record) -> bytes:
-    return json.dumps(record, ensure_ascii=False, separators=(",", ":")).encode() + b"\n"

@@ -8,7 +8,6 @@ from __future__ import annotations
 
 import tempfile
 from collections.abc import Iterator, Mapping, Sequence
-from dataclasses import dataclass
 from pathlib import Path
 from typing import Any
 
@@ -46,11 +45,11 @@ def ask(
     Each process first confines itself by its own records; if the kernel would refuse one of these, that is a Problem.
     """
     with tempfile.TemporaryDirectory(prefix="landaudit-") as folder:
-        files = _Files(Path(folder))
-        write_tree(files.tree, tree.kinds)
-        jsonl.write(files.trace, _trace(confined, questions))
-        landaudit.audit(program, abis, files.tree, files.trace, files.report, best_effort=True)
-        by_abi = {abi: _answers(files, abi) for abi in abis}
+        objects, trace, report = (Path(folder, f"{name}.jsonl") for name in ("tree", "trace", "report"))
+        write_tree(objects, tree.kinds)
+        jsonl.write(trace, _trace(confined, questions))
+        landaudit.audit(program, abis, objects, trace, report, best_effort=True)
+        by_abi = {abi: _answers(trace, report, abi) for abi in abis}
     found: list[dict[int, list[tuple[Answer, ...]]]] = [{} for _ in confined]
     for abi, answers in by_abi.items():
         for process, (own, asked) in enumerate(zip(confined, questions)):
@@ -59,25 +58,6 @@ def ask(
                 _see_rule(*next(answers))
             found[process][abi] = [tuple(next(answers)[1] for _ in question) for question in asked]
     return found
-
-
-@dataclass(frozen=True)
-class _Files:
-    """The files of one run."""
-
-    folder: Path
-
-    @property
-    def tree(self) -> Path:
-        return self.folder / "tree.jsonl"
-
-    @property
-    def trace(self) -> Path:
-        return self.folder / "trace.jsonl"
-
-    @property
-    def report(self) -> Path:
-        return self.folder / "report.jsonl"
 
 
 def write_tree(file: Path, kinds: Mapping[str, str]) -> None:
@@ -96,10 +76,10 @@ def _trace(confined: Sequence[Sequence[Record]], questions: Sequence[Sequence[Qu
                 yield {**record, "pid": pid, **numbered}
 
 
-def _answers(files: _Files, abi: int) -> Iterator[tuple[Record, Answer]]:
+def _answers(trace: Path, report: Path, abi: int) -> Iterator[tuple[Record, Answer]]:
     """Each record with its answer at an ABI."""
-    records = [record for _, record in jsonl.numbered(files.trace)]
-    answers = [row.answer for row in reports.rows(files.report, abi)]
+    records = [record for _, record in jsonl.numbered(trace)]
+    answers = [row.answer for row in reports.rows(report, abi)]
     if len(records) != len(answers):
         raise Problem("landaudit's report is cut: use landaudit and landaudit-policy of one version")
     return zip(records, answers)

@@ -9,7 +9,7 @@ from .answers import Answer
 from .comparing import Class, Difference, Tally
 from .kernel_calls import Call
 from .processes import shown
-from .reading import call_text
+from .operations import call_text
 
 NEWER_NOTE = "a program that asks for newer rights must be recorded at this ABI to be compared at it"
 

@@ -11,10 +11,10 @@ both renames do (`moves_made_of_others`).
 
 from __future__ import annotations
 
-import json
 import tempfile
 from collections.abc import Iterable, Iterator, Mapping, Sequence
 from dataclasses import dataclass, field, replace
+from itertools import chain
 from pathlib import Path
 
 from . import anywhere, applying, asking, fitting, landaudit, reports, ruling
@@ -24,12 +24,12 @@ from .asking import RULESET
 from .differing_layers import Abis, OfLayers
 from .fitting import FittedLayer
 from .jsonl import Record
-from .jsonl import value as json_of
 from .operations import OPERATIONS
 from .policies import Policy
 from .problems import Problem
 from .regions import ALL_ABIS, RULED_KINDS, Region, Regions, as_named
 from .rights import NEWEST_ABI
+from .trace_lines import body, line_of
 from .trees import Tree, upwards
 
 MOST_RECORDS = 900_000
@@ -137,7 +137,7 @@ def differences(program: Path, old: Policy, new: Policy, abis: range) -> Differe
     found = Differences(regions)
     making: dict[str, set[str]] = {}
     with tempfile.TemporaryDirectory(prefix="landaudit-") as folder:
-        asker = _Asker(program, Path(folder), abis, [_confined(policy, regions) for policy in (old, new)])
+        asker = _Asker(program, Path(folder, "tree.jsonl"), abis, [_confined(policy, regions) for policy in (old, new)])
         asking.write_tree(asker.tree, kinds)
         for question, passes in asker.asked(_rights(regions)):
             found.add(question.subject, *passes)
@@ -193,25 +193,20 @@ def _with_files(layer: FittedLayer, regions: Regions) -> FittedLayer:
 # ---- the questions
 
 
-def _record(op: str, **members: object) -> str:
-    """A record without a pid, as it is written after one."""
-    return "".join([f'"op":"{op}"', *(f',"{key}":{json_of(of)}' for key, of in members.items())])
-
-
 def _rights(regions: Regions) -> Iterator[_Question]:
     """Single rights in each region and on each port."""
     fds = iter(range(asking.FIRST_DESCRIPTOR, 1 << 62))
     for path in regions.paths:
         under = Region(path)
         yield from _on_files(under, regions.child(path, "reg"), regions.child(path, "char"), fds)
-        yield _Question(About("read_dir", under), (_record("open", path=path, mode="r", fd=next(fds)),))
+        yield _Question(About("read_dir", under), (body("open", path=path, mode="r", fd=next(fds)),))
         new = regions.child(path, "new")
-        yield _Question(About("make_dir", under), (_record("mkdir", path=new),))
-        yield _Question(About("make_sym", under), (_record("symlink", path=new),))
+        yield _Question(About("make_dir", under), (body("mkdir", path=new),))
+        yield _Question(About("make_sym", under), (body("symlink", path=new),))
         for kind in RULED_KINDS:
-            yield _Question(About(_MAKING[kind], under), (_record("mknod", path=new, kind=kind),))
-        yield _Question(About("remove_file", under), (_record("unlink", path=regions.child(path, "reg")),))
-        yield _Question(About("remove_dir", under), (_record("rmdir", path=regions.child(path, "dir")),))
+            yield _Question(About(_MAKING[kind], under), (body("mknod", path=new, kind=kind),))
+        yield _Question(About("remove_file", under), (body("unlink", path=regions.child(path, "reg")),))
+        yield _Question(About("remove_dir", under), (body("rmdir", path=regions.child(path, "dir")),))
     for path in regions.ruled:
         if not regions.may_be_file(path, ALL_ABIS):
             continue
@@ -220,18 +215,18 @@ def _rights(regions: Regions) -> Iterator[_Question]:
     for port in dict.fromkeys((*regions.tried_ports, regions.other_port)):
         named = port if port in regions.tried_ports else None
         for right, op in ((right, op) for op in ("bind", "connect") for right in OPERATIONS[op].asks or ()):
-            yield _Question(About(right, port=named), (_record(op, port=port),))
+            yield _Question(About(right, port=named), (body(op, port=port),))
 
 
 def _on_files(region: Region, file: str, device: str, fds: Iterator[int]) -> Iterator[_Question]:
     """The rights on files, each by itself; an ioctl needs an open device, in any mode."""
-    yield _Question(About("read_file", region), (_record("open", path=file, mode="r", fd=next(fds)),))
-    yield _Question(About("write_file", region), (_record("open", path=file, mode="w", fd=next(fds)),))
-    yield _Question(About("execute", region), (_record("exec", path=file),))
-    yield _Question(About("truncate", region), (_record("truncate", path=file),))
+    yield _Question(About("read_file", region), (body("open", path=file, mode="r", fd=next(fds)),))
+    yield _Question(About("write_file", region), (body("open", path=file, mode="w", fd=next(fds)),))
+    yield _Question(About("execute", region), (body("exec", path=file),))
+    yield _Question(About("truncate", region), (body("truncate", path=file),))
     for mode in ("r", "w", "rw"):
         fd = next(fds)
-        opened, asked = _record("open", path=device, mode=mode, fd=fd), _record("ioctl", fd=fd, driver=True)
+        opened, asked = body("open", path=device, mode=mode, fd=fd), body("ioctl", fd=fd, driver=True)
         yield _Question(About("ioctl_dev", region), (opened, asked))
 
 
@@ -241,12 +236,12 @@ def _moves(regions: Regions, making: dict[str, set[str]]) -> Iterator[_Question]
     If neither policy allows making an object of a kind in a directory, no move to it passes: it is not asked about.
     """
     for to in regions.paths:
-        new = json_of(regions.child(regions.child(to, "to"), "new"))
+        new = regions.child(regions.child(to, "to"), "new")
         makes = making.get(to, set())
         for kind in (kind for kind, right in _MAKING.items() if right in makes):
-            op = '"op":"rename"' if kind == "dir" else '"op":"link"'
+            op = "rename" if kind == "dir" else "link"
             for move, moved in _moved(regions, kind, to):
-                yield _Question(move, (f'{op},"from":{json_of(moved)},"to":{new}',))
+                yield _Question(move, (body(op, **{"from": moved, "to": new}),))
 
 
 def _moved(regions: Regions, kind: str, to: str) -> Iterator[tuple[Move, str]]:
@@ -272,14 +267,9 @@ class _Asker:
     """Asks two policies the same questions, at several ABIs."""
 
     program: Path
-    folder: Path
+    tree: Path
     abis: range
     confined: Sequence[list[Record]]
-
-    @property
-    def tree(self) -> Path:
-        """The tree that the questions are about."""
-        return self.folder / "tree.jsonl"
 
     def asked(self, questions: Iterable[_Question]) -> Iterator[tuple[_Question, tuple[_Passes, _Passes]]]:
         """Each question with the ABIs at which the first policy lets it pass, and those at which the other does."""
@@ -297,12 +287,14 @@ class _Asker:
 
     def _answered(self, questions: list[_Question]) -> Iterator[tuple[_Question, tuple[_Passes, _Passes]]]:
         """The answers to as many questions as one trace can have."""
-        trace, report = self.folder / "trace.jsonl", self.folder / "report.jsonl"
+        trace, report = self.tree.with_name("trace.jsonl"), self.tree.with_name("report.jsonl")
         parts = [questions[first::PROCESSES] for first in range(PROCESSES)]
         jobs = [(own, part) for own in self.confined for part in parts]
         with open(trace, "w", encoding="utf-8") as out:
             for pid, (own, part) in enumerate(jobs, start=1):
-                out.writelines(_lines(pid, own, part))
+                asked = (record for question in part for record in question.records)
+                records = chain([body("start")], (body(**record) for record in own), asked)
+                out.writelines(line_of(pid, record) for record in records)
         landaudit.audit(self.program, self.abis, self.tree, trace, report, best_effort=True, explain=False)
         with open(report, "rb") as lines:
             reader = _Reader(lines, self.abis)
@@ -311,16 +303,6 @@ class _Asker:
         for number, question in enumerate(questions):
             process, index = number % PROCESSES, number // PROCESSES
             yield question, (old[process][index], new[process][index])
-
-
-def _lines(pid: int, own: Iterable[Record], questions: Iterable[_Question]) -> Iterator[str]:
-    """The lines of one process."""
-    head = f'{{"pid":{pid},'
-    yield f'{head}"op":"start"}}\n'
-    for record in own:
-        yield json.dumps({"pid": pid, **record}, ensure_ascii=False, separators=(",", ":")) + "\n"
-    for question in questions:
-        yield from (f"{head}{asked}}}\n" for asked in question.records)
 
 
 class _Reader:

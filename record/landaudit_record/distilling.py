@@ -22,6 +22,7 @@ from .jsonl import Record
 from .operations import DESCRIPTOR_CALLS, JUDGED, OPERATIONS
 from .problems import Problem
 from .processes import of_policy
+from .trace_lines import body
 
 Call = tuple[Any, ...]
 """A call without its process and its number: its operation, and then the members that decide the answer."""
@@ -161,6 +162,5 @@ def call_of(record: Record) -> Call:
 def text(call: Call, member: str, number: int) -> str:
     """A call as the end of a line, after its process, with the number of its descriptor or its ruleset."""
     op, *values = call
-    named = [(name, value) for name, value in zip(OPERATIONS[op].decides, values) if value is not None]
-    said = [("op", op), *named, (member, number)]
-    return ",".join(f'"{name}":{jsonl.value(list(of) if isinstance(of, tuple) else of)}' for name, of in said)
+    named = {name: value for name, value in zip(OPERATIONS[op].decides, values) if value is not None}
+    return body(op, **named, **{member: number})

@@ -16,6 +16,7 @@ from typing import Any
 
 from . import jsonl
 from .problems import Problem
+from .trace_lines import heads, told
 from .wording import counted, some_of
 
 CONVERTED = "converted.json"
@@ -131,10 +132,6 @@ def numbered(folder: Path, parts: int) -> list[Part]:
     return [Part(folder)] if parts == 1 else [Part(folder, number) for number in range(1, parts + 1)]
 
 
-#: What the line of a record has by which a process restricts itself.
-_RESTRICT = b'"restrict"'
-
-
 @dataclass(frozen=True)
 class Finished:
     """The folder of a recording with all its parts.
@@ -172,14 +169,8 @@ class Finished:
 
     def has_layers(self) -> bool:
         """Whether a process of the recording restricts itself, also by a layer that the trace does not have."""
-        if FOREIGN_RULESET in self.holes:
-            return True
-        for part in self.parts:
-            with open(part.trace, "rb") as lines:
-                for number, line in enumerate(lines, start=1):
-                    if _RESTRICT in line and jsonl.read(part.trace, number, line).get("op") == "restrict":
-                        return True
-        return False
+        told_of = (record for part in self.parts for _, record in told(part.trace, heads({"restrict"})))
+        return FOREIGN_RULESET in self.holes or any(record.get("op") == "restrict" for record in told_of)
 
     def _of_scopes(self) -> Iterator[str]:
         """The calls that the policy's scopes may refuse: there are no records for them, they are only counted."""

@@ -6,23 +6,24 @@ language do is known by these calls alone (landlock(7)).
 
 from __future__ import annotations
 
-import re
 from collections import Counter
-from collections.abc import Container, Iterator, Mapping, Sequence
+from collections.abc import Container, Mapping, Sequence
 from dataclasses import dataclass, field, replace
 from pathlib import Path
 
 from . import jsonl
 from .finished import OF_SCOPES, Finished
 from .jsonl import Record
+from .operations import OPERATIONS
 from .policies import HIGHEST_PORT, LONGEST_PATH, SCOPES, Access, Layer, PathRule, Policy, PortRule
 from .processes import program_run, shown
 from .rights import FILE_RIGHTS, FS, NET, NONE, Family, Rights
+from .trace_lines import RAN, heads, told
 from .trees import Tree
 
 #: The records that say which processes there are, what they run, and what they do with rulesets. One that only repeats
 #: what there was may be of any kind and say what is run after it.
-_TELLS = re.compile(rb'"op":\s*"(?:start|fork|exit|exec|create|add_path|add_port|restrict|close_rs)"|"ran":')
+OF_PROCESSES = heads({"start", "fork", "exit", "exec", *(op for op, of in OPERATIONS.items() if "rs" in of.numbers)})
 #: How the calls of Landlock begin in the list of calls that could not be recorded, and how those that failed end.
 _OF_LANDLOCK = "landlock_"
 _FAILED = " = -1 "
@@ -270,18 +271,10 @@ def found(recording: Finished, tree: Tree) -> Found:
     scoping: set[int] = set()
     for part in recording.parts:
         following = Following(tree, own, failed)
-        for _, record in told(part.trace):
+        for _, record in told(part.trace, OF_PROCESSES, RAN):
             following.take(record)
         scoping |= following.scoping
     return Found(own, failed, _unseen(recording.folder / "unsaid.jsonl", scoping))
-
-
-def told(trace: Path) -> Iterator[tuple[int, Record]]:
-    """The records of a trace that are about processes, programs and rulesets, each with its line."""
-    with open(trace, "rb") as lines:
-        for number, line in enumerate(lines, start=1):
-            if _TELLS.search(line):
-                yield number, jsonl.read(trace, number, line)
 
 
 def _unseen(unsaid: Path, scoping: Container[int]) -> Counter[str]:

@@ -11,6 +11,8 @@ from typing import Any
 from .problems import Problem
 
 Record = dict[str, Any]
+#: What a line may have that is skipped.
+BLANKS = b" \t\r\n"
 
 _encode = json.JSONEncoder(ensure_ascii=False, separators=(",", ":")).encode
 _encode_escaped = json.JSONEncoder(separators=(",", ":")).encode
@@ -23,7 +25,7 @@ def numbered(path: Path) -> Iterator[tuple[int, Record]]:
     try:
         with open(path, "rb") as lines:
             for number, line in enumerate(lines, start=1):
-                if line.strip(b" \t\r\n"):
+                if line.strip(BLANKS):
                     yield number, read(path, number, line)
     except OSError as error:
         raise Problem(f"cannot read {path}: {error.strerror}") from error

@@ -5,18 +5,15 @@ Such an open asks to make and write the file if it does not exist, and to trunca
 
 from __future__ import annotations
 
-from collections.abc import Iterable, Iterator
+from collections.abc import Iterable
 from pathlib import Path
 
 from . import jsonl
 from .processes import shown
+from .trace_lines import CREATES, heads, told
 from .trees import ROOT, upwards
 
-#: The beginnings of records as landaudit-record writes them, and those of records that make, move or remove a name.
-_OP = b'{"op":"'
-_OPEN = b'{"op":"open"'
-_GOES = (b'{"op":"unlink"', b'{"op":"rename"')
-_CREATES = (b'"create":true', b'"cuts":true')
+_GOES = heads({"unlink", "rename"})
 
 
 def is_cut_again(record: jsonl.Record) -> bool:
@@ -28,7 +25,9 @@ def cut_files(traces: Iterable[Path]) -> set[str]:
     """The real paths of files that a run makes by an open that truncates, and that exist when it ends."""
     there: set[str] = set()
     for trace in traces:
-        for record in _telling(trace):
+        for _, record in told(trace, _GOES, *CREATES):
+            if record.get("kernel", "ok") != "ok" or "op" not in record or "again" in record:
+                continue
             path = shown(record, "from" if record["op"] == "rename" else "path") or ROOT
             match record["op"]:
                 case "open" if is_cut_again(record):
@@ -39,17 +38,3 @@ def cut_files(traces: Iterable[Path]) -> set[str]:
                     there -= {one for one in there if path in upwards(one)}
                     there.discard(shown(record, "to") or ROOT)
     return there
-
-
-def _telling(trace: Path) -> Iterator[jsonl.Record]:
-    """The records of calls that succeeded and may make, move or remove a name."""
-    with open(trace, "rb") as lines:
-        for number, line in enumerate(lines, start=1):
-            known = line.startswith(_OP)
-            if not line.strip() or known and not line.startswith((_OPEN, *_GOES)):
-                continue
-            if line.startswith(_OPEN) and not any(creates in line for creates in _CREATES):
-                continue
-            record = jsonl.read(trace, number, line)
-            if record.get("kernel", "ok") == "ok" and "op" in record and "again" not in record:
-                yield record

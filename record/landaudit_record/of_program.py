@@ -19,11 +19,12 @@ from .applying import MOST_RECORDS
 from .comments import Comments
 from .finished import Finished, Part
 from .following import IN_RUN
-from .importing import Following, Own
+from .importing import OF_PROCESSES, Following, Own
 from .jsonl import Record
 from .policies import Policy
 from .problems import NOT_ALL_JUDGED, USAGE, Problem
 from .together import Member
+from .trace_lines import RAN, told
 from .trees import Tree
 from .trying import Files, Tried
 
@@ -169,7 +170,7 @@ def _restrictions(trace: Path, tree: Tree, own: Own) -> Iterator[tuple[int, _Pla
     """The lines of a trace by which a program puts layers of its policy in force."""
     following = Following(tree, {}, Counter())
     numbers = [sum(ruleset.is_layer for ruleset in own.layers[: index + 1]) for index in range(len(own.layers))]
-    for line, record in importing.told(trace):
+    for line, record in told(trace, OF_PROCESSES, RAN):
         done = following.take(record)
         if done is None or done.own.program != own.program:
             continue

@@ -5,8 +5,8 @@ from __future__ import annotations
 from collections.abc import Callable, Mapping
 from dataclasses import dataclass
 from functools import cached_property
-from typing import Any
 
+from .jsonl import Record
 from .rights import FS
 
 #: How a `rename` with this member is called.
@@ -39,13 +39,6 @@ class Operation:
     def may_ask(self, *words: str) -> bool:
         """Whether it may ask for a right whose name begins so."""
         return any(right.startswith(words) for right in self.asks or ())
-
-    def text(self, record: Mapping[str, Any]) -> str:
-        """A record of it in one or several words, such as `open rw create`."""
-        if self.name not in PATH_CALLS:
-            return self.name
-        flags = [flag for flag in self.optional if record.get(flag)]
-        return EXCHANGE if EXCHANGE in flags else " ".join([self.name, *map(record.__getitem__, self.values), *flags])
 
 
 OPERATIONS: Mapping[str, Operation] = {operation.name: operation for operation in (
@@ -97,3 +90,12 @@ REMOVING = named(lambda of: of.may_ask("remove_"))
 USING = named(lambda of: of.may_ask("read_", "write_", "execute", "truncate"))
 #: Calls by which a process makes rulesets and layers: they are judged outside a layer too.
 RULESET_CALLS = named(lambda of: "rs" in of.numbers) - {"close_rs"}
+
+
+def call_text(record: Record) -> str:
+    """A call in one or several words, such as `open rw create`."""
+    of = OPERATIONS[record["op"]]
+    if of.name not in PATH_CALLS:
+        return of.name
+    flags = [flag for flag in of.optional if record.get(flag)]
+    return EXCHANGE if EXCHANGE in flags else " ".join([of.name, *map(record.__getitem__, of.values), *flags])

@@ -8,7 +8,6 @@ are read without decoding, if they are written as landaudit-record writes them.
 
 from __future__ import annotations
 
-import re
 from array import array
 from collections import Counter
 from collections.abc import Iterator
@@ -25,6 +24,8 @@ from .operations import OPERATIONS, PATH_CALLS, PORT_CALLS
 from .problems import Problem
 from .processes import Process, Processes, shown
 from .recorder.progress import Progress
+from .trace_lines import (AGAIN, CHANGES, COPIES, FD, HEAD, KERNEL, LET_THROUGH, OTHERWISE, OWN, OWN_OF_OPENING, POLICY,
+                          UNKNOWN, head)
 
 Judged = tuple[Record, Answer, Process]
 #: What a call is about by name: its path or both paths, as a person knows them, or its port.
@@ -32,10 +33,7 @@ Place = tuple[str, ...] | int
 
 #: The kernel's answers to the calls on paths about which it asked Landlock.
 ASKED_LANDLOCK = (None, "ok", "EACCES", "EPERM", "EXDEV")
-#: Calls that a process makes on its way to a layer.
-ASKS_FOR_LAYERS = frozenset({"create", "restrict"})
-
-_STATES = ASKS_FOR_LAYERS | {"start", "fork", "exit", "exec"}
+_STATES = frozenset({"create", "restrict", "start", "fork", "exit", "exec"})
 _RULES = frozenset({"add_path", "add_port"})
 _OPENS = frozenset({"open", "adopt", "dup"})
 #: Progress is shown each time that this many records were read.
@@ -54,30 +52,11 @@ def _to_do(op: str) -> int:
 
 #: What a record would be if something else was there before the call. It is counted with the record before it.
 _OTHERWISE = 64
-#: What a record has that may be another one, and what those after it have besides that it would be then.
-_UNKNOWN, _INSTEAD = b'"unknown":', b'"otherwise":'
-#: How records begin as landaudit-record writes them: enough of a line to know what to do with it.
-_KNOWN = len('{"op":"nnp"')
-_BEGINS = {f'{{"op":"{op}"'[:_KNOWN].encode(): _to_do(op) for op in OPERATIONS}
-_KERNEL = b'"kernel":"'
-_LET_THROUGH = b'"kernel":"ok"}\n'
+_BEGINS = {head(op): _to_do(op) for op in OPERATIONS}
 _ASKED = tuple(f'{answer}"'.encode() for answer in ASKED_LANDLOCK if answer)
-_AGAIN = b'"again":true'
-_POLICY = b'"policy":'
-_BLANKS = b" \t\r\n"
-#: The most frequent records that change what is kept, as landaudit-record writes them.
-_CHANGES = re.compile(
-    rb'\{"op":"(exit|fork|exec)","pid":[0-9]+(?:,"child":([0-9]+)|,"path":"([^"\\]*)")?(,"role":"[a-z]+")?'
-    rb',"call":[0-9]+(?:,"kernel":"ok")?\}\n'
-)
-#: Members in which records may differ that a summary counts as one: for an opening, its number too.
-_OWN = re.compile(rb'"(?:pid|call)":[0-9]+,?')
-_OWN_OF_OPENING = re.compile(rb'"(?:pid|call|fd)":[0-9]+,?')
-_FD = re.compile(rb'"fd":([0-9]+)')
-_COPIES = re.compile(rb'"fd":([0-9]+),"to":([0-9]+)')
 #: Operations on numbers, as the report has them.
 _OPEN, _CLOSE, _ADOPT, _DUP = (b'"op":"%b"' % op for op in (b"open", b"close", b"adopt", b"dup"))
-_ON_NUMBERS = frozenset({_OPEN, _CLOSE, _ADOPT, _DUP, b'"op":"ftruncate"', b'"op":"ioctl"'})
+_ON_NUMBERS = frozenset(b'"op":"%b"' % op.encode() for op, of in OPERATIONS.items() if "fd" in of.numbers)
 #: Where the number of the process begins in its member.
 _PID = len('"pid":')
 
@@ -211,18 +190,18 @@ class Walk:
             for number, line in enumerate(lines, start=1):
                 at += len(line)
                 offset(at)
-                to_do = begins(line[:_KNOWN])
+                to_do = begins(line[:HEAD])
                 if to_do is None:
-                    if not line.strip(_BLANKS):
+                    if not line.strip(jsonl.BLANKS):
                         continue
-                    to_do = _OTHERWISE if _INSTEAD in line and _UNKNOWN in line else _READ
+                    to_do = _OTHERWISE if OTHERWISE in line and UNKNOWN in line else _READ
                 answer = readline() if shown is None else shown.on(number)
                 differs = not answer.endswith(allowed) if whole else answer != b""
                 if together and to_do != _OTHERWISE:
                     yield from self._united(together)
                     together.clear()
                 if again:
-                    again = _AGAIN in line
+                    again = AGAIN in line
                     if again:
                         self._taken_apart((number, line, to_do, answer, differs))
                         continue
@@ -230,10 +209,10 @@ class Walk:
                     together.append((number, line, to_do, answer, differs))
                     continue
                 self.records += 1
-                if to_do == _READ and _UNKNOWN in line:
+                if to_do == _READ and UNKNOWN in line:
                     together.append((number, line, to_do, answer, differs))
                     continue
-                if to_do & _ON_PATH and (line.endswith(_LET_THROUGH) or _asked(line)):
+                if to_do & _ON_PATH and (line.endswith(LET_THROUGH) or _asked(line)):
                     self.path_calls += 1
                 if not number % EVERY and progress is not None:
                     progress.show(number, "answers read")
@@ -286,7 +265,7 @@ class Walk:
         """Follows what a record changes, and gives its kind if a summary counts it."""
         _, line, to_do, _, differs = said
         members = self._members(said)
-        counts = differs or _POLICY in line
+        counts = differs or POLICY in line
         if not counts and to_do < _STATE:
             self._follow_opening(said, members)
             return None
@@ -296,7 +275,7 @@ class Walk:
             self.path_calls += told.asked and to_do == _READ
             counts = counts or "policy" in told.record
             standing = told.program, told.missed, told.confined
-        own = _OWN_OF_OPENING if members[2] == _OPEN else _OWN
+        own = OWN_OF_OPENING if members[2] == _OPEN else OWN
         return (standing, own.sub(b"", line), members[3]) if counts else None
 
     def _follow_opening(self, said: _Said, members: list[bytes]) -> None:
@@ -320,7 +299,7 @@ class Walk:
             return None
         pid, missed = _pid(members), NOWHERE
         if op in _ON_NUMBERS:
-            found = (_COPIES if op == _DUP else _FD).search(line)
+            found = (COPIES if op == _DUP else FD).search(line)
             if found is None:
                 return None
             missed = processes.missed(pid, int(found[1]))
@@ -334,7 +313,7 @@ class Walk:
 
     def _changes(self, line: bytes, pid: int) -> bool:
         """Follows what a record changes, if it is a frequent one and is written as landaudit-record writes it."""
-        found = _CHANGES.fullmatch(line)
+        found = CHANGES.fullmatch(line)
         if found is None:
             return False
         op, child, path, role = found.groups()
@@ -361,13 +340,8 @@ def _not_allowed(answers: bytes) -> frozenset[int]:
 
 def _asked(line: bytes) -> bool:
     """Whether the kernel asked Landlock about a call that landaudit-record wrote, by the kernel's answer."""
-    at = line.rfind(_KERNEL)
-    return at < 0 or line.startswith(_ASKED, at + len(_KERNEL))
-
-
-def call_text(record: Record) -> str:
-    """A call in one or several words, such as `open rw create`."""
-    return OPERATIONS[record["op"]].text(record)
+    at = line.rfind(KERNEL)
+    return at < 0 or line.startswith(_ASKED, at + len(KERNEL))
 
 
 def place_of(record: Record) -> Place | None:
@@ -395,9 +369,9 @@ def places(trace: Path) -> Counter[Place]:
 
     with open(trace, "rb") as lines:
         for number, line in enumerate(lines, start=1):
-            if not _BEGINS.get(line[:_KNOWN], _READ) & (_ON_PATH | _ON_PORT | _READ) or not line.strip(_BLANKS):
+            if not _BEGINS.get(line[:HEAD], _READ) & (_ON_PATH | _ON_PORT | _READ) or not line.strip(jsonl.BLANKS):
                 continue
-            kind = _OWN_OF_OPENING.sub(b"", line)
+            kind = OWN_OF_OPENING.sub(b"", line)
             if kind not in first:
                 if len(first) == MOST_KINDS:
                     count()

@@ -10,9 +10,10 @@ from . import leaving, processes, styling, wants, widening
 from .answers import UNSURE, Answer, Closed, Gained, Kept, Missing, Objection
 from .jsonl import Record
 from .objects import Objects
+from .operations import call_text
 from .policies import Access, Layer, PathRule, Policy, PortRule, group_rules
 from .processes import of_policy
-from .reading import Told, Walk, call_text
+from .reading import Told, Walk
 from .rights import FS, NET, NONE, Rights
 from .trees import Tree, directory_of
 from .wants import Call, Rule, Wanted, Wants

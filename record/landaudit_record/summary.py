@@ -11,7 +11,8 @@ from . import answers
 from .answers import NOT_OPEN, UNOPENED, UNSURE, Answer, Condition, Kept, Missing, Objection
 from .jsonl import Record
 from .processes import of_policy, shown_path
-from .reading import ASKED_LANDLOCK, Place, Told, Walk, call_text, place_of, place_text
+from .operations import call_text
+from .reading import ASKED_LANDLOCK, Place, Told, Walk, place_of, place_text
 
 #: The members of a record in which refused calls of one kind agree, besides their explanation.
 _TELLS = ("op", "path", "shown", "from", "to", "shown_to", "mode", "create", "trunc", "kind", "exchange", "port", "rs")

@@ -19,6 +19,7 @@ from .distilling import Domain, Enforced, Question, call_of, text
 from .jsonl import Record
 from .policies import Access, Layer, PathRule, Policy, PortRule
 from .rights import FS, NET, alone
+from .trace_lines import body, line_of
 from .trees import upwards
 from .trying import Tried
 
@@ -286,17 +287,13 @@ class _Trace:
             by_domain.setdefault(self.asked.questions[number].domain, []).append(number)
         for domain, numbers in by_domain.items():
             self._pid += 1
-            self._say('"op":"start","nnp":true')
-            for layer in domain:
-                for call in _calls_of(layer, trial.inserted):
-                    self._say(call)
+            self._say(body("start", nnp=True), *(call for one in domain for call in _calls_of(one, trial.inserted)))
             for number in numbers:
-                for body in self.asked.bodies[number]:
-                    self._say(body)
+                self._say(*self.asked.bodies[number])
                 self.decided[len(self.lines)] = trial.choice, number
 
-    def _say(self, body: str) -> None:
-        self.lines.append(f'{{"pid":{self._pid},{body}}}\n')
+    def _say(self, *records: str) -> None:
+        self.lines.extend(line_of(self._pid, record) for record in records)
 
 
 def _calls_of(layer: Enforced, inserted: Iterable[Record]) -> Iterator[str]:

@@ -21,9 +21,8 @@ from typing import Any, NamedTuple
 
 from landaudit_record import finished, jsonl
 from landaudit_record.comparing import OK
-from landaudit_record.operations import RULESET_CALLS
+from landaudit_record.operations import RULESET_CALLS, call_text
 from landaudit_record.problems import NOT_ALL_JUDGED
-from landaudit_record.reading import call_text
 
 HERE = Path(__file__).resolve().parent
 RECORDER = HERE.parent / "landaudit-record"

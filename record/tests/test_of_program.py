@@ -12,7 +12,7 @@ from dataclasses import replace
 from io import StringIO
 from pathlib import Path
 
-from landaudit_record import cli, finished, importing, jsonl, of_program, policies, policy_text, trying
+from landaudit_record import cli, finished, importing, jsonl, of_program, policies, policy_text, trace_lines, trying
 from landaudit_record.finished import Finished, Part
 from landaudit_record.importing import Following, Own
 from landaudit_record.jsonl import Record
@@ -186,7 +186,7 @@ _Layer = tuple[Rights, Rights, dict[str | int, Rights]]
 def _layers(trace: Path, tree: Tree) -> Iterator[tuple[int, list[_Layer]]]:
     """What each restriction of a trace leaves a process with, of its program's own."""
     following = Following(tree, {}, Counter())
-    for _, record in importing.told(trace):
+    for _, record in trace_lines.told(trace, importing.OF_PROCESSES, trace_lines.RAN):
         done = following.take(record)
         if done is not None:
             yield done.pid, [_meant(ruleset) for ruleset in done.own.layers]

@@ -14,10 +14,11 @@ from pathlib import Path
 from types import TracebackType
 from typing import Any, Protocol, Self
 
-from .. import jsonl
+from .. import jsonl, trace_lines
 from ..finished import CONVERTED, Converted, Part, Size, files_of_parts, numbered
 from ..living import Living, Members
 from ..trees import ROOT, directory_of, upwards
+from ..wording import is_utf8
 from .names import OF_KIND, Node, join
 from .processes import FIRST_MADE_UP
 from .unsaid import CannotSay as CannotSay
@@ -218,7 +219,7 @@ class Tree:
 
     def _list(self, text: str, real: str, node: Node) -> None:
         line: jsonl.Record = {"path": text, "kind": node.kind}
-        if node.target is not None and _is_utf8(node.target):
+        if node.target is not None and is_utf8(node.target):
             line["target"] = node.target
         if node.first not in (None, text):
             line["same"] = node.first
@@ -251,13 +252,9 @@ class Limits:
     own: int = 500_000
 
 
-#: The members of a record that may be another one, and of what it would be then.
-IN_DOUBT = ("unknown", "otherwise")
 LIMITS = Limits()
-_value, _text = jsonl.value, jsonl.text
 #: The records that are kept free for the last call of a part; a call has far fewer.
 MOST_OF_A_CALL = 2_000
-_ADDS = b'{"op":"add_path"'
 _WITHOUT_PATH = frozenset({"start", "fork", "rename", "link"})
 #: A record that waits for the rest of its call: operation, process, members, the kernel's answer, and the line.
 _Waiting = tuple[str, int, Members, str | None, str]
@@ -307,25 +304,11 @@ class Recording:
 
     def add(self, op: str, pid: int, call: int, kernel: str | None, members: Members) -> None:
         """Adds a record as `write` does, from members that do not change afterwards."""
-        line, said = f'{{"op":"{op}","pid":{pid}', members
-        if "unknown" in members:
-            line, said = _in_doubt(line, members)
-        for name, value in said.items():
-            if type(value) is str:
-                line += f',"{name}":{_text(value)}'
-            elif type(value) is int:
-                line += f',"{name}":{value}'
-            elif value is not None and value is not False:
-                line += f',"{name}":{_value(value)}'
-        line += f',"call":{call}' if kernel is None else f',"call":{call},"kernel":"{kernel}"'
-        if op == "ioctl" and members["driver"] is False:
-            line += ',"driver":false'
-        self._call.append((op, pid, members, kernel, line + "}\n"))
+        self._call.append((op, pid, members, kernel, trace_lines.written(op, pid, members, call, kernel)))
 
     def add_close(self, pid: int, call: int, fd: int) -> None:
-        """Adds a close as `add` does: a third of a compiler's records are closes, and all of them are alike."""
-        line = f'{{"op":"close","pid":{pid},"fd":{fd},"call":{call}}}\n'
-        self._call.append(("close", pid, {"fd": fd}, None, line))
+        """Adds a close as `add` does."""
+        self._call.append(("close", pid, {"fd": fd}, None, trace_lines.closing(pid, fd, call)))
 
     def commit(self) -> None:
         """Keeps the records of a call, in one part."""
@@ -466,15 +449,6 @@ class Recording:
         self._parts.append(_PartInMaking(self._part, self._objects, self._in_part, self._again))
 
 
-def _in_doubt(line: str, members: Members) -> tuple[str, Members]:
-    """The beginning of a record that may be another one, which says so first, and its other members.
-
-    All other records begin with their operations, by which a reader tells at once that they are not in doubt.
-    """
-    marks = {name: members[name] for name in IN_DOUBT if name in members}
-    return f"{_value(marks)[:-1]},{line[1:]}", {name: of for name, of in members.items() if name not in marks}
-
-
 def _is_judged(waiting: _Waiting) -> bool:
     """Whether a record stands for a call that Landlock judges, or closes its number."""
     op, _, members, kernel, _ = waiting
@@ -498,9 +472,9 @@ class _PartInMaking:
         with open(self.part.trace, "rb") as lines, open(beside, "wb") as out:
             for line in lines:
                 out.write(line)
-                for name in further.get(json.loads(line)["path"], ()) if line.startswith(_ADDS) else ():
+                for name in further.get(json.loads(line)["path"], ()) if line.startswith(trace_lines.ADDS) else ():
                     self.records += 1
-                    self.again += b'"again":true' in line
+                    self.again += trace_lines.AGAIN in line
                     self.objects.update(over for over in upwards(name) if over != ROOT)
                     out.write(jsonl.line({**json.loads(line), "path": name}).encode())
         beside.replace(self.part.trace)
@@ -509,11 +483,6 @@ class _PartInMaking:
         """Writes the tree, and says how large the part is."""
         objects = tree.write(self.part.tree, self.objects)
         return Size(self.records, self.again, objects, self.part.trace.stat().st_size)
-
-
-def _is_utf8(text: str) -> bool:
-    """Whether a text can be written; a name with bytes that are not UTF-8 can't."""
-    return text.isascii() or not any("\ud800" <= letter <= "\udfff" for letter in text)
 
 
 @lru_cache(KEPT)
