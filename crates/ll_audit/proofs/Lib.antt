@@ -3,6 +3,5 @@ pub mod Endings
 pub mod OneReport
 pub mod Totals
 pub mod VersionByVersion
-pub mod FoundAtHand
-pub mod AsJson
+pub mod FoundByVersion
 pub mod GoingOn

@@ -6,3 +6,4 @@ pub mod Causes
 pub mod Fronts
 pub mod ShownReports
 pub mod Ranging
+pub mod CasesOnce

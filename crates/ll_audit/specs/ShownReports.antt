@@ -8,7 +8,7 @@ use Rattle.ll_rights.specs.declared.abi.Abi.{Abi}
 use Rattle.ll_rights.specs.Abis.{number_of}
 use Rattle.ll_tree.specs.Trees.{Entry}
 use Rattle.ll_trace.specs.declared.op.Record.{Record}
-use Rattle.ll_trace.specs.BestEffort.{records_at_best_effort}
+use Rattle.ll_trace.specs.Taken.{records_by}
 use Rattle.ll_report.specs.Shown.{Told}
 use Rattle.ll_report.specs.Found.{Found, found_under}
 use Rattle.ll_report.specs.Rows.{are_several, refused_under_some, rows_text, total_under_text}
@@ -17,8 +17,7 @@ use Rattle.ll_json.specs.Versions.{Version}
 use Rattle.ll_command.specs.declared.command.TheConstants.{VERSION}
 use Rattle.ll_report.specs.declared.options.Format.{Format}
 use Rattle.ll_report.specs.declared.options.Format.TheVariants.{Json, Text}
-use Rattle.ll_trace.specs.declared.trace.Effort.{Effort}
-use Rattle.ll_trace.specs.declared.trace.Effort.TheVariants.{AsRecorded, Best}
+use Rattle.ll_trace.specs.declared.trace.Effort.TheVariants.{AsRecorded}
 use Rattle.ll_report.specs.declared.options.Options.{Options}
 use Rattle.ll_report.specs.declared.options.TheConstants.{ALL_LINES}
 use Rattle.ll_rights.specs.AbiRanges.{versions_in}
@@ -26,14 +25,9 @@ use Rattle.ll_audit.specs.Audits.{BothRead}
 use Rattle.ll_audit.specs.declared.report_text.Form.{Form}
 use Rattle.ll_audit.specs.declared.report_text.Form.TheVariants as form
 
--- the records as they are taken: as they were recorded, or as a program calls that uses what its kernel supports
-abbrev pub taken : Effort → Abi → List Record → List Record
-taken AsRecorded abi records = records
-taken Best abi records = records_at_best_effort abi records
-
 -- what is found of the records under a version
 abbrev pub found_at : Options → List Entry → List Record → Abi → Found
-found_at options tree records abi = found_under options.shown tree (taken options.effort abi records) abi
+found_at options tree records abi = found_under options.shown tree (records_by options.effort abi records) abi
 
 -- what is found of the records under each version that is asked for, the oldest first
 abbrev pub findings : Options → List Entry → List Record → List Found
@@ -54,7 +48,7 @@ pub record IsTextReport (options : Options) (tree : List Entry) (records : List 
 
 -- a version with the records as they are taken under it
 abbrev pub version_at : Options → List Record → Abi → Version
-version_at options records abi = record { abi = abi; records = taken options.effort abi records }
+version_at options records abi = record { abi = abi; records = records_by options.effort abi records }
 
 -- the versions that the options ask for, the oldest first
 abbrev pub versions_by : Options → List Record → List Version

@@ -212,7 +212,7 @@ fn text_by<R: Threads + Wait + Sync, G: Gate + Sync>(
     ensures fault { IfErr result IsOutOfMemoryOrThreads }
 {
     let all = Audited::of(audit, tree, trace)?;
-    let report = all.into_text(audit.workers.rt, audit.workers.alloc, audit.options)?;
+    let report = all.into_text(audit.workers.alloc, audit.options)?;
     Ok(ReportText::new(Form::Text(report)))
 }
 
@@ -227,6 +227,6 @@ fn json_by<R: Threads + Wait + Sync, G: Gate + Sync>(
     ensures fault { IfErr result IsOutOfMemoryOrThreads }
 {
     let all = Audited::of(audit, tree, trace)?;
-    let report = all.into_json(audit.workers.rt, audit.workers.alloc, audit.options)?;
+    let report = all.into_json(audit.workers.alloc, audit.options)?;
     Ok(ReportText::new(Form::Json(report)))
 }

@@ -2,21 +2,21 @@
 
 ghost use Rattle.std.specs.Prelude.{◌≡◌, IfOk, IfErr};
 ghost use Rattle.std.specs.Thread.{IsSync};
-ghost use Rattle.ll_semantics.specs.Worlds.{judged};
-ghost use Rattle.ll_process.specs.{Cases.IsCase, PastCases.as_it_was};
+ghost use Rattle.ll_process.specs.Cases.{IsCase, case_of};
+ghost use Rattle.ll_audit.specs.CasesOnce.{IsCase-once};
 ghost use Rattle.ll_audit.specs.Causes.{IsOutOfMemoryOrThreads};
-ghost use Rattle.ll_audit.specs.ShownReports.{taken};
 ghost use Rattle.ll_audit.specs.Audits.{IsWorkerCount};
 ghost use Rattle.ll_findings.specs.Findings.{AddsFinding, judged_in};
 
 use crate::fault::Fault;
-use crate::ranging::{Audit, Audited, case_under};
+use crate::ranging::Audit;
 use crate::workers::{Workers, answers_by};
 use ll_findings::Findings;
 use ll_pool::Gate;
-use ll_process::{Answer, Case, CaseView, PastCase};
+use ll_process::{Answer, Case, Settled};
 use ll_rights::Abi;
 use ll_rules::NoMemory;
+use ll_trace::{Kernel, Located};
 use std::alloc::Global;
 use std::sync::Wait;
 use std::thread::{Threads, join};
@@ -24,50 +24,52 @@ use std::thread::{Threads, join};
 /// A case that is judged, whose explanations are still to be worked out, and what was found under newer versions, the
 /// oldest first.
 #[derive(Drop)]
-pub(crate) struct Judged {
-    pub(crate) case: Case,
+pub(crate) struct Judged<'l> {
+    pub(crate) located: &'l Located,
+    pub(crate) settled: Settled,
     pub(crate) answers: Vec<Answer>,
     pub(crate) newer: Findings,
-    ghost judged: { answers.items ≡ judged case.tree case.abi case.records },
+    ghost is_case: { IsCase (case_of located.now settled) } by { IsCase-once (case_of located.now settled) },
+    ghost judged: { answers.items ≡ judged_in (case_of located.now settled) },
 }
 
-/// What is found of a past case too, by the case that has its trace now, the answers to it, and what was found under
-/// newer versions. At most this many threads explain it.
-fn explain_past<R: Threads + Sync>(
+/// What is found of a case too, by the answers to it, and what was found under newer versions. At most this many
+/// threads explain it.
+fn explain<R: Threads + Sync>(
     rt: &R,
     alloc: Global,
-    now: &Case,
-    past: &PastCase,
+    located: &Located,
+    settled: &Settled,
     answers: Vec<Answer>,
     explains: bool,
     newer: Findings,
     threads: u64,
 ) -> Result<Findings, NoMemory>
-    requires past { IsCase (as_it_was now.now.tree now.now.records past.now) }
-    requires answers { answers.items
-        ≡ judged_in (as_it_was now.now.tree now.now.records past.now) }
-    ensures { IfOk result
-        (AddsFinding explains (as_it_was now.now.tree now.now.records past.now) newer) }
+    requires case { IsCase (case_of located.now settled.now) }
+    requires answers { answers.items ≡ judged_in (case_of located.now settled.now) }
+    ensures { IfOk result (AddsFinding explains (case_of located.now settled.now) newer) }
 {
-    let view = CaseView::past(now, past);
-    newer.with(rt, alloc, &view, answers, explains, threads as usize)
+    let case = Case::of(located, settled);
+    newer.with(rt, alloc, &case, answers, explains, threads as usize)
 }
 
-/// Explains a past case while the workers judge the case that has its trace now.
+/// Explains a case while the workers judge that of an older version.
 fn explain_beside<R: Threads + Wait + Sync, G: Gate + Sync>(
     audit: &Audit<'_, R, G>,
-    now: &Case,
-    past: &PastCase,
+    located: &Located,
+    older: &Settled,
+    settled: &Settled,
     answers: Vec<Answer>,
     newer: Findings,
 ) -> Result<(Findings, Vec<Answer>), Fault>
     requires count { IsWorkerCount audit.now.workers.now.count }
-    requires past { IsCase (as_it_was now.now.tree now.now.records past.now) }
-    requires answers { answers.items
-        ≡ judged_in (as_it_was now.now.tree now.now.records past.now) }
+    requires older { IsCase (case_of located.now older.now) }
+    requires case { IsCase (case_of located.now settled.now) }
+    requires answers { answers.items ≡ judged_in (case_of located.now settled.now) }
     ensures findings { IfOk result (λ both. AddsFinding audit.now.options.now.shown.explanations
-        (as_it_was now.now.tree now.now.records past.now) newer both.0) }
-    ensures judged { IfOk result (λ both. both.1.items ≡ judged_in now.now) }
+        (case_of located.now settled.now) newer both.0) }
+    ensures judged { IfOk result
+        (λ both. both.1.items ≡ judged_in (case_of located.now older.now)) }
     ensures fault { IfErr result IsOutOfMemoryOrThreads }
 {
     let (rt, alloc, gate) = (audit.workers.rt, audit.workers.alloc, audit.workers.gate);
@@ -77,39 +79,41 @@ fn explain_beside<R: Threads + Wait + Sync, G: Gate + Sync>(
         rt,
         move ||
             requires sync { IsSync R.row }
-            requires past { IsCase (as_it_was now.now.tree now.now.records past.now) }
-            requires answers { answers.items
-                ≡ judged_in (as_it_was now.now.tree now.now.records past.now) }
-        { explain_past(rt, alloc, now, past, answers, explains, newer, count) },
+            requires case { IsCase (case_of located.now settled.now) }
+            requires answers { answers.items ≡ judged_in (case_of located.now settled.now) }
+        { explain(rt, alloc, located, settled, answers, explains, newer, count) },
         move ||
-            requires { IsWorkerCount count }
-        { answers_by(rt, alloc, count, gate, now, cuts) },
+            requires count { IsWorkerCount count }
+            requires older { IsCase (case_of located.now older.now) }
+        { answers_by(rt, alloc, count, gate, located, older, cuts) },
     );
     Ok((findings?, judged?))
 }
 
-impl Judged {
+impl<'l> Judged<'l> {
     /// Judges a trace under a version, which is older than those under which something was found.
     pub(crate) fn of<R: Threads + Wait + Sync, G: Gate + Sync>(
-        newer: Audited,
+        newer: Findings,
         audit: &Audit<'_, R, G>,
+        located: &'l Located,
         abi: Abi,
-    ) -> Result<Judged, Fault>
+    ) -> Result<Judged<'l>, Fault>
         requires { IsWorkerCount audit.now.workers.now.count }
-        ensures tree { IfOk result (λ one. one.case.tree ≡ newer.located.tree) }
-        ensures abi { IfOk result (λ one. one.case.abi ≡ abi) }
-        ensures records { IfOk result (λ one. one.case.records
-            ≡ taken audit.now.options.now.effort abi newer.located.trace) }
-        ensures newer { IfOk result (λ one. one.newer ≡ newer.findings) }
+        ensures located { IfOk result (λ one. one.located.now ≡ located.now) }
+        ensures abi { IfOk result (λ one. one.settled.kernel.abi ≡ abi) }
+        ensures effort { IfOk result
+            (λ one. one.settled.kernel.effort ≡ audit.now.options.now.effort) }
+        ensures newer { IfOk result (λ one. one.newer ≡ newer) }
         ensures fault { IfErr result IsOutOfMemoryOrThreads }
     {
-        let Audited { located, findings } = newer;
-        let case = case_under(audit, located, abi)?;
+        let settled = Settled::of(audit.workers.alloc, located, audit.kernel(abi))?;
+        let case = Case::of(located, &settled);
         let answers = audit.workers.answers(&case, audit.cuts)?;
         Ok(Judged {
-            case,
+            located,
+            settled,
             answers,
-            newer: findings,
+            newer,
         })
     }
 
@@ -119,32 +123,35 @@ impl Judged {
         self,
         audit: &Audit<'_, R, G>,
         abi: Abi,
-    ) -> Result<Judged, Fault>
+    ) -> Result<Judged<'l>, Fault>
         requires { IsWorkerCount audit.now.workers.now.count }
-        ensures records { IfOk result (λ next. next.case.records
-            ≡ taken audit.now.options.now.effort abi self.case.records) }
-        ensures tree { IfOk result (λ next. next.case.tree ≡ self.case.tree) }
+        ensures located { IfOk result (λ next. next.located.now ≡ self.entry.located.now) }
         ensures findings { IfOk result (λ next. AddsFinding
-            audit.now.options.now.shown.explanations self.case self.newer next.newer) }
-        ensures abi { IfOk result (λ next. next.case.abi ≡ abi) }
+            audit.now.options.now.shown.explanations
+            (case_of self.entry.located.now self.entry.settled) self.entry.newer next.newer) }
+        ensures abi { IfOk result (λ next. next.settled.kernel.abi ≡ abi) }
+        ensures effort { IfOk result
+            (λ next. next.settled.kernel.effort ≡ audit.now.options.now.effort) }
         ensures fault { IfErr result IsOutOfMemoryOrThreads }
     {
+        let located = self.located;
         if !audit.options.shown.explanations {
             let newer = self.finish(audit, audit.workers.count)?;
-            return Judged::of(newer, audit, abi);
+            return Judged::of(newer, audit, located, abi);
         }
         let Judged {
-            case,
+            settled,
             answers,
             newer,
+            ..
         } = self;
-        let (located, past) = case.into_past(audit.workers.alloc)?;
-        let case = case_under(audit, located, abi)?;
-        let (findings, answers) = explain_beside(audit, &case, &past, answers, newer)?;
+        let older = Settled::of(audit.workers.alloc, located, audit.kernel(abi))?;
+        let (newer, answers) = explain_beside(audit, located, &older, &settled, answers, newer)?;
         Ok(Judged {
-            case,
+            located,
+            settled: older,
             answers,
-            newer: findings,
+            newer,
         })
     }
 
@@ -153,25 +160,22 @@ impl Judged {
         self,
         audit: &Audit<'_, R, G>,
         threads: u64,
-    ) -> Result<Audited, Fault>
-        ensures found { IfOk result (λ all. AddsFinding audit.now.options.now.shown.explanations
-            self.case self.newer all.findings) }
-        ensures tree { IfOk result (λ all. all.located.tree ≡ self.case.tree) }
-        ensures trace { IfOk result (λ all. all.located.trace ≡ self.case.records) }
+    ) -> Result<Findings, Fault>
+        ensures found { IfOk result (AddsFinding audit.now.options.now.shown.explanations
+            (case_of self.entry.located.now self.entry.settled) self.entry.newer) }
         ensures fault { IfErr result IsOutOfMemoryOrThreads }
     {
         let Judged {
-            newer,
-            case,
+            located,
+            settled,
             answers,
+            newer,
         } = self;
         let explains = audit.options.shown.explanations;
-        let view = CaseView::of(&case);
         let Workers { rt, alloc, .. } = audit.workers;
-        let findings = newer.with(*rt, *alloc, &view, answers, explains, threads as usize)?;
-        Ok(Audited {
-            located: case.into_located(),
-            findings,
-        })
+        let findings = explain(
+            *rt, *alloc, located, &settled, answers, explains, newer, threads,
+        )?;
+        Ok(findings)
     }
 }

@@ -1,16 +1,16 @@
 //! An audit over several versions.
 
-ghost use Rattle.std.specs.Prelude.{◌≡◌, ◌+◌, ◌∷◌, ◌<◌, ◌^◌, [], IfOk, IfErr, List, length, map};
+ghost use Rattle.std.specs.Prelude.{◌≡◌, ◌+◌, ◌<◌, ◌^◌, IfOk, IfErr, List, length};
 ghost use Rattle.ll_rights.specs.{Abis.number_of};
-ghost use Rattle.ll_json.specs.{Records.about, Reports.IsJsonReport};
+ghost use Rattle.ll_json.specs.Reports.{IsJsonReport};
 ghost use Rattle.ll_report.specs.Rows.{refused_under_some, rows_text};
 ghost use Rattle.ll_report.specs.Versions.{founds_in};
 ghost use Rattle.ll_command.specs.declared.command.TheConstants.{VERSION};
 ghost use Rattle.ll_json.specs.Judged.{AreFound};
 ghost use Rattle.ll_json.specs.Versions.{Version};
 ghost use Rattle.ll_audit.specs.Causes.{IsOutOfMemoryOrThreads};
-ghost use Rattle.ll_audit.specs.ShownReports.{taken, versions_by};
-ghost use Rattle.ll_audit.specs.Ranging.{ComesTo, GoesOn, IsThrough};
+ghost use Rattle.ll_audit.specs.ShownReports.{versions_by};
+ghost use Rattle.ll_audit.specs.Ranging.{ComesTo, GoesOn, IsOf, IsThrough};
 ghost use Rattle.ll_audit.specs.Audits.{IsWorkerCount};
 
 use crate::fault::Fault;
@@ -20,11 +20,9 @@ use ll_command::VERSION;
 use ll_findings::Findings;
 use ll_json::{JsonRows, json_report};
 use ll_pool::Gate;
-use ll_process::Case;
 use ll_report::{Options, RowReport, VersionRows, report_over};
 use ll_rights::Abi;
-use ll_rules::NoMemory;
-use ll_trace::{Effort, Located, Trace};
+use ll_trace::{Kernel, Located, Trace};
 use ll_tree::Tree;
 use std::alloc::{AllocError, Global};
 use std::sync::Wait;
@@ -38,8 +36,21 @@ pub(crate) struct Audit<'a, R, G> {
     pub(crate) cuts: &'a [bool],
 }
 
-/// A tree and a trace, and what was found of them under some versions. The trace is as its rulesets
-/// are taken under the oldest of these. Where its paths lead is looked up once for all versions.
+impl<'a, R, G> Audit<'a, R, G> {
+    /// The kernel of a version, as the options ask for it.
+    pub(crate) fn kernel(&self, abi: Abi) -> Kernel
+        ensures abi { result.abi ≡ abi }
+        ensures effort { result.effort ≡ self.now.options.now.effort }
+    {
+        Kernel {
+            abi,
+            effort: self.options.effort,
+        }
+    }
+}
+
+/// A tree and a trace, and what was found of them under some versions. Where the trace's paths lead is looked up once
+/// for all versions.
 #[derive(Drop)]
 pub(crate) struct Audited {
     pub(crate) located: Located,
@@ -48,31 +59,34 @@ pub(crate) struct Audited {
 
 /// How far an audit under several versions is, the newest first.
 #[derive(Drop)]
-pub(crate) enum Progress {
+pub(crate) enum Progress<'l> {
     /// No version has judged yet.
-    Begun(Located),
+    Begun,
     /// Some have; the oldest of them isn't explained yet.
-    Judged(Judged),
+    Judged(Judged<'l>),
 }
 
-impl Progress {
+impl<'l> Progress<'l> {
     /// Judges under a version too, which is older than those before, if it is asked for.
     fn under<R: Threads + Wait + Sync, G: Gate + Sync>(
         self,
         audit: &Audit<'_, R, G>,
+        located: &'l Located,
         abi: Abi,
-    ) -> Result<Progress, Fault>
-        requires { IsWorkerCount audit.now.workers.now.count }
-        ensures further { IfOk result (GoesOn audit.now.options.now abi self) }
+    ) -> Result<Progress<'l>, Fault>
+        requires count { IsWorkerCount audit.now.workers.now.count }
+        requires of_it { IsOf located.now self }
+        ensures of_it { IfOk result (IsOf located.now) }
+        ensures further { IfOk result
+            (GoesOn audit.now.options.now located.now abi self.entry) }
         ensures fault { IfErr result IsOutOfMemoryOrThreads }
     {
         if !audit.options.abis.has(abi) {
             return Ok(self);
         }
         let judged = match self {
-            Progress::Begun(located) => {
-                let findings = Findings::none(audit.workers.alloc);
-                Judged::of(Audited { located, findings }, audit, abi)?
+            Progress::Begun => {
+                Judged::of(Findings::none(audit.workers.alloc), audit, located, abi)?
             }
             Progress::Judged(newer) => newer.next(audit, abi)?,
         };
@@ -84,16 +98,12 @@ impl Progress {
     fn finish<R: Threads + Wait + Sync, G: Gate + Sync>(
         self,
         audit: &Audit<'_, R, G>,
-    ) -> Result<Audited, Fault>
-        ensures found { IfOk result (λ all. ComesTo audit.now.options.now self all.located.tree
-            all.located.trace all.findings) }
+    ) -> Result<Findings, Fault>
+        ensures found { IfOk result (ComesTo audit.now.options.now self.entry) }
         ensures fault { IfErr result IsOutOfMemoryOrThreads }
     {
         match self {
-            Progress::Begun(located) => Ok(Audited {
-                located,
-                findings: Findings::none(audit.workers.alloc),
-            }),
+            Progress::Begun => Ok(Findings::none(audit.workers.alloc)),
             Progress::Judged(judged) => judged.finish(audit, audit.workers.count.max(2)),
         }
     }
@@ -101,21 +111,35 @@ impl Progress {
     /// Judges a trace under all versions that are asked for, the newest first.
     fn through<R: Threads + Wait + Sync, G: Gate + Sync>(
         audit: &Audit<'_, R, G>,
-        located: Located,
-    ) -> Result<Progress, Fault>
+        located: &'l Located,
+    ) -> Result<Progress<'l>, Fault>
         requires { IsWorkerCount audit.now.workers.now.count }
-        ensures through { IfOk result
-            (IsThrough audit.now.options.now located.tree located.trace) }
+        ensures through { IfOk result (IsThrough audit.now.options.now located.now) }
         ensures fault { IfErr result IsOutOfMemoryOrThreads }
     {
         let versions = Abi::all();
-        let mut progress = Progress::Begun(located);
+        let mut progress = Progress::Begun;
         for index in (0..versions.len()).rev() {
             let abi = versions[index];
-            progress = progress.under(audit, abi)?;
+            progress = progress.under(audit, located, abi)?;
         }
         Ok(progress)
     }
+}
+
+/// What is found of a tree and a trace under all versions that are asked for.
+fn found_in<R: Threads + Wait + Sync, G: Gate + Sync>(
+    audit: &Audit<'_, R, G>,
+    located: &Located,
+) -> Result<Findings, Fault>
+    requires { IsWorkerCount audit.now.workers.now.count }
+    ensures findings { IfOk result (AreFound audit.now.options.now.shown.explanations
+        located.now.tree located.now.trace
+        (versions_by audit.now.options.now located.now.trace)) }
+    ensures fault { IfErr result IsOutOfMemoryOrThreads }
+{
+    let progress = Progress::through(audit, located)?;
+    progress.finish(audit)
 }
 
 impl Audited {
@@ -127,25 +151,24 @@ impl Audited {
     ) -> Result<Audited, Fault>
         requires { IsWorkerCount audit.now.workers.now.count }
         ensures tree { IfOk result (λ all. all.located.tree ≡ tree) }
+        ensures trace { IfOk result (λ all. all.located.trace ≡ trace) }
         ensures findings { IfOk result
-            (λ all. AreFound audit.now.options.now.shown.explanations tree all.located.trace
+            (λ all. AreFound audit.now.options.now.shown.explanations tree trace
             (versions_by audit.now.options.now trace) all.findings) }
         ensures few { IfOk result (λ all. number_of audit.now.options.now.abis.oldest
             + length all.findings < 2 ^ 64) }
-        ensures records { IfOk result (λ all. map about all.located.trace ≡ map about trace) }
         ensures fault { IfErr result IsOutOfMemoryOrThreads }
     {
         let located = audit.workers.located(tree, trace)?;
-        let progress = Progress::through(audit, located)?;
-        progress.finish(audit)
+        let findings = found_in(audit, &located)?;
+        Ok(Audited { located, findings })
     }
 }
 
 impl Audited {
     /// The report as text over the versions that the options ask for.
-    pub(crate) fn into_text<R: Threads + Sync>(
+    pub(crate) fn into_text(
         self,
-        rt: &R,
         alloc: Global,
         options: &Options,
     ) -> Result<RowReport<VersionRows>, AllocError>
@@ -159,13 +182,12 @@ impl Audited {
     {
         let Audited { located, findings } = self;
         let oldest = options.abis.oldest();
-        report_over(rt, alloc, located, findings, options.shown, oldest.number())
+        report_over(alloc, located, findings, options.shown, oldest.number())
     }
 
     /// The report as JSON over the versions that the options ask for.
-    pub(crate) fn into_json<R: Threads + Sync>(
+    pub(crate) fn into_json(
         self,
-        rt: &R,
         alloc: Global,
         options: &Options,
     ) -> Result<RowReport<JsonRows<'static>>, AllocError>
@@ -179,7 +201,6 @@ impl Audited {
         let Audited { located, findings } = self;
         let oldest = options.abis.oldest();
         json_report(
-            rt,
             alloc,
             located,
             findings,
@@ -188,30 +209,4 @@ impl Audited {
             VERSION,
         )
     }
-}
-
-/// A trace with the places that it names, as its rulesets are to be taken under a version.
-fn as_taken(located: Located, effort: Effort, abi: Abi) -> Located
-    ensures tree { result.tree ≡ located.tree }
-    ensures trace { result.trace ≡ taken effort abi located.trace }
-{
-    match effort {
-        Effort::AsRecorded => located,
-        Effort::Best => located.at_best_effort(abi),
-    }
-}
-
-/// A case of a trace under a version, as its rulesets are to be taken.
-pub(crate) fn case_under<R: Threads + Wait + Sync, G: Gate + Sync>(
-    audit: &Audit<'_, R, G>,
-    located: Located,
-    abi: Abi,
-) -> Result<Case, NoMemory>
-    ensures tree { IfOk result (λ case. case.tree ≡ located.tree) }
-    ensures records { IfOk result (λ case. case.records
-        ≡ taken audit.now.options.now.effort abi located.trace) }
-    ensures abi { IfOk result (λ case. case.abi ≡ abi) }
-{
-    let located = as_taken(located, audit.options.effort, abi);
-    Case::of_located(audit.workers.alloc, located, abi)
 }

@@ -2,13 +2,14 @@
 
 ghost use Rattle.std.specs.Prelude.{◌≡◌, IfOk, IfErr};
 ghost use Rattle.ll_semantics.specs.Worlds.{judged};
+ghost use Rattle.ll_process.specs.Cases.{IsCase, case_of};
 ghost use Rattle.ll_findings.specs.Findings.{judged_in};
 ghost use Rattle.ll_audit.specs.Causes.{IsOutOfMemoryOrThreads};
 ghost use Rattle.ll_audit.specs.Audits.{IsWorkerCount};
 
 use crate::fault::Fault;
 use ll_pool::{Gate, collect_whole, run};
-use ll_process::{Answer, Case};
+use ll_process::{Answer, Case, Settled};
 use ll_trace::{Located, ProcessId, Trace};
 use ll_tree::Tree;
 use std::alloc::{AllocError, Global};
@@ -35,7 +36,11 @@ impl<'a, R: Threads + Wait + Sync, G: Gate + Sync> Workers<'a, R, G> {
     }
 
     /// The answers to all records of a case, whose work is cut at these processes.
-    pub(crate) fn answers(&self, case: &Case, cuts: &[bool]) -> Result<Vec<Answer>, Fault>
+    pub(crate) fn answers<'c>(
+        &self,
+        case: &'c Case<'c>,
+        cuts: &[bool],
+    ) -> Result<Vec<Answer>, Fault>
         requires { IsWorkerCount self.now.count }
         ensures answers { IfOk result
             (λ answers. answers.items ≡ judged case.now.tree case.now.abi case.now.records) }
@@ -47,17 +52,21 @@ impl<'a, R: Threads + Wait + Sync, G: Gate + Sync> Workers<'a, R, G> {
     }
 }
 
-/// The answers to all records of a case, whose work is cut at these processes, by so many workers.
+/// The answers to all records of a case, whose work is cut at these processes, by so many workers. The case is that of
+/// a tree and a trace, and what was settled of them.
 pub(crate) fn answers_by<R: Threads + Wait + Sync, G: Gate + Sync>(
     rt: &R,
     alloc: Global,
     count: u64,
     gate: &G,
-    case: &Case,
+    located: &Located,
+    settled: &Settled,
     cuts: &[bool],
 ) -> Result<Vec<Answer>, Fault>
-    requires { IsWorkerCount count }
-    ensures answers { IfOk result (λ answers. answers.items ≡ judged_in case.now) }
+    requires count { IsWorkerCount count }
+    requires case { IsCase (case_of located.now settled.now) }
+    ensures answers { IfOk result
+        (λ answers. answers.items ≡ judged_in (case_of located.now settled.now)) }
     ensures fault { IfErr result IsOutOfMemoryOrThreads }
 {
     let workers = Workers {
@@ -66,7 +75,8 @@ pub(crate) fn answers_by<R: Threads + Wait + Sync, G: Gate + Sync>(
         count,
         gate,
     };
-    workers.answers(case, cuts)
+    let case = Case::of(located, settled);
+    workers.answers(&case, cuts)
 }
 
 /// A gate that lets every job through at once.

@@ -6,9 +6,9 @@ ghost use Rattle.ll_pool.specs.Gathered.{ArePiecesOf};
 use crate::stopwatch::Stopwatch;
 use anyhow::{Context, Result};
 use ll_pool::{Gate, collect, run};
-use ll_process::{Case, Piece};
+use ll_process::{Case, Piece, Settled};
 use ll_rights::Abi;
-use ll_trace::{ProcessId, Trace};
+use ll_trace::{Effort, Kernel, Located, ProcessId, Trace};
 use ll_tree::Tree;
 use std::fs;
 use std::rt::{Clock, Files};
@@ -80,29 +80,50 @@ fn on_tree<R: Clock + Files + Print + AllocGlobal + Threads + Wait + Sync>(
         .ok()
         .context("the trace")?;
     watch.lap("make the trace")?;
-    let case = Case::new(rt.alloc(), tree, trace, input.abi)
+    let places = Vec::new(rt.alloc());
+    let located = Located {
+        tree,
+        trace,
+        places,
+    };
+    settling(rt, watch, input, &located)
+}
+
+/// The stages from the rulebook to the answers.
+fn settling<R: Clock + Files + Print + AllocGlobal + Threads + Wait + Sync>(
+    rt: &R,
+    watch: &mut Stopwatch<'_, R>,
+    input: &Input<'_>,
+    located: &Located,
+) -> Result<()> {
+    let kernel = Kernel {
+        abi: input.abi,
+        effort: Effort::AsRecorded,
+    };
+    let settled = Settled::of(rt.alloc(), located, kernel)
         .ok()
         .context("the rulebook")?;
     watch.lap("make the rulebook")?;
+    let case = Case::of(located, &settled);
     judging(rt, watch, &case)?;
     collecting(rt, watch, &case)
 }
 
 /// The judging of a case by more and more workers.
-fn judging<R: Clock + Files + Print + AllocGlobal + Threads + Wait + Sync>(
+fn judging<'c, R: Clock + Files + Print + AllocGlobal + Threads + Wait + Sync>(
     rt: &R,
     watch: &mut Stopwatch<'_, R>,
-    case: &Case,
+    case: &'c Case<'c>,
 ) -> Result<()> {
     judging_by(rt, watch, case, 1, "judge with 1 worker")?;
     judging_by(rt, watch, case, 2, "judge with 2 workers")?;
     judging_by(rt, watch, case, 4, "judge with 4 workers")
 }
 
-fn judging_by<R: Clock + Files + Print + AllocGlobal + Threads + Wait + Sync>(
+fn judging_by<'c, R: Clock + Files + Print + AllocGlobal + Threads + Wait + Sync>(
     rt: &R,
     watch: &mut Stopwatch<'_, R>,
-    case: &Case,
+    case: &'c Case<'c>,
     workers: usize,
     stage: &str,
 ) -> Result<()>
@@ -115,10 +136,10 @@ fn judging_by<R: Clock + Files + Print + AllocGlobal + Threads + Wait + Sync>(
 }
 
 /// The collecting of the pieces of one worker.
-fn collecting<R: Clock + Files + Print + AllocGlobal + Threads + Wait + Sync>(
+fn collecting<'c, R: Clock + Files + Print + AllocGlobal + Threads + Wait + Sync>(
     rt: &R,
     watch: &mut Stopwatch<'_, R>,
-    case: &Case,
+    case: &'c Case<'c>,
 ) -> Result<()> {
     let pieces = pieces_by(rt, case, 1)?;
     watch.restart()?;
@@ -141,7 +162,7 @@ impl Gate for Open {
 /// The pieces of a case, judged by this many workers, with a cut at each fork.
 fn pieces_by<'c, R: AllocGlobal + Threads + Wait + Sync>(
     rt: &R,
-    case: &'c Case,
+    case: &'c Case<'c>,
     workers: usize,
 ) -> Result<Vec<Piece<'c>>>
     requires { (1 ≤ workers) × (workers ≤ 64) }

@@ -6,5 +6,5 @@ pub mod NodeTexts
 pub mod LinesSaid
 pub mod PathsSpelt
 pub mod ConditionsSaid
-pub mod SaidLater
+pub mod SaidAsRead
 pub mod FindingSays

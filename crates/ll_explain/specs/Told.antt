@@ -1,4 +1,4 @@
--- The text of an explanation as a value, by the tree and the records at hand.
+-- The text of an explanation as a value, by the tree and the records.
 -- Source: docs/FORMATS.md, "Explanations".
 use Rattle.std.specs.Prelude.{ℕ, List, [], Option, Some, None, option_map}
 use Rattle.ll_tree.specs.Trees.{Entry}

@@ -13,18 +13,19 @@ ghost use Rattle.ll_reasons.specs.Conditions.{unhandled, unknown};
 ghost use Rattle.ll_reasons.specs.Explanations.{failure, mootness, nothing, objections};
 ghost use Rattle.ll_reasons.specs.Objections.{closed, gained, kept, missing};
 ghost use Rattle.ll_reasons.specs.Reasons.{absent, unsupported, unenforced};
-ghost use Rattle.ll_process.specs.TakenLater.{AreTakenLater};
+ghost use Rattle.ll_findings.specs.TakenRecords.{AreTaken};
 ghost use Rattle.ll_findings.specs.Findings.{FindingValue, Finds};
 ghost use Rattle.ll_explain.specs.{Explained.text_at, Told.text_told, Words.explanation_text};
 
-/// A finding says of each record what the definitions say, also by the records as an older version takes them. One
+/// A finding says of each record what the definitions say, also by the records of the trace that a kernel has
+/// taken. One
 /// that keeps no explanations says nothing.
 #[tactic(auto, using(crate::proofs::FindingSays::said_as_judged))]
 pub fn findings_say_what_is_judged()
     ensures { (explains : Bool) (tree : List Entry) (abi : Version)
-        (records later : List OneRecord) (finding : FindingValue)
-        → Finds explains tree abi records finding → AreTakenLater later records → (index : ℕ)
-        → text_told tree later finding index
+        (records trace : List OneRecord) (finding : FindingValue)
+        → Finds explains tree abi records finding → AreTaken trace records → (index : ℕ)
+        → text_told tree trace finding index
         ≡ (if explains then text_at tree abi records index else []) }
 {}
 

@@ -27,3 +27,10 @@ IsAsked tree (Moving request error) = IsMoveRequest tree request
 unfoldable pub objecting : Unit {0}
 unfolding Rattle.ll_reasons.specs.Explanations.objections_to objected Rattle.ll_rights.specs.Rights.only Rattle.ll_rights.specs.NetRights.only
 objecting = tt
+
+-- All that unfolds when no layer is asked.
+unfoldable pub unasked : Unit {0}
+unfolding
+    objecting Rattle.ll_explanations.specs.Meanings.by_layer Rattle.ll_reasons.specs.Objections.to_request
+    Rattle.ll_semantics.specs.Requests.wanted
+unasked = tt

@@ -19,7 +19,7 @@ use ll_rights::{FsRight, Net};
 use ll_rules::{Errno, LayerSet, Move};
 use ll_semantics::{Wanted, wanted};
 use ll_state::{asks, link_move, place_of, rename_move};
-use ll_trace::{Op, PathText};
+use ll_trace::{Call, Op, PathText, Seen};
 use ll_tree::Place;
 use std::alloc::{AllocError, Global};
 
@@ -78,10 +78,10 @@ fn to_move(alloc: Global, ctx: &Confinement, asked: Option<Move>, error: Errno) 
     objections_of(alloc, ctx, &Asked::Moving(request, error))
 }
 
-/// What the layers of a process that refuse a call object to. The call's error says what is looked at for a move, and
+/// What the layers of a process object to that refuse a call which no kernel changes. The call's error says what is looked at for a move, and
 /// the numbers of the layers for a call on a descriptor. The place of its first path may be known.
 #[tactic(auto, unfolding(crate::specs::Asking::objecting))]
-pub(crate) fn objections_to(
+fn objections_to_other(
     alloc: Global,
     ctx: &Confinement,
     op: &Op,
@@ -115,5 +115,32 @@ pub(crate) fn objections_to(
             objections_of(alloc, ctx, &Asked::OnPort(*port, Net::CONNECT_TCP))
         }
         _ => to_request(alloc, ctx, op, known),
+    }
+}
+
+/// What the layers of a process that refuse a call object to. They refuse no call that makes a ruleset.
+#[tactic(auto, unfolding(crate::specs::Asking::unasked, ll_trace::specs::Borrowed::meant))]
+pub(crate) fn objections_to(
+    alloc: Global,
+    ctx: &Confinement,
+    seen: &Seen<'_>,
+    error: Errno,
+    numbers: LayerSet,
+    known: Option<Place>,
+) -> Objected
+    requires { IfSome known (λ one. one ≡ first_place ctx.now.tree.now seen.now) }
+    ensures said { IfOk result (λ all. by_layer ctx.now.tree.now all.items
+        ≡ objections_to ctx.now.tree.now (stacked ctx.now)
+        (followed ctx.now.trail.now) seen.now error numbers) }
+    ensures made { IfOk result (λ all. All (IsMade ctx.now.trail.now.layers.items) all.items) }
+{
+    match seen.call() {
+        Call::Other(op) => objections_to_other(alloc, ctx, op, error, numbers, known),
+        Call::Create { .. } => Ok(Vec::new(alloc)),
+        Call::CreateEmpty { .. } => Ok(Vec::new(alloc)),
+        Call::AddPath { .. } => Ok(Vec::new(alloc)),
+        Call::AddPort { .. } => Ok(Vec::new(alloc)),
+        Call::LeaveOutPath { .. } => Ok(Vec::new(alloc)),
+        Call::LeaveOutPort => Ok(Vec::new(alloc)),
     }
 }

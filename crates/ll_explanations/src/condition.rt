@@ -1,11 +1,12 @@
 //! Why a call fails by no layer, as a value.
 
-ghost use Rattle.std.specs.Prelude.{◌≡◌, ◌&&◌, if◌then◌else◌, not, option_and_then, option_map, slice_get};
+ghost use Rattle.std.specs.Prelude.{◌≡◌, ◌&&◌, List, false, if◌then◌else◌, not, option_and_then, option_map, slice_get};
 ghost use Rattle.std.specs.FinMap.{get};
 ghost use Rattle.ll_rights.specs.CodeRights.{net_right};
 ghost use Rattle.ll_rights.specs.Rights as files;
 ghost use Rattle.ll_rights.specs.NetRights as network;
-ghost use Rattle.ll_trace.specs.declared.op.Op.{Op};
+ghost use Rattle.ll_trace.specs.declared.{op.Op.Op, op.Record.Record as OneRecord};
+ghost use Rattle.ll_trace.specs.Borrowed.{is_of_rights};
 ghost use Rattle.ll_reasons.specs.Conditions as conditions;
 ghost use Rattle.ll_reasons.specs.Conditions.{handled, handled_on_ports};
 ghost use Rattle.ll_reasons.specs.Origins.{Origins};
@@ -14,10 +15,10 @@ ghost use Rattle.ll_explanations.specs.Meanings.{condition_in};
 ghost use Rattle.ll_reasons.specs.{Meant.text_named, declared.why.Which.TheVariants.First};
 
 use crate::missing::{Test, passing};
-use ll_process::CaseView;
+use ll_process::Case;
 use ll_rights::{Abi, Fs, Net, NetRight};
 use ll_rules::Errno;
-use ll_trace::Op;
+use ll_trace::{Call, Op, Seen};
 use ll_trails::ProcessOrigins;
 
 /// Why a call fails by no layer. Each variant stands for the condition of the same name in the definitions.
@@ -80,25 +81,42 @@ fn beyond_on_ports(rights: Net, whole: Net) -> Net
 }
 
 /// The call of the record that created the ruleset which a number of a process names.
-fn creation<'t>(case: &'t CaseView<'_>, trail: &ProcessOrigins, rs: u64) -> Option<&'t Op>
-    ensures { option_map (λ op. op.now) result ≡ option_map (λ r. r.op)
+fn creation<'t>(case: &Case<'t>, trail: &ProcessOrigins, rs: u64) -> Option<Seen<'t>>
+    ensures { result ≡ option_map (λ r. r.op)
         (option_and_then (slice_get case.now.records) (get trail.now.rulesets rs)) }
 {
     let index = *trail.rulesets.get(rs)?;
     case.op(index as usize)
 }
 
+/// The rights for files and those for ports that a ruleset handles which a call creates.
+#[tactic(auto, unfolding(ll_trace::specs::Borrowed::meant, ll_trace::specs::Borrowed::is_of_rights))]
+fn handled_by(seen: &Seen<'_>) -> (Fs, Net)
+    ensures files { result.0 ≡ conditions.handled_by seen.now }
+    ensures ports { result.1 ≡ conditions.handled_on_ports_by seen.now }
+{
+    match seen.call() {
+        Call::Create { fs, net, .. } => (fs, net),
+        Call::CreateEmpty { .. } => (Fs::NONE, Net::NONE),
+        Call::AddPath { .. } => (Fs::NONE, Net::NONE),
+        Call::AddPort { .. } => (Fs::NONE, Net::NONE),
+        Call::LeaveOutPath { .. } => (Fs::NONE, Net::NONE),
+        Call::LeaveOutPort => (Fs::NONE, Net::NONE),
+        Call::Other(_) => (Fs::NONE, Net::NONE),
+    }
+}
+
 /// The rights for files and those for ports that a ruleset of a process handles.
 #[tactic(auto, unfolding(ll_reasons::specs::Conditions::handled, ll_reasons::specs::Conditions::handled_on_ports))]
-fn handled(case: &CaseView<'_>, trail: &ProcessOrigins, rs: u64) -> (Fs, Net)
+fn handled(case: &Case<'_>, trail: &ProcessOrigins, rs: u64) -> (Fs, Net)
     ensures files { (o : Origins) → Follows trail.now o
         → result.0 ≡ handled case.now.records o rs }
     ensures ports { (o : Origins) → Follows trail.now o
         → result.1 ≡ handled_on_ports case.now.records o rs }
 {
     match creation(case, trail, rs) {
-        Some(Op::Create { fs, net, .. }) => (*fs, *net),
-        _ => (Fs::NONE, Net::NONE),
+        Some(seen) => handled_by(&seen),
+        None => (Fs::NONE, Net::NONE),
     }
 }
 
@@ -153,35 +171,94 @@ fn unknown(abi: Abi, fs: Fs) -> Condition
     Condition::Unknown(abi, beyond(fs, abi.fs()))
 }
 
-/// The condition of an error that a call fails with by no layer.
+/// The condition of an error that a `create` fails with.
 #[tactic(auto, unfolding(crate::specs::Meanings::failing))]
+fn of_create(abi: Abi, fs: Fs, error: Errno) -> Condition
+    ensures { (op : Op) → condition_in op result ≡ conditions.of_create abi fs error }
+{
+    match error {
+        Errno::TooBig => Condition::Portless(abi),
+        Errno::Inval => unknown(abi, fs),
+        Errno::NoMsg => Condition::Rightless,
+        _ => Condition::Other,
+    }
+}
+
+/// The condition of an error that an `add_path` fails with, in a ruleset that handles `whole`.
+#[tactic(auto, unfolding(crate::specs::Meanings::failing))]
+fn of_add_path(rs: u64, fs: Fs, whole: Fs, error: Errno) -> Condition
+    ensures { (op : Op) → condition_in op result
+        ≡ conditions.of_add_path rs (text_named op First) fs whole error }
+{
+    match error {
+        Errno::BadFd => Condition::Unheld(rs),
+        Errno::NoMsg => Condition::Rightless,
+        Errno::Inval => invalid_on_path(fs, whole),
+        _ => Condition::Other,
+    }
+}
+
+/// The condition of an error that an `add_port` fails with, in a ruleset that handles `whole`.
+#[tactic(auto, unfolding(crate::specs::Meanings::failing))]
+fn of_add_port(abi: Abi, rs: u64, port: u64, net: Net, whole: Net, error: Errno) -> Condition
+    ensures { (op : Op) → condition_in op result
+        ≡ conditions.of_add_port abi rs port net whole error }
+{
+    match error {
+        Errno::BadFd => Condition::Unheld(rs),
+        Errno::NoMsg => Condition::Rightless,
+        Errno::Inval => invalid_on_port(abi, port, net, whole),
+        _ => Condition::Other,
+    }
+}
+
+/// The condition of an error that a `restrict` fails with.
+#[tactic(auto, unfolding(crate::specs::Meanings::failing))]
+fn of_restrict(rs: u64, error: Errno) -> Condition
+    ensures { (op : Op) → condition_in op result ≡ conditions.of_restrict rs error }
+{
+    match error {
+        Errno::Perm => Condition::Unprivileged,
+        Errno::BadFd => Condition::Unheld(rs),
+        Errno::TooBig => Condition::Full,
+        _ => Condition::Other,
+    }
+}
+
+/// The condition of an error that a call fails with which no kernel changes.
+#[tactic(auto, unfolding(crate::specs::Meanings::failing, ll_trace::specs::Borrowed::is_of_rights))]
+fn of_other(abi: Abi, op: &Op, error: Errno) -> Condition
+    requires { is_of_rights op.now ≡ false }
+    ensures { (records : List OneRecord) (o : Origins)
+        → condition_in op.now result ≡ conditions.condition abi records o op.now error }
+{
+    match op {
+        Op::Restrict { rs } => of_restrict(*rs, error),
+        _ => Condition::Other,
+    }
+}
+
+/// The condition of an error that a call fails with by no layer.
+#[tactic(auto, unfolding(crate::specs::Meanings::failing, ll_trace::specs::Borrowed::meant))]
 pub(crate) fn condition_of(
-    case: &CaseView<'_>,
+    case: &Case<'_>,
     trail: &ProcessOrigins,
     abi: Abi,
-    op: &Op,
+    seen: &Seen<'_>,
     error: Errno,
 ) -> Condition
-    ensures { (o : Origins) → Follows trail.now o
-        → condition_in op.now result ≡ conditions.condition abi case.now.records o op.now error }
+    ensures { (o : Origins) → Follows trail.now o → condition_in seen.now result
+        ≡ conditions.condition abi case.now.records o seen.now error }
 {
-    match (op, error) {
-        (Op::Create { .. }, Errno::TooBig) => Condition::Portless(abi),
-        (Op::Create { fs, .. }, Errno::Inval) => unknown(abi, *fs),
-        (Op::Create { .. } | Op::AddPath { .. } | Op::AddPort { .. }, Errno::NoMsg) => {
-            Condition::Rightless
+    match seen.call() {
+        Call::Create { fs, .. } => of_create(abi, fs, error),
+        Call::AddPath { rs, fs, .. } => of_add_path(rs, fs, handled(case, trail, rs).0, error),
+        Call::AddPort { rs, port, net } => {
+            of_add_port(abi, rs, port, net, handled(case, trail, rs).1, error)
         }
-        (Op::AddPath { rs, .. } | Op::AddPort { rs, .. } | Op::Restrict { rs }, Errno::BadFd) => {
-            Condition::Unheld(*rs)
-        }
-        (Op::AddPath { rs, fs, .. }, Errno::Inval) => {
-            invalid_on_path(*fs, handled(case, trail, *rs).0)
-        }
-        (Op::AddPort { rs, port, net }, Errno::Inval) => {
-            invalid_on_port(abi, *port, *net, handled(case, trail, *rs).1)
-        }
-        (Op::Restrict { .. }, Errno::Perm) => Condition::Unprivileged,
-        (Op::Restrict { .. }, Errno::TooBig) => Condition::Full,
-        _ => Condition::Other,
+        Call::CreateEmpty { .. } => Condition::Other,
+        Call::LeaveOutPath { .. } => Condition::Other,
+        Call::LeaveOutPort => Condition::Other,
+        Call::Other(op) => of_other(abi, op, error),
     }
 }

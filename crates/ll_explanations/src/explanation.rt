@@ -11,11 +11,11 @@ use crate::condition::{Condition, condition_of};
 use crate::confinement::Confinement;
 use crate::mootness::reason_of;
 use crate::objection::LayerObjections;
-use ll_process::CaseView;
+use ll_process::Case;
 use ll_reasons::Reason;
 use ll_rules::{Errno, LayerSet, NoMemory};
 use ll_semantics::Answer;
-use ll_trace::Op;
+use ll_trace::Seen;
 use ll_trails::{ProcessOrigins, TraceOrigins, domain_of};
 use std::alloc::Global;
 
@@ -47,48 +47,48 @@ impl Explanation {
 }
 
 /// The call of the record at an index, and the origins of its process; the record isn't the process's first.
-fn found_at<'t>(
-    case: &'t CaseView<'_>,
+fn found_at<'c, 't>(
+    case: &Case<'c>,
     trails: &'t TraceOrigins,
     index: usize,
     answer: Answer,
-) -> (&'t Op, &'t ProcessOrigins)
+) -> (Seen<'c>, &'t ProcessOrigins)
     requires answer { IsAnswerAt case.now index answer }
     requires known { answer ≢ Allowed }
     requires trails { AreTrailsAt case.now index trails.now }
     ensures case { IsCase case.now }
-    ensures found { IsFoundAt case.now index result.0.now result.1.now }
+    ensures found { IsFoundAt case.now index result.0 result.1.now }
 {
-    let (op, process) = case.call(index);
-    (op, trails.of(process))
+    let (seen, process) = case.call(index);
+    (seen, trails.of(process))
 }
 
 /// Why a moot record isn't asked about.
-fn moot(case: &CaseView<'_>, trails: &TraceOrigins, index: usize) -> Explanation
+fn moot(case: &Case<'_>, trails: &TraceOrigins, index: usize) -> Explanation
     requires answer { IsAnswerAt case.now index Moot }
     requires trails { AreTrailsAt case.now index trails.now }
     ensures { Explains case.now index Moot result }
 {
-    let (op, trail) = found_at(case, trails, index, Answer::Moot);
+    let (seen, trail) = found_at(case, trails, index, Answer::Moot);
     let known = case.known_place(index);
-    Explanation::Mootness(reason_of(case.tree(), trail, op, known))
+    Explanation::Mootness(reason_of(case.tree(), trail, &seen, known))
 }
 
 /// Why a record is refused by no layer.
-fn failed(case: &CaseView<'_>, trails: &TraceOrigins, index: usize, error: Errno) -> Explanation
+fn failed(case: &Case<'_>, trails: &TraceOrigins, index: usize, error: Errno) -> Explanation
     requires answer { IsAnswerAt case.now index (Refused error []) }
     requires trails { AreTrailsAt case.now index trails.now }
     ensures { Explains case.now index (Refused error []) result }
 {
     let answer = Answer::Refused(error, LayerSet::new());
-    let (op, trail) = found_at(case, trails, index, answer);
-    Explanation::Failure(condition_of(case, trail, case.abi(), op, error))
+    let (seen, trail) = found_at(case, trails, index, answer);
+    Explanation::Failure(condition_of(case, trail, case.abi(), &seen, error))
 }
 
 /// What the layers that refuse a record object to.
 fn refused(
     alloc: Global,
-    case: &CaseView<'_>,
+    case: &Case<'_>,
     trails: &TraceOrigins,
     index: usize,
     error: Errno,
@@ -99,7 +99,7 @@ fn refused(
     requires trails { AreTrailsAt case.now index trails.now }
     ensures { IfOk result (Explains case.now index (Refused error numbers)) }
 {
-    let (op, trail) = found_at(case, trails, index, Answer::Refused(error, numbers));
+    let (seen, trail) = found_at(case, trails, index, Answer::Refused(error, numbers));
     let domain = domain_of(alloc, case, trail)?;
     let ctx = Confinement {
         trail,
@@ -108,7 +108,7 @@ fn refused(
         domain: &domain,
     };
     let known = case.known_place(index);
-    let all = objections_to(alloc, &ctx, op, error, numbers, known)?;
+    let all = objections_to(alloc, &ctx, &seen, error, numbers, known)?;
     Ok(Explanation::Objections(LayerObjections { all }))
 }
 
@@ -116,7 +116,7 @@ fn refused(
 /// An error says that memory ran out.
 pub fn explain(
     alloc: Global,
-    case: &CaseView<'_>,
+    case: &Case<'_>,
     trails: &TraceOrigins,
     index: usize,
     answer: Answer,

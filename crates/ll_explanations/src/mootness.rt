@@ -1,8 +1,8 @@
 //! Why a call is moot.
 
-ghost use Rattle.std.specs.Prelude.{◌≡◌, if◌then◌else◌, IfSome, is_some, option_map};
+ghost use Rattle.std.specs.Prelude.{◌≡◌, false, if◌then◌else◌, IfSome, is_some, option_map};
 ghost use Rattle.ll_tree.specs.Trees.{place};
-ghost use Rattle.ll_trace.specs.{declared.op.Op.Op, FirstPlaces.first_place};
+ghost use Rattle.ll_trace.specs.{declared.op.Op.Op, FirstPlaces.first_place, Borrowed.is_of_rights};
 ghost use Rattle.ll_semantics.specs.Requests.{wanted};
 ghost use Rattle.ll_reasons.specs.declared.why.Which.TheVariants.{First};
 ghost use Rattle.ll_reasons.specs.Meant.{path_named, reason_in, text_named};
@@ -10,9 +10,9 @@ ghost use Rattle.ll_reasons.specs.Origins.{Origins};
 ghost use Rattle.ll_reasons.specs.Reasons.{no_object, not_for_writing, open_already, reason, spelt, unmet, unopened};
 ghost use Rattle.ll_trails.specs.TraceOrigins.{Follows, opened};
 
-use ll_reasons::{Reason, no_object, unlinked, unmet, unrenamed};
+use ll_reasons::{Reason, no_object, no_object_at, unlinked, unmet, unrenamed};
 use ll_semantics::wanted;
-use ll_trace::{Op, wants_at_a_path};
+use ll_trace::{Call, Op, Seen, wants_at_a_path};
 use ll_trails::ProcessOrigins;
 use ll_tree::{Place, Tree};
 
@@ -62,33 +62,30 @@ fn reason_at_path(tree: &Tree, op: &Op, known: Option<Place>) -> Option<Reason>
     Some(unmet(tree, op, wanted, known))
 }
 
-/// Why a call is moot, and None for a call that never is. The place of its first path may be known, except that of a
-/// rule's path.
-#[tactic(auto, unfolding(crate::specs::Meanings::mooting))]
-pub(crate) fn reason_of(
+/// Why a call is moot that no kernel changes, and None for a call that never is. The place of its first path may be
+/// known.
+#[tactic(auto, unfolding(crate::specs::Meanings::mooting, ll_trace::specs::Borrowed::is_of_rights))]
+fn reason_of_other(
     tree: &Tree,
     trail: &ProcessOrigins,
     op: &Op,
     known: Option<Place>,
 ) -> Option<Reason>
-    requires { IfSome known (λ one. one ≡ first_place tree.now op.now) }
+    requires other { is_of_rights op.now ≡ false }
+    requires known { IfSome known (λ one. one ≡ first_place tree.now op.now) }
     ensures { (o : Origins) → Follows trail.now o
         → option_map (reason_in op.now) result ≡ reason tree.now o op.now }
 {
     match op {
-        Op::Create { rs, .. } | Op::CreateEmpty { rs } => Some(Reason::HeldAlready(*rs)),
-        Op::LeaveOutPath { .. } | Op::LeaveOutPort => Some(Reason::Unsupported),
         Op::Restrict { .. } => Some(Reason::Unenforced),
         Op::CloseRs { rs } => Some(Reason::Unheld(*rs)),
         Op::OpenFile { fd, .. } => Some(not_opened(tree, trail, op, *fd, known)),
         Op::Adopt { fd, .. } => Some(Reason::OpenAlready(*fd)),
         Op::Dup { fd, .. } | Op::Close { fd } | Op::Ioctl { fd, .. } => Some(Reason::Unopened(*fd)),
         Op::Ftruncate { fd } => Some(not_truncated(trail, *fd)),
-        Op::AddPath { .. } => Some(no_object(tree, op, None)),
         Op::Rename { exchange, .. } => Some(unrenamed(tree, op, *exchange, known)),
         Op::Link { .. } => Some(unlinked(tree, op, known)),
         wants_at_a_path!()
-        | Op::AddPort { .. }
         | Op::Start { .. }
         | Op::Fork { .. }
         | Op::Exit
@@ -96,5 +93,35 @@ pub(crate) fn reason_of(
         | Op::Mount
         | Op::Bind { .. }
         | Op::Connect { .. } => reason_at_path(tree, op, known),
+        Op::Create { .. }
+        | Op::CreateEmpty { .. }
+        | Op::AddPath { .. }
+        | Op::AddPort { .. }
+        | Op::LeaveOutPath { .. }
+        | Op::LeaveOutPort => unreachable!(),
+    }
+}
+
+/// Why a call is moot, and None for a call that never is. The place of its first path may be known, except that of a
+/// rule's path.
+#[tactic(auto, unfolding(crate::specs::Meanings::mooting, ll_trace::specs::Borrowed::meant, ll_semantics::specs::Requests::wanted))]
+pub(crate) fn reason_of(
+    tree: &Tree,
+    trail: &ProcessOrigins,
+    seen: &Seen<'_>,
+    known: Option<Place>,
+) -> Option<Reason>
+    requires { IfSome known (λ one. one ≡ first_place tree.now seen.now) }
+    ensures { (o : Origins) → Follows trail.now o
+        → option_map (reason_in seen.now) result ≡ reason tree.now o seen.now }
+{
+    match seen.call() {
+        Call::Create { rs, .. } => Some(Reason::HeldAlready(rs)),
+        Call::CreateEmpty { rs } => Some(Reason::HeldAlready(rs)),
+        Call::AddPath { path, .. } => Some(no_object_at(tree, path)),
+        Call::AddPort { .. } => None,
+        Call::LeaveOutPath { .. } => Some(Reason::Unsupported),
+        Call::LeaveOutPort => Some(Reason::Unsupported),
+        Call::Other(op) => reason_of_other(tree, trail, op, known),
     }
 }

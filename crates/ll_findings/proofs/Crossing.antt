@@ -4,7 +4,7 @@ use denote.Param.Send.{IsSend, sendable, recorded_send, struct_send}
 use denote.Struct.Declared.{shape}
 use Rattle.std.proofs.Crossing.{crosses}
 use Rattle.ll_semantics.proofs.answer.Answer.TheSendSync as answer
-use Rattle.ll_process.proofs.Crossing.{view_sync}
+use Rattle.ll_process.proofs.Crossing.{case_sync}
 use Rattle.ll_trails.proofs.Crossing.{origins_send}
 use Rattle.ll_findings.proofs.finding.Finding.TheSendSync as finding
 use Rattle.ll_findings.specs.contracts.stretch.Stretch as Stretch
@@ -13,7 +13,7 @@ pub stretch_send : (a : NamedLft) → IsSend (Stretch.the_row a)
 stretch_send a =
     recorded_send (Stretch.the_field a).row _ _ (Stretch.the_type a).to_one
     (struct_send (shape (Stretch.the_type a)) (
-      search (view_sync, sendable) depth 20,
+      search (case_sync, sendable) depth 20,
       (
         search (answer.the_sync, crosses, sendable) depth 40,
         (

@@ -10,9 +10,9 @@ use Rattle.ll_semantics.specs.Worlds.{judged}
 use Rattle.ll_findings.specs.Findings.{FindingValue, Finds, Tells, kept_at, said_by, said_in}
 use Rattle.ll_findings.specs.Kept.{if_said, kept_of}
 use Rattle.ll_explanations.specs.Explained.{is_silent}
-use Rattle.ll_process.specs.TakenLater.{AreTakenLater}
+use Rattle.ll_findings.specs.TakenRecords.{AreTaken}
 use Rattle.ll_explanations.specs.declared.explanation.Explanation.{Explanation}
-use Rattle.ll_process.proofs.TakenLater.{later_there}
+use Rattle.ll_findings.proofs.TakenRecords.{read_there}
 use Rattle.ll_findings.proofs.SamePaths.{explanation_same}
 
 kept_is_said : (l : Record) (e : Explanation) → said_by (Some l) (kept_of e) ≡ if_said e (l.op, e)
@@ -21,11 +21,11 @@ kept_is_said l e = go (is_silent e) where
   go true = refl
   go false = refl
 
-pub tells : (tree : List Entry) (abi : Abi) (records later : List Record) (finding : FindingValue) → Finds true tree abi records finding
-    → AreTakenLater later records → (index : ℕ) (r : Record) (answer : Answer) → slice_get records index ≡ Some r
-    → slice_get (judged tree abi records) index ≡ Some answer → Tells tree abi records index answer r (said_in later finding index)
-tells tree abi records later finding finds are index r answer read answered =
-    let there = later_there later records are index r read in
+pub tells : (tree : List Entry) (abi : Abi) (records trace : List Record) (finding : FindingValue) → Finds true tree abi records finding
+    → AreTaken trace records → (index : ℕ) (r : Record) (answer : Answer) → slice_get records index ≡ Some r
+    → slice_get (judged tree abi records) index ≡ Some answer → Tells tree abi records index answer r (said_in trace finding index)
+tells tree abi records trace finding finds are index r answer read answered =
+    let there = read_there trace records are index r read in
     let within : index < length finding.explanations = subst (λ (n : ℕ). index < n) (sym finds.as_many) (slice_get_within records index r read) in
     elim ((slice_get_cases finding.explanations index).1) [
       | inl found ↦
@@ -49,7 +49,7 @@ none_kept : (all : List (Option Explanation)) (index : ℕ) → length all ≡ 0
 none_kept [] index none = refl
 none_kept (one ∷ more) index none = absurd (omega (arith, none))
 
-pub tells_nothing : (tree : List Entry) (abi : Abi) (records later : List Record) (finding : FindingValue) → Finds false tree abi records finding
-    → (index : ℕ) → said_in later finding index ≡ None
-tells_nothing tree abi records later finding finds index =
-    ap (said_by (slice_get later index)) (none_kept finding.explanations index finds.as_many) ∙ nothing_said (slice_get later index)
+pub tells_nothing : (tree : List Entry) (abi : Abi) (records trace : List Record) (finding : FindingValue) → Finds false tree abi records finding
+    → (index : ℕ) → said_in trace finding index ≡ None
+tells_nothing tree abi records trace finding finds index =
+    ap (said_by (slice_get trace index)) (none_kept finding.explanations index finds.as_many) ∙ nothing_said (slice_get trace index)

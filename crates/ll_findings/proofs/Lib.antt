@@ -8,5 +8,6 @@ pub mod Stretching
 pub mod Crossing
 -- what a finding tells, and which records are marked
 mod SamePaths
+pub mod TakenRecords
 pub mod FindingTells
 pub mod Marking

@@ -76,7 +76,7 @@ answer_in finding index = unwrap_or (slice_get finding.answers index) Moot
 abbrev pub kept_at : FindingValue → ℕ → Option Explanation
 kept_at finding index = unwrap_or (slice_get finding.explanations index) None
 
--- the call of the record at hand with its explanation
+-- the call of a record with its explanation
 abbrev pub said_by : Option Record → Option Explanation → Option (Op × Explanation)
 said_by (Some r) (Some e) = Some (r.op, e)
 said_by (Some r) None = None
@@ -89,7 +89,7 @@ answer_over base changes index = unwrap_or (change_at index changes.indices chan
 abbrev pub kept_over : FindingValue → ChangesValue → ℕ → Option Explanation
 kept_over base changes index = unwrap_or (change_at index changes.indices changes.found.explanations) (kept_at base index)
 
--- the call and the explanation of the record at an index, by the records at hand
+-- the call and the explanation of the record at an index, by all records
 abbrev pub said_in : List Record → FindingValue → ℕ → Option (Op × Explanation)
 said_in records finding index = said_by (slice_get records index) (kept_at finding index)
 

@@ -3,3 +3,4 @@ pub mod Overlays
 pub mod Findings
 pub mod Alike
 pub mod Stretches
+pub mod TakenRecords

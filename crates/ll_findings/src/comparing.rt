@@ -15,7 +15,7 @@ use crate::finding::Finding;
 use crate::found::Found;
 use crate::stretch::Stretch;
 use crate::stretches::{answer_at, cut_all, explain_one, stretches_of};
-use ll_process::CaseView;
+use ll_process::Case;
 use ll_rules::NoMemory;
 use ll_semantics::Answer;
 use ll_trails::TraceOrigins;
@@ -29,7 +29,7 @@ type Comparing = Result<Changes, NoMemory>;
 /// What is found of the records from an index on, up to another, otherwise than in a base.
 fn compare_from(
     alloc: Global,
-    case: &CaseView<'_>,
+    case: &Case<'_>,
     answers: &[Answer],
     newer: Option<&Finding>,
     base: &Found,
@@ -112,7 +112,7 @@ fn join_changes(alloc: Global, parts: Vec<Comparing>) -> Comparing
 pub(crate) fn compare_all<R: Threads + Sync>(
     rt: &R,
     alloc: Global,
-    case: &CaseView<'_>,
+    case: &Case<'_>,
     answers: &[Answer],
     newer: &Finding,
     base: &Found,

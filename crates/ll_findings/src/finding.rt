@@ -16,7 +16,7 @@ use crate::marks::{mark_all, mark_differing};
 use crate::overlay::overlaid;
 use crate::stretches::explain_all;
 use ll_explanations::Explanation;
-use ll_process::CaseView;
+use ll_process::Case;
 use ll_rules::NoMemory;
 use ll_semantics::Answer;
 use ll_trace::{Op, Record};
@@ -50,7 +50,7 @@ impl Finding {
     pub fn of<R: Threads + Sync>(
         rt: &R,
         alloc: Global,
-        case: &CaseView<'_>,
+        case: &Case<'_>,
         answers: Vec<Answer>,
         explains: bool,
         workers: usize,
@@ -71,7 +71,7 @@ impl Finding {
         &self,
         rt: &R,
         alloc: Global,
-        case: &CaseView<'_>,
+        case: &Case<'_>,
         answers: Vec<Answer>,
         explains: bool,
         marks: &mut Vec<bool>,

@@ -6,7 +6,7 @@ ghost use Rattle.ll_findings.specs.Alike.{AreAlike};
 ghost use Rattle.ll_findings.specs.Findings.{StandsInFront};
 
 use crate::finding::Finding;
-use ll_process::CaseView;
+use ll_process::Case;
 use ll_rules::NoMemory;
 use ll_semantics::Answer;
 use std::alloc::{AllocError, Global};
@@ -59,7 +59,7 @@ impl Findings {
         self,
         rt: &R,
         alloc: Global,
-        case: &CaseView<'_>,
+        case: &Case<'_>,
         answers: Vec<Answer>,
         explains: bool,
         workers: usize,

@@ -16,4 +16,4 @@ mod stretches;
 
 pub use finding::Finding;
 pub use findings::Findings;
-pub use laws::{findings_tell_what_is_judged, records_are_taken_later};
+pub use laws::{findings_tell_what_is_judged, records_are_taken};

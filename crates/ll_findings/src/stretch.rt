@@ -5,7 +5,7 @@ ghost use Rattle.ll_semantics.specs.Worlds.{judged};
 ghost use Rattle.ll_trails.specs.CaseTrails.{AreTrailsAt};
 
 use crate::finding::Finding;
-use ll_process::CaseView;
+use ll_process::Case;
 use ll_semantics::Answer;
 use ll_trails::TraceOrigins;
 use std::alloc::Global;
@@ -14,7 +14,7 @@ use std::alloc::Global;
 /// processes have before the first of these records.
 #[derive(Drop)]
 pub(crate) struct Stretch<'a> {
-    pub(crate) case: &'a CaseView<'a>,
+    pub(crate) case: &'a Case<'a>,
     pub(crate) answers: &'a [Answer],
     pub(crate) newer: Option<&'a Finding>,
     pub(crate) trails: TraceOrigins,
@@ -30,7 +30,7 @@ impl<'a> Stretch<'a> {
     /// All records of a case.
     pub(crate) fn whole(
         alloc: Global,
-        case: &'a CaseView<'a>,
+        case: &'a Case<'a>,
         answers: &'a [Answer],
         newer: Option<&'a Finding>,
     ) -> Stretch<'a>

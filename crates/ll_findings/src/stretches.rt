@@ -13,7 +13,7 @@ use crate::explained::SharedExplanation;
 use crate::finding::Finding;
 use crate::stretch::Stretch;
 use ll_explanations::explain;
-use ll_process::CaseView;
+use ll_process::Case;
 use ll_rules::NoMemory;
 use ll_semantics::Answer;
 use ll_trails::TraceOrigins;
@@ -33,7 +33,7 @@ pub(crate) type Explaining = Result<Vec<SharedExplanation>, NoMemory>;
 /// What is kept of the explanation of the record at an index of a case.
 pub(crate) fn explain_one(
     alloc: Global,
-    case: &CaseView<'_>,
+    case: &Case<'_>,
     trails: &TraceOrigins,
     index: usize,
     answer: Answer,
@@ -58,7 +58,7 @@ pub(crate) fn explain_one(
 }
 
 /// The answer to the record at an index of a case.
-pub(crate) fn answer_at(case: &CaseView<'_>, answers: &[Answer], index: usize) -> Answer
+pub(crate) fn answer_at(case: &Case<'_>, answers: &[Answer], index: usize) -> Answer
     requires judged { answers.now ≡ judged case.now.tree case.now.abi case.now.records }
     requires within { index < length answers.now }
     ensures answer { IsAnswerAt case.now index result }
@@ -70,7 +70,7 @@ pub(crate) fn answer_at(case: &CaseView<'_>, answers: &[Answer], index: usize) -
 /// Follows the records of a case from an index on, up to another.
 fn follow_to(
     alloc: Global,
-    case: &CaseView<'_>,
+    case: &Case<'_>,
     answers: &[Answer],
     trails: &mut TraceOrigins,
     from: usize,
@@ -91,7 +91,7 @@ fn follow_to(
 /// What is kept of the explanations of the records from an index on, up to another.
 fn explain_from(
     alloc: Global,
-    case: &CaseView<'_>,
+    case: &Case<'_>,
     answers: &[Answer],
     newer: Option<&Finding>,
     trails: TraceOrigins,
@@ -228,7 +228,7 @@ fn join_parts(alloc: Global, parts: Vec<Explaining>) -> Result<Vec<SharedExplana
 
 /// The number of stretches in which the records of a case are explained. Each takes a copy of what is known of all
 /// processes.
-pub(crate) fn stretches_of(case: &CaseView<'_>, workers: usize) -> usize {
+pub(crate) fn stretches_of(case: &Case<'_>, workers: usize) -> usize {
     let processes = case.processes().max(1) as usize;
     let worth = case.count() / processes / RECORDS_EACH;
     workers.min(MOST_STRETCHES).min(worth.max(1))
@@ -238,7 +238,7 @@ pub(crate) fn stretches_of(case: &CaseView<'_>, workers: usize) -> usize {
 pub(crate) fn explain_all<'a, R: Threads + Sync>(
     rt: &R,
     alloc: Global,
-    case: &'a CaseView<'a>,
+    case: &'a Case<'a>,
     answers: &'a [Answer],
     workers: usize,
 ) -> Result<Vec<SharedExplanation>, NoMemory>

@@ -1,5 +1,5 @@
 -- The rows of a report.
-use Rattle.std.proofs.Common.{◌≡◌, ◌∙◌, ◌<◌, ℕ, Bool, true, false, List, [], Some, length, map, sym, ap, subst}
+use Rattle.std.proofs.Common.{◌≡◌, ◌∙◌, ◌<◌, ℕ, Bool, true, false, List, [], Some, length, sym, ap, subst}
 use Rattle.std.specs.Prelude.{if◌then◌else◌, slice_get}
 use Rattle.ll_tree.specs.Trees.{Entry}
 use Rattle.ll_trace.specs.declared.op.Record.{Record}
@@ -8,6 +8,7 @@ use Rattle.ll_explain.specs.Buffers.{Buffered, adding}
 use Rattle.ll_explain.proofs.Buffering.{adding_nothing}
 use Rattle.ll_report.specs.declared.options.Shown.{Shown}
 use Rattle.ll_report.specs.Made.{Made, row_at}
+use Rattle.ll_report.specs.Printed.{printed_under}
 use Rattle.ll_report.specs.Rows.{is_row_left_out}
 use Rattle.ll_report.proofs.Making.{length-rows, row_at_index}
 use Rattle.ll_report.specs.Versions.{answers_in}
@@ -29,7 +30,7 @@ module _ (shown : Shown) (oldest : ℕ) (tree : List Entry) (records : List Reco
         ∙ row_at_index (row_text shown oldest tree records findings) index records r (json_made shown oldest tree records findings program).last there
 
     abbrev line : List ℕ
-    line = line_of oldest r (map (said_of shown.explanations tree records index) findings)
+    line = line_of oldest r (printed_under (said_of shown.explanations) tree records findings index)
 
     pub nothing_added : (text : Buffered) → is_row_left_out shown (answers_in findings) index ≡ true → text ≡ adding text (row_at made index)
     nothing_added text out =

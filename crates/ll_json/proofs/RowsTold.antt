@@ -23,7 +23,8 @@ use Rattle.ll_report.specs.Found.{Found, answer_at}
 use Rattle.ll_report.specs.Lines.{verdict_of}
 use Rattle.ll_report.specs.Made.{rows_of, text_of}
 use Rattle.ll_report.specs.Report.{is_refused, verdict_text}
-use Rattle.ll_report.specs.Rows.{answers_said, is_refused_under_some, is_row_left_out}
+use Rattle.ll_report.specs.Printed.{printed_of, printed_under}
+use Rattle.ll_report.specs.Rows.{answers_said, is_refused_under_some}
 use Rattle.ll_report.specs.Spans.{Span, spans_from, spans_of}
 use Rattle.ll_report.proofs.Making.{next_rows}
 use Rattle.ll_report.proofs.RowsSaid.{any_map, count_same, map_map, refused_alone}
@@ -31,7 +32,7 @@ use Rattle.ll_report.specs.Versions.{answers_in, some_refuses}
 use Rattle.ll_json.specs.Judged.{AreFound, IsFound}
 use Rattle.ll_json.specs.Versions.{Version}
 use Rattle.ll_json.specs.Parts.{Named, line_text, named_tokens, values_tokens}
-use Rattle.ll_json.specs.Records.{about, answer_json, answer_members, members_at, members_with, record_json, record_of}
+use Rattle.ll_json.specs.Records.{answer_json, answer_members, members_at, members_with, record_json}
 use Rattle.ll_json.specs.Reports.{IsJsonReport, found_of, lines_from, row_line, said_under, total_json, totals_from, totals_json}
 use Rattle.ll_json.specs.Rows.{head_tokens, json_made, line_of, row_text, said_of, separated, span_text, versions_tokens}
 use Rattle.ll_json.specs.Spans.{answers_json, members_text, span_json}
@@ -59,7 +60,7 @@ AllHaveOne (members ∷ more) = HasOne members × AllHaveOne more
 
 module _ (shown : Shown) (tree : List Entry) (later : List Record) (index : ℕ) (below : index < length later) (d : Record) where
   version_says : (version : Version) (finding : FindingValue) → IsFound shown.explanations tree later version finding
-      → (said_of shown.explanations tree later index finding ≡ members_text (members_at shown.explanations tree version index))
+      → (printed_of (said_of shown.explanations) tree later index finding ≡ members_text (members_at shown.explanations tree version index))
       × HasOne (members_at shown.explanations tree version index)
   version_says version finding found =
       let within : index < length version.records = subst (λ (n : ℕ). index < n) (length_all_zip _ later version.records found.taken) below in
@@ -74,7 +75,7 @@ module _ (shown : Shown) (tree : List Entry) (later : List Record) (index : ℕ)
       )
 
   each_says : (versions : List Version) (findings : List FindingValue) → AreFound shown.explanations tree later versions findings
-      → (map (said_of shown.explanations tree later index) findings ≡ map members_text (said_under shown tree versions index))
+      → (printed_under (said_of shown.explanations) tree later findings index ≡ map members_text (said_under shown tree versions index))
       × AllHaveOne (said_under shown tree versions index)
   each_says [] [] found = (refl, tt)
   each_says [] (finding ∷ others) found = absurd found
@@ -285,19 +286,3 @@ module _ (shown : Shown) (oldest : ℕ) (tree : List Entry) (versions : List Ver
     refused = count_same (some_refuses findings) (is_refused_under_some (found_of shown tree versions))
         (some_are shown tree later versions findings found) (range_with_len 0 (length later));
   }
-
--- ---- records of which the same is told
-
-pub same_lines : (shown : Shown) (tree : List Entry) (oldest : ℕ) (versions : List Version) (index : ℕ) (records others : List Record)
-    → map about records ≡ map about others → lines_from shown tree oldest versions index records ≡ lines_from shown tree oldest versions index others
-unfolding lines_from
-same_lines shown tree oldest versions index [] [] same = refl
-same_lines shown tree oldest versions index [] (other ∷ others) same = absurd (omega (arith, ap length same))
-same_lines shown tree oldest versions index (r ∷ records) [] same = absurd (omega (arith, ap length same))
-same_lines shown tree oldest versions index (r ∷ records) (other ∷ others) same =
-    let first : about r ≡ about other = cc in
-    let later : map about records ≡ map about others = cc in
-    let line : ℕ × ℕ × List ℕ → List ℕ =
-    λ (of : ℕ × ℕ × List ℕ). if is_row_left_out shown (found_of shown tree versions) index then []
-    else line_text (record_of of (answers_json oldest (said_under shown tree versions index))) in
-    ap₂ (λ (told : ℕ × ℕ × List ℕ) (rest : List ℕ). line told ++ rest) first (same_lines shown tree oldest versions (index + 1) records others later)

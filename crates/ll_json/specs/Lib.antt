@@ -9,5 +9,4 @@ pub mod Values
 pub mod Spans
 pub mod Reports
 pub mod Rows
-pub mod Telling
 pub mod Judged

@@ -1,6 +1,6 @@
 -- The lines of records as they are put together of what is found under each version.
 -- Source: docs/FORMATS.md, "The report as JSON"; RFC 8259.
-use Rattle.std.specs.Prelude.{ℕ, Bool, true, false, List, [], ◌∷◌, ◌++◌, Option, Some, None, codes, decimal, if◌then◌else◌, map}
+use Rattle.std.specs.Prelude.{ℕ, Bool, true, false, List, [], ◌∷◌, ◌++◌, Option, Some, None, codes, decimal, if◌then◌else◌, slice_get}
 use Rattle.json.specs.Print.{print}
 use Rattle.json.specs.Token as token
 use Rattle.json.specs.Token.{Token}
@@ -10,10 +10,11 @@ use Rattle.ll_trace.specs.declared.op.Op.{Op}
 use Rattle.ll_trace.specs.declared.op.Record.{Record}
 use Rattle.ll_trace.specs.Operations.{op_name}
 use Rattle.ll_semantics.specs.declared.answer.Answer.{Answer}
-use Rattle.ll_findings.specs.Findings.{FindingValue, answer_in, said_in}
+use Rattle.ll_findings.specs.Findings.{FindingValue, said_by}
 use Rattle.ll_explanations.specs.declared.explanation.Explanation.{Explanation}
 use Rattle.ll_report.specs.declared.options.Shown.{Shown}
 use Rattle.ll_report.specs.Made.{Made, rows_of}
+use Rattle.ll_report.specs.Printed.{printed_under}
 use Rattle.ll_report.specs.Rows.{is_row_left_out}
 use Rattle.ll_report.specs.Spans.{Span, spans_of}
 use Rattle.ll_report.specs.Versions.{answers_in}
@@ -22,21 +23,21 @@ use Rattle.ll_json.specs.Records.{versions_json}
 use Rattle.ll_json.specs.Reports.{totals_from, totals_json}
 use Rattle.ll_json.specs.Values.{answer_tokens, plain_members}
 
--- ---- what is said of a record under a version, by the tree and the records at hand
+-- ---- what is said of a record under a version, by the tree and the records of the trace
 
 -- the members of an answer, with the explanation of the call, if there is one
 abbrev pub members_tokens : List Entry → List Record → Answer → Option (Op × Explanation) → List Token
 members_tokens tree records answer None = named_tokens (plain_members answer)
 members_tokens tree records answer (Some said) = answer_tokens tree records said.0 answer said.1
 
--- the same of the record at an index, to the end of the object
-abbrev pub said_tokens : Bool → List Entry → List Record → ℕ → FindingValue → List Token
-said_tokens explains tree records index finding =
-    members_tokens tree records (answer_in finding index) (if explains then said_in records finding index else None) ++ token.end_object ∷ []
+-- the same of the record at an index, which is answered and explained so, to the end of the object
+abbrev pub said_tokens : Bool → List Entry → List Record → ℕ → Answer → Option Explanation → List Token
+said_tokens explains tree records index answer kept =
+    members_tokens tree records answer (if explains then said_by (slice_get records index) kept else None) ++ token.end_object ∷ []
 
--- printed
-unfoldable pub said_of : Bool → List Entry → List Record → ℕ → FindingValue → List ℕ
-said_of explains tree records index finding = print (said_tokens explains tree records index finding)
+-- printed, with its explanation or without
+unfoldable pub said_of : Bool → List Entry → List Record → ℕ → Answer → Option Explanation → List ℕ
+said_of explains tree records index answer kept = print (said_tokens explains tree records index answer kept)
 
 -- ---- the answers of neighbouring versions
 
@@ -72,7 +73,7 @@ line_of oldest r said = print (head_tokens r) ++ (separated false (spans_of olde
 abbrev pub row_text : Shown → ℕ → List Entry → List Record → List FindingValue → ℕ → Record → List ℕ
 row_text shown oldest tree records findings index r =
     if is_row_left_out shown (answers_in findings) index then []
-    else line_of oldest r (map (said_of shown.explanations tree records index) findings)
+    else line_of oldest r (printed_under (said_of shown.explanations) tree records findings index)
 
 -- what a report is made of, over versions of which the oldest has this number
 abbrev pub json_made : Shown → ℕ → List Entry → List Record → List FindingValue → List ℕ → Made

@@ -24,7 +24,7 @@ use crate::reasons::write_reason;
 use crate::words::{write_number, write_text};
 use ll_explanations::{Condition, Explanation};
 use ll_reasons::Reason;
-use ll_report::{Saying, error_name};
+use ll_report::{FindingAt, error_name};
 use ll_rules::{Errno, LayerSet, MOST_LAYERS};
 use ll_semantics::Answer;
 use ll_trace::Op;
@@ -74,15 +74,15 @@ fn write_bare_layers(out: &mut JsonText, numbers: LayerSet)
 #[tactic(auto, unfolding(crate::specs::Writing::writing, crate::specs::Values::layers_tokens))]
 fn write_layers_of(
     out: &mut JsonText,
-    saying: &Saying<'_>,
+    here: &FindingAt<'_>,
     numbers: LayerSet,
     explanation: &Explanation,
 )
     ensures { out.new ≡ writing out.old
-        (layers_tokens saying.now.tree.now saying.now.records.now numbers explanation.now) }
+        (layers_tokens here.now.tree.now here.now.records.now numbers explanation.now) }
 {
     match explanation {
-        Explanation::Objections(all) => write_layers(out, saying, all.as_slice()),
+        Explanation::Objections(all) => write_layers(out, here, all.as_slice()),
         Explanation::Nothing | Explanation::Failure(_) | Explanation::Mootness(_) => {
             write_bare_layers(out, numbers)
         }
@@ -133,18 +133,18 @@ fn write_refusal(out: &mut JsonText, error: Errno)
 /// Writes how a refused record is answered, and why.
 fn write_refused(
     out: &mut JsonText,
-    saying: &Saying<'_>,
+    here: &FindingAt<'_>,
     op: &Op,
     error: Errno,
     numbers: LayerSet,
     explanation: &Explanation,
 )
-    ensures { out.new ≡ writing out.old (answer_tokens saying.now.tree.now
-        saying.now.records.now op.now (Refused error numbers) explanation.now) }
+    ensures { out.new ≡ writing out.old (answer_tokens here.now.tree.now
+        here.now.records.now op.now (Refused error numbers) explanation.now) }
 {
     write_refusal(out, error);
     out.write_key("layers");
-    write_layers_of(out, saying, numbers, explanation);
+    write_layers_of(out, here, numbers, explanation);
     write_why(out, op, explanation);
 }
 
@@ -162,19 +162,19 @@ fn write_moot(out: &mut JsonText, op: &Op, explanation: &Explanation)
 #[tactic(auto, unfolding(crate::specs::Writing::writing, crate::specs::Values::answer_tokens))]
 pub(crate) fn write_answer_members(
     out: &mut JsonText,
-    saying: &Saying<'_>,
+    here: &FindingAt<'_>,
     op: &Op,
     answer: Answer,
     explanation: &Explanation,
 )
-    ensures { out.new ≡ writing out.old (answer_tokens saying.now.tree.now
-        saying.now.records.now op.now answer explanation.now) }
+    ensures { out.new ≡ writing out.old (answer_tokens here.now.tree.now
+        here.now.records.now op.now answer explanation.now) }
 {
     match answer {
         Answer::Allowed => write_text(out, "answer", "allowed"),
         Answer::Moot => write_moot(out, op, explanation),
         Answer::Refused(error, numbers) => {
-            write_refused(out, saying, op, error, numbers, explanation)
+            write_refused(out, here, op, error, numbers, explanation)
         }
     }
 }

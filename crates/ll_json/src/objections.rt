@@ -21,7 +21,7 @@ use crate::rights::write_rights_as;
 use crate::words::{write_number, write_text};
 use ll_explain::{line_at, line_made, text_at, word_for};
 use ll_explanations::{LayerObjection, Objection};
-use ll_report::Saying;
+use ll_report::FindingAt;
 use ll_rights::{Fs, FsRight, Net};
 use ll_trace::{Op, Record};
 use ll_tree::{NodeId, Tree};
@@ -125,20 +125,20 @@ fn write_kept(out: &mut JsonText, records: &[Record], right: FsRight, opened: u3
 
 /// Writes what is objected to.
 #[tactic(auto, unfolding(crate::specs::Writing::writing, crate::specs::Why::objection_json))]
-fn write_objection(out: &mut JsonText, saying: &Saying<'_>, objection: &Objection)
-    ensures { out.new ≡ writing out.old (json_tokens (objection_json saying.now.records.now
-        (objection_in saying.now.tree.now objection.now))) }
+fn write_objection(out: &mut JsonText, here: &FindingAt<'_>, objection: &Objection)
+    ensures { out.new ≡ writing out.old (json_tokens (objection_json here.now.records.now
+        (objection_in here.now.tree.now objection.now))) }
 {
     match objection {
-        Objection::Missing { rights, node } => write_missing(out, saying.tree, *rights, *node),
+        Objection::Missing { rights, node } => write_missing(out, here.tree, *rights, *node),
         Objection::Closed { rights, port } => write_closed(out, *rights, *port),
         Objection::Gained {
             object,
             rights,
             directory,
-        } => write_gained(out, saying.tree, *object, *rights, *directory),
+        } => write_gained(out, here.tree, *object, *rights, *directory),
         Objection::Mounting => write_mounting(out),
-        Objection::Kept { right, opened } => write_kept(out, saying.records, *right, *opened),
+        Objection::Kept { right, opened } => write_kept(out, here.records, *right, *opened),
     }
 }
 
@@ -180,35 +180,35 @@ fn write_opening(out: &mut JsonText, records: &[Record], before: u64, one: &Laye
 
 /// Writes one objection behind those before it.
 #[tactic(auto, unfolding(crate::specs::Writing::writing, crate::specs::Layering::next_tokens))]
-fn write_next(out: &mut JsonText, saying: &Saying<'_>, before: u64, one: &LayerObjection)
+fn write_next(out: &mut JsonText, here: &FindingAt<'_>, before: u64, one: &LayerObjection)
     ensures { out.new ≡ writing out.old
-        (next_tokens saying.now.tree.now saying.now.records.now before one.now) }
+        (next_tokens here.now.tree.now here.now.records.now before one.now) }
 {
-    write_opening(out, saying.records, before, one);
-    write_objection(out, saying, &one.objection);
+    write_opening(out, here.records, before, one);
+    write_objection(out, here, &one.objection);
 }
 
 /// Writes all layers that object.
 #[tactic(auto, unfolding(crate::specs::Writing::writing, crate::specs::Layering::objections_from))]
-fn write_each(out: &mut JsonText, saying: &Saying<'_>, all: &[LayerObjection])
+fn write_each(out: &mut JsonText, here: &FindingAt<'_>, all: &[LayerObjection])
     ensures { out.new ≡ writing out.old
-        (objections_from saying.now.tree.now saying.now.records.now 0 all.now) }
+        (objections_from here.now.tree.now here.now.records.now 0 all.now) }
 {
     let mut before = 0;
     for one in all {
-        write_next(out, saying, before, one);
+        write_next(out, here, before, one);
         before = one.layer;
     }
     write_ending(out, before);
 }
 
 /// Writes an array of all layers that object.
-pub(crate) fn write_layers(out: &mut JsonText, saying: &Saying<'_>, all: &[LayerObjection])
+pub(crate) fn write_layers(out: &mut JsonText, here: &FindingAt<'_>, all: &[LayerObjection])
     ensures { out.new ≡ writing out.old (token.begin_array
-        ∷ (objections_from saying.now.tree.now saying.now.records.now 0 all.now
+        ∷ (objections_from here.now.tree.now here.now.records.now 0 all.now
         ++ token.end_array ∷ [])) }
 {
     out.begin_array();
-    write_each(out, saying, all);
+    write_each(out, here, all);
     out.end_array();
 }

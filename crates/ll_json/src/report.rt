@@ -2,21 +2,20 @@
 #![tactic(auto, unfolding(crate::specs::Writing::writing))]
 
 ghost use Rattle.std.specs.Prelude.{◌≡◌, ◌+◌, ◌<◌, ◌^◌, IfOk, List, length};
-ghost use Rattle.ll_report.specs.Scratches.{Suits};
-ghost use Rattle.ll_json.specs.{Reports.IsJsonReport, Rows.json_made, Telling.answer_at, Telling.members_told};
+ghost use Rattle.ll_json.specs.Reports.{IsJsonReport};
 ghost use Rattle.ll_json.specs.Judged.{AreFound};
 ghost use Rattle.ll_json.specs.Versions.{Version};
 
 use crate::rows::push_line;
-use crate::said::{BareMembers, Members};
 use crate::totals::push_last;
 use ll_explain::TextBuffer;
 use ll_findings::Findings;
-use ll_report::{RowReport, Rows, Sayings, Scratch, Shown, is_left_out, refused_under_some};
+use ll_report::{
+    FindingsAt, Pages, RowReport, Rows, Shown, TooLong, is_left_out, refused_under_some,
+};
 use ll_trace::Located;
 use std::alloc::{AllocError, Global};
 use std::marker::Model;
-use std::thread::Threads;
 
 /// What a report as JSON is made of: the tree and the records as the oldest version takes them, what is found under
 /// each version, what is shown of it, the number of the oldest version, and the version of the program that writes it.
@@ -28,41 +27,20 @@ pub struct JsonRows<'p> {
     shown: Shown,
     oldest: u64,
     program: &'p str,
-    scratch: Scratch,
+    pages: Pages,
 }
 
 impl<'p> Model for JsonRows<'p> {
     ghost use Rattle.std.specs.Prelude.{◌+◌, ◌<◌, ◌^◌, length};
-    ghost use Rattle.ll_report.specs.{Made.Made, Scratches.Suits};
-    ghost use Rattle.ll_json.specs.{Rows.json_made, Telling.{answer_at, members_told}};
+    ghost use Rattle.ll_report.specs.Made.{Made};
+    ghost use Rattle.ll_json.specs.Rows.{json_made};
 
     ghost Value = { Made };
 
     ghost view = { λ rows. json_made rows.shown rows.oldest rows.located.tree rows.located.trace
         rows.findings rows.program.now };
 
-    ghost invariant = { λ rows. (rows.oldest + length rows.findings < 2 ^ 64)
-        × Suits answer_at (members_told rows.shown.explanations) rows.located.tree
-        rows.located.trace rows.findings rows.scratch };
-}
-
-/// For what versions find of the records of a trace, and say with explanations or without.
-fn scratch_for<R: Threads + Sync>(
-    rt: &R,
-    alloc: Global,
-    located: &Located,
-    findings: &Findings,
-    explains: bool,
-) -> Result<Scratch, AllocError>
-    ensures { IfOk result
-        (Suits answer_at (members_told explains) located.now.tree located.now.trace findings.now) }
-{
-    let records = located.trace.records();
-    if explains {
-        Scratch::of::<Members, R>(rt, alloc, &located.tree, records, findings)
-    } else {
-        Scratch::of::<BareMembers, R>(rt, alloc, &located.tree, records, findings)
-    }
+    ghost invariant = { λ rows. rows.oldest + length rows.findings < 2 ^ 64 };
 }
 
 impl<'p> Rows for JsonRows<'p> {
@@ -72,27 +50,29 @@ impl<'p> Rows for JsonRows<'p> {
         self.located.trace.records().len()
     }
 
-    fn push_row(&mut self, text: &mut TextBuffer, index: usize) {
+    fn push_row(&mut self, text: &mut TextBuffer, index: usize) -> Result<(), TooLong> {
         let Located { tree, trace, .. } = &self.located;
         let records = trace.records();
         let found = &records[index];
-        let sayings = Sayings {
+        let row = FindingsAt {
             tree,
             records,
             findings: &self.findings,
             index,
         };
-        if is_left_out(self.shown, &sayings, &mut self.scratch) {
-            return;
+        let out = is_left_out(self.shown, &row, &mut self.pages)?;
+        if out {
+            return Ok(());
         }
         push_line(
             text,
-            &mut self.scratch,
-            &sayings,
+            &mut self.pages,
+            &row,
             found,
             self.oldest,
             self.shown.explanations,
-        );
+        )?;
+        Ok(())
     }
 
     fn push_last(&mut self, text: &mut TextBuffer) {
@@ -101,10 +81,8 @@ impl<'p> Rows for JsonRows<'p> {
 }
 
 /// The report as JSON over versions of which the oldest has this number, by what is found under each, as much as is
-/// shown of it, with the version of the program that writes it. The tree and the records are those at hand, as the
-/// oldest version takes them. Up to four threads look through the records.
-pub fn json_report<'p, R: Threads + Sync>(
-    rt: &R,
+/// shown of it, with the version of the program that writes it.
+pub fn json_report<'p>(
     alloc: Global,
     located: Located,
     findings: Findings,
@@ -118,14 +96,13 @@ pub fn json_report<'p, R: Threads + Sync>(
         → IsJsonReport shown located.tree oldest versions located.trace program.now report) }
 {
     let refused = refused_under_some(&findings, located.trace.records().len());
-    let scratch = scratch_for(rt, alloc, &located, &findings, shown.explanations)?;
     let rows = JsonRows {
         located,
         findings,
         shown,
         oldest,
         program,
-        scratch,
+        pages: Pages::new(alloc)?,
     };
     RowReport::of(alloc, rows, refused)
 }

@@ -1,19 +1,19 @@
 //! The lines of records.
 #![tactic(auto, unfolding(crate::specs::Writing::writing))]
 
-ghost use Rattle.std.specs.Prelude.{◌≡◌, ◌+◌, ◌<◌, ◌^◌, length};
+ghost use Rattle.std.specs.Prelude.{◌≡◌, ◌+◌, ◌<◌, ◌^◌, OnOk, length};
 ghost use Rattle.json.specs.Print.{print};
 ghost use Rattle.ll_explain.specs.Buffers.{adding};
-ghost use Rattle.ll_report.specs.Scratches.{AreComparable, said_by};
-ghost use Rattle.ll_json.specs.Rows.{head_tokens, line_of};
-ghost use Rattle.ll_json.specs.{Telling.answer_at, Telling.members_told, Writing.writing};
+ghost use Rattle.ll_report.specs.Printed.{texts_of};
+ghost use Rattle.ll_json.specs.Rows.{head_tokens, line_of, said_of};
+ghost use Rattle.ll_json.specs.Writing.{writing};
 
 use crate::json_text::JsonText;
 use crate::said::{BareMembers, Members};
 use crate::spans::push_answers;
 use crate::words::{write_number, write_text};
 use ll_explain::{TextBuffer, push_words};
-use ll_report::{Sayings, Scratch, Telling};
+use ll_report::{FindingsAt, Pages, Printer, TooLong};
 use ll_trace::Record;
 
 /// Writes which record a line is about.
@@ -40,44 +40,40 @@ fn push_head(text: &mut TextBuffer, found: &Record)
 
 /// Adds the line of a record, with the answers of neighbouring versions, of which the oldest has this number.
 #[tactic(auto, using(ll_explain::proofs::Buffering::adding_both))]
-fn push_line_as<T: Telling>(
+fn push_line_as<P: Printer>(
     text: &mut TextBuffer,
-    scratch: &mut Scratch,
-    sayings: &Sayings<'_>,
+    pages: &mut Pages,
+    row: &FindingsAt<'_>,
     found: &Record,
     oldest: u64,
-)
-    requires few { oldest + length sayings.now.findings.now < 2 ^ 64 }
-    requires comparable { AreComparable T.byte_at scratch.old sayings.now.index
-        (said_by T.told sayings.now) }
-    ensures text { text.new
-        ≡ adding text.old (line_of oldest found.now (said_by T.told sayings.now)) }
-    ensures scratch { scratch.new ≡ scratch.old }
+) -> Result<(), TooLong>
+    requires { oldest + length row.now.findings.now < 2 ^ 64 }
+    ensures { OnOk result (text.new
+        ≡ adding text.old (line_of oldest found.now (texts_of P.printed row.now))) }
 {
     push_head(text, found);
-    push_answers::<T>(text, scratch, sayings, oldest);
+    push_answers::<P>(text, pages, row, oldest)?;
     push_words(text, "]}\n");
+    Ok(())
 }
 
 /// Adds the line of a record, with explanations or without. The oldest version has this number.
 pub(crate) fn push_line(
     text: &mut TextBuffer,
-    scratch: &mut Scratch,
-    sayings: &Sayings<'_>,
+    pages: &mut Pages,
+    row: &FindingsAt<'_>,
     found: &Record,
     oldest: u64,
     explains: bool,
-)
-    requires few { oldest + length sayings.now.findings.now < 2 ^ 64 }
-    requires comparable { AreComparable answer_at scratch.old sayings.now.index
-        (said_by (members_told explains) sayings.now) }
-    ensures text { text.new ≡ adding text.old
-        (line_of oldest found.now (said_by (members_told explains) sayings.now)) }
-    ensures scratch { scratch.new ≡ scratch.old }
+) -> Result<(), TooLong>
+    requires { oldest + length row.now.findings.now < 2 ^ 64 }
+    ensures { OnOk result (text.new
+        ≡ adding text.old (line_of oldest found.now (texts_of (said_of explains) row.now))) }
 {
     if explains {
-        push_line_as::<Members>(text, scratch, sayings, found, oldest);
-    } else {
-        push_line_as::<BareMembers>(text, scratch, sayings, found, oldest);
+        push_line_as::<Members>(text, pages, row, found, oldest)?;
+        return Ok(());
     }
+    push_line_as::<BareMembers>(text, pages, row, found, oldest)?;
+    Ok(())
 }

@@ -4,9 +4,9 @@
 ghost use Rattle.std.specs.Prelude.{◌≡◌, ◌∷◌, ◌++◌, [], None, if◌then◌else◌, false, option_map, true};
 ghost use Rattle.json.specs.Token as token;
 ghost use Rattle.ll_explain.specs.Buffers.{adding};
-ghost use Rattle.ll_findings.specs.Findings.{said_in};
+ghost use Rattle.ll_findings.specs.Findings.{answer_in, kept_at, said_in};
+ghost use Rattle.ll_report.specs.Printed.{printed_of};
 ghost use Rattle.ll_json.specs.Rows.{members_tokens, said_of, said_tokens};
-ghost use Rattle.ll_json.specs.Telling.{answer_at, members_by_value, members_told};
 ghost use Rattle.ll_json.specs.Writing.{writing};
 
 use crate::answers::{write_answer_members, write_plain_members};
@@ -14,22 +14,22 @@ use crate::json_text::JsonText;
 use ll_explain::TextBuffer;
 use ll_explanations::Explanation;
 use ll_findings::Finding;
-use ll_report::{Saying, Telling, verdict_fingerprint};
+use ll_report::{FindingAt, Printer};
 use ll_semantics::Answer;
 use ll_trace::{Op, Record};
 
 /// Writes the members of an answer, with the explanation of the call, if there is one.
 fn write_members(
     out: &mut JsonText,
-    saying: &Saying<'_>,
+    here: &FindingAt<'_>,
     answer: Answer,
     said: Option<(&Op, &Explanation)>,
 )
-    ensures { out.new ≡ writing out.old (members_tokens saying.now.tree.now
-        saying.now.records.now answer (option_map (λ said. (said.0.now, said.1.now)) said.entry)) }
+    ensures { out.new ≡ writing out.old (members_tokens here.now.tree.now
+        here.now.records.now answer (option_map (λ said. (said.0.now, said.1.now)) said.entry)) }
 {
     match said {
-        Some((op, explanation)) => write_answer_members(out, saying, op, answer, explanation),
+        Some((op, explanation)) => write_answer_members(out, here, op, answer, explanation),
         None => write_plain_members(out, answer),
     }
 }
@@ -52,61 +52,46 @@ fn explained_if<'f>(
 }
 
 /// Writes what a version says of the record, to the end of the object.
-fn write_said(out: &mut JsonText, explains: bool, saying: &Saying<'_>)
-    ensures { out.new ≡ writing out.old (said_tokens explains saying.now.tree.now
-        saying.now.records.now saying.now.index saying.now.finding.now) }
+fn write_said(out: &mut JsonText, explains: bool, here: &FindingAt<'_>)
+    ensures { out.new ≡ writing out.old (said_tokens explains here.now.tree.now
+        here.now.records.now here.now.index (answer_in here.now.finding.now here.now.index)
+        (kept_at here.now.finding.now here.now.index)) }
 {
-    let said = explained_if(explains, saying.finding, saying.records, saying.index);
-    let answer = saying.finding.answer(saying.index);
-    write_members(out, saying, answer, said);
+    let said = explained_if(explains, here.finding, here.records, here.index);
+    let answer = here.finding.answer(here.index);
+    write_members(out, here, answer, said);
     out.end_object();
 }
 
 /// Adds what a version says of the record, to the end of the object.
 #[tactic(auto, using(crate::proofs::Printed::printed), unfolding(crate::specs::Rows::said_of))]
-fn push_said(text: &mut TextBuffer, explains: bool, saying: &Saying<'_>)
-    ensures { text.new ≡ adding text.old (said_of explains saying.now.tree.now
-        saying.now.records.now saying.now.index saying.now.finding.now) }
+fn push_said(text: &mut TextBuffer, explains: bool, here: &FindingAt<'_>)
+    ensures { text.new ≡ adding text.old (printed_of (said_of explains) here.now.tree.now
+        here.now.records.now here.now.index here.now.finding.now) }
 {
     let mut out = JsonText::behind(text.take());
-    write_said(&mut out, explains, saying);
+    write_said(&mut out, explains, here);
     *text = out.into_text();
 }
 
 /// The members of answers, with their explanations.
 pub(crate) struct Members;
 
-/// The members of answers, without explanations.
-pub(crate) struct BareMembers;
+impl Printer for Members {
+    ghost printed = { said_of true };
 
-impl Telling for Members {
-    ghost told = { members_told true };
-
-    ghost byte_at = { answer_at };
-
-    ghost by_value = { members_by_value true };
-
-    fn push(text: &mut TextBuffer, saying: &Saying<'_>) {
-        push_said(text, true, saying);
-    }
-
-    fn fingerprint(saying: &Saying<'_>) -> u64 {
-        verdict_fingerprint(saying.finding.answer(saying.index))
+    fn print(text: &mut TextBuffer, here: &FindingAt<'_>) {
+        push_said(text, true, here);
     }
 }
 
-impl Telling for BareMembers {
-    ghost told = { members_told false };
+/// The members of answers, without explanations.
+pub(crate) struct BareMembers;
 
-    ghost byte_at = { answer_at };
+impl Printer for BareMembers {
+    ghost printed = { said_of false };
 
-    ghost by_value = { members_by_value false };
-
-    fn push(text: &mut TextBuffer, saying: &Saying<'_>) {
-        push_said(text, false, saying);
-    }
-
-    fn fingerprint(saying: &Saying<'_>) -> u64 {
-        verdict_fingerprint(saying.finding.answer(saying.index))
+    fn print(text: &mut TextBuffer, here: &FindingAt<'_>) {
+        push_said(text, false, here);
     }
 }

@@ -1,17 +1,17 @@
 //! The answers of neighbouring versions to a record.
 #![tactic(auto, unfolding(crate::specs::Writing::writing))]
 
-ghost use Rattle.std.specs.Prelude.{◌≡◌, ◌+◌, ◌++◌, ◌<◌, ◌^◌, [], codes, false, get_or, if◌then◌else◌, length, nat_lt, true};
+ghost use Rattle.std.specs.Prelude.{◌≡◌, ◌+◌, ◌++◌, ◌<◌, ◌≤◌, ◌^◌, OnOk, [], codes, false, if◌then◌else◌, length, nat_lt};
 ghost use Rattle.json.specs.Print.{print};
 ghost use Rattle.ll_explain.specs.Buffers.{adding};
-ghost use Rattle.ll_report.specs.Scratches.{AreComparable, said_by};
-ghost use Rattle.ll_report.specs.Spans.{agree, spans_of};
+ghost use Rattle.ll_report.specs.Printed.{texts_of};
+ghost use Rattle.ll_report.specs.Spans.{span_at, spans_of};
 ghost use Rattle.ll_json.specs.Rows.{separated, span_text, versions_tokens};
 ghost use Rattle.ll_json.specs.{Writing.writing};
 
 use crate::json_text::JsonText;
 use ll_explain::{TextBuffer, push_words};
-use ll_report::{Sayings, Scratch, Telling};
+use ll_report::{FindingsAt, Pages, Printer, TooLong};
 
 /// Begins an answer, which says which versions give it.
 fn write_versions(out: &mut JsonText, first: u64, last: u64)
@@ -46,71 +46,44 @@ fn push_range(text: &mut TextBuffer, behind: bool, first: u64, last: u64)
     push_words(text, ",");
 }
 
-/// Adds the one answer of the versions from the first to the last. `version` is the index of one of them among all
-/// versions. A comma comes before the answer, unless it is that of the oldest version.
-fn push_span<T: Telling>(
+/// Adds the answer of a span, which goes from a version to one before another. The oldest version has this number, and a
+/// comma comes before each answer but its own.
+fn push_span<P: Printer>(
     text: &mut TextBuffer,
-    sayings: &Sayings<'_>,
-    first: u64,
-    last: u64,
-    version: usize,
-)
-    requires { version < length sayings.now.findings.now }
-    ensures { text.new ≡ adding text.old ((if nat_lt 0 version then codes "," else [])
-        ++ span_text (record {
-          first = first;
-          last = last;
-          said = get_or (said_by T.told sayings.now) version [];
-        })) }
-{
-    push_range(text, version > 0, first, last);
-    sayings.push::<T>(text, version);
-}
-
-/// Adds the answer of all versions, of which there is one at least. The oldest has this number.
-fn push_common<T: Telling>(text: &mut TextBuffer, sayings: &Sayings<'_>, oldest: u64)
-    requires few { oldest + length sayings.now.findings.now < 2 ^ 64 }
-    requires some { 0 < length sayings.now.findings.now }
-    requires same { agree (said_by T.told sayings.now) ≡ true }
-    ensures { text.new
-        ≡ adding text.old (separated false (spans_of oldest (said_by T.told sayings.now))) }
-{
-    let newest = oldest + (sayings.versions() as u64 - 1);
-    push_span::<T>(text, sayings, oldest, newest, 0);
-}
-
-/// Adds the answers of neighbouring versions, span after span. The oldest has this number. What they say is compared,
-/// unless it is known that all find the same.
-pub(crate) fn push_answers<T: Telling>(
-    text: &mut TextBuffer,
-    scratch: &mut Scratch,
-    sayings: &Sayings<'_>,
+    row: &FindingsAt<'_>,
     oldest: u64,
+    from: usize,
+    end: usize,
 )
-    requires few { oldest + length sayings.now.findings.now < 2 ^ 64 }
-    requires comparable { AreComparable T.byte_at scratch.old sayings.now.index
-        (said_by T.told sayings.now) }
-    ensures text { text.new
-        ≡ adding text.old (separated false (spans_of oldest (said_by T.told sayings.now))) }
-    ensures scratch { scratch.new ≡ scratch.old }
+    requires few { oldest + length row.now.findings.now < 2 ^ 64 }
+    requires from { from < end }
+    requires end { end ≤ length row.now.findings.now }
+    ensures { text.new ≡ adding text.old ((if nat_lt 0 from then codes "," else [])
+        ++ span_text (span_at oldest (texts_of P.printed row.now) from end)) }
 {
-    if sayings.versions() == 0 {
-        return;
+    let first = oldest + from as u64;
+    let last = oldest + (end as u64 - 1);
+    push_range(text, from > 0, first, last);
+    row.print::<P>(text, from);
+}
+
+/// Adds the answers of neighbouring versions, span after span. The oldest has this number.
+pub(crate) fn push_answers<P: Printer>(
+    text: &mut TextBuffer,
+    pages: &mut Pages,
+    row: &FindingsAt<'_>,
+    oldest: u64,
+) -> Result<(), TooLong>
+    requires { oldest + length row.now.findings.now < 2 ^ 64 }
+    ensures { OnOk result (text.new
+        ≡ adding text.old (separated false (spans_of oldest (texts_of P.printed row.now)))) }
+{
+    let count = row.versions();
+    let mut from = 0;
+    while from < count {
+        let end = row.span_end::<P>(pages, from)?;
+        push_span::<P>(text, row, oldest, from, end);
+        from = end;
     }
-    if !sayings.is_apart() {
-        push_common::<T>(text, sayings, oldest);
-        return;
-    }
-    let mut current = 0;
-    let mut first = oldest;
-    let mut last = oldest;
-    for version in 1..sayings.versions() {
-        if !scratch.same::<T>(sayings, current, version) {
-            push_span::<T>(text, sayings, first, last, current);
-            first = last + 1;
-            current = version;
-        }
-        last += 1;
-    }
-    push_span::<T>(text, sayings, first, last, current);
+    Ok(())
 }

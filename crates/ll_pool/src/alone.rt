@@ -12,7 +12,7 @@ use ll_rules::NoMemory;
 use std::alloc::Global;
 
 /// One piece for each root, with all of its descendants.
-fn pieces_of(alloc: Global, case: &Case) -> Result<Vec<Piece<'_>>, NoMemory>
+fn pieces_of<'c>(alloc: Global, case: &'c Case<'c>) -> Result<Vec<Piece<'c>>, NoMemory>
     ensures of_case { IfOk result (λ pieces. ArePiecesOf case.now pieces.items) }
     ensures numbered { IfOk result (λ pieces. IsNumbered case.now.records) }
     ensures shared { IfOk result (λ pieces. (weight : ℕ → ℕ)
@@ -32,7 +32,7 @@ fn pieces_of(alloc: Global, case: &Case) -> Result<Vec<Piece<'_>>, NoMemory>
 /// The answers to all records of a case, in their order, judged process by process on the caller's
 /// thread.
 #[tactic(auto, using(ll_trace::proofs::EachOnce::each_once_weighed))]
-pub fn judge_alone(alloc: Global, case: &Case) -> Result<Vec<Answer>, NoMemory>
+pub fn judge_alone<'c>(alloc: Global, case: &'c Case<'c>) -> Result<Vec<Answer>, NoMemory>
     ensures { IfOk result (λ answers. answers.items
         ≡ judged case.now.tree case.now.abi case.now.records) }
 {

@@ -35,7 +35,7 @@ impl From<AllocError> for CollectFault {
 /// fault names the least such process; else, if a process is missing, the least missing one.
 pub fn collect(
     alloc: Global,
-    case: &Case,
+    case: &Case<'_>,
     pieces: Vec<Piece<'_>>,
 ) -> Result<Vec<Answer>, CollectFault>
     requires { ArePiecesOf case.now pieces.items }
@@ -59,7 +59,7 @@ pub fn collect(
 /// The answers to all records, in their order, if each process is in one piece.
 pub fn collect_whole(
     alloc: Global,
-    case: &Case,
+    case: &Case<'_>,
     pieces: Vec<Piece<'_>>,
 ) -> Result<Vec<Answer>, NoMemory>
     requires of_case { ArePiecesOf case.now pieces.items }
@@ -91,7 +91,7 @@ fn count(seen: &mut Vec<u8>, processes: &[ProcessId])
 }
 
 /// The number of times that each process of the case is in the pieces, counted up to 255.
-fn tally(alloc: Global, case: &Case, pieces: &[Piece<'_>]) -> Result<Vec<u8>, AllocError>
+fn tally(alloc: Global, case: &Case<'_>, pieces: &[Piece<'_>]) -> Result<Vec<u8>, AllocError>
     requires { ArePiecesOf case.now pieces.now }
     ensures len { IfOk result (λ seen. length seen.items ≡ process_count case.now.records) }
     ensures few { IfOk result (λ seen. length seen.items ≤ MOST_PROCESSES) }
@@ -146,14 +146,14 @@ fn put_answers(answers: &mut Vec<Answer>, parts: &[(u32, Answer)])
 }
 
 /// The answers of pieces in the order of the records, if each process is in some piece.
-fn assemble(alloc: Global, case: &Case, pieces: &[Piece<'_>]) -> Result<Vec<Answer>, AllocError>
+fn assemble(alloc: Global, case: &Case<'_>, pieces: &[Piece<'_>]) -> Result<Vec<Answer>, AllocError>
     requires of_case { ArePiecesOf case.now pieces.now }
     requires each { (process : ℕ) → process < process_count case.now.records →
         0 < times process (processes_in pieces.now) }
     ensures { IfOk result
         (λ answers. answers.items ≡ judged case.now.tree case.now.abi case.now.records) }
 {
-    let mut answers = vec![in alloc; Answer::Moot; case.trace().records().len()]?;
+    let mut answers = vec![in alloc; Answer::Moot; case.trace().count()]?;
     for piece in pieces {
         put_answers(&mut answers, piece.answers());
     }

@@ -19,7 +19,7 @@ use std::sync::Wait;
 // The case whose jobs go through the queue, the pass's parts of the right to know the whole, and the
 // processes whose jobs it has given to the queue and taken from it. No value of it is made.
 pub struct Ledger {
-    pub case: Case,
+    pub case: Case<'static>,
     pub parts: u64,
     pub given: LinkedList<u32>,
     pub taken: LinkedList<u32>,

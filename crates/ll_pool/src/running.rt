@@ -28,7 +28,7 @@ use std::thread::Threads;
 pub fn run<'c, R: Threads + Wait + Sync, G: Gate + Sync>(
     rt: &R,
     alloc: Global,
-    case: &'c Case,
+    case: &'c Case<'c>,
     workers: usize,
     cut: &[bool],
     gate: &G,
@@ -63,7 +63,7 @@ fn beyond_room<'c>(jobs: &mut Vec<Job<'c>>) -> Result<Vec<Job<'c>>, NoMemory>
 fn run_named<'s, 'c, N: Naming + Send + Sync, R: Threads + Wait + Sync, G: Gate + Sync>(
     rt: &'s R,
     alloc: Global,
-    case: &'c Case,
+    case: &'c Case<'c>,
     workers: usize,
     cut: &'s [bool],
     gate: &'s G,

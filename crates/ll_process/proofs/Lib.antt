@@ -5,6 +5,3 @@ pub mod Going
 pub mod Descents
 pub mod Roots
 pub mod Crossing
-pub mod TakenLater
-pub mod RightCalls
-pub mod PastCases

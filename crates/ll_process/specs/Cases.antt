@@ -12,6 +12,9 @@ use Rattle.ll_state.specs.Agreement.{Agrees}
 use Rattle.ll_rulebook.specs.Settled.{IsSettled}
 use Rattle.ll_semantics.specs.States.{State}
 use Rattle.ll_trace.specs.Processes.{IsNumbered, started_at}
+use Rattle.ll_trace.specs.declared.located.Located.{Located}
+use Rattle.ll_trace.specs.Taken.{records_taken}
+use Rattle.ll_process.specs.declared.settled.Settled.{Settled}
 use Rattle.ll_process.specs.Judging.{state_left, answers_of}
 
 -- what contracts see of a case: the layers are those that its trace enforces, with an outcome for each record
@@ -21,6 +24,16 @@ pub record CaseValue : Type 0 where
   pub abi : Abi
   pub layers : List (RulesOn ℕ)
   pub outcomes : List RulesetOutcome
+
+-- the case of a tree and a trace as they are seen under the kernel for which this was settled
+abbrev pub case_of : Located → Settled → CaseValue
+case_of located settled = record {
+  tree = located.tree;
+  records = records_taken settled.kernel located.trace;
+  abi = settled.kernel.abi;
+  layers = settled.layers.items;
+  outcomes = settled.outcomes.items;
+}
 
 -- The processes are numbered, and the rulebook says of each record what the fold over the whole trace says: the
 -- answer of a call that creates, changes or closes a ruleset, and for a call that restricts by a ruleset the layer

@@ -6,6 +6,3 @@ pub mod Own
 pub mod Progresses
 pub mod Descending
 pub mod AgreesOnce
-pub mod TakenLater
-pub mod RightCalls
-pub mod PastCases

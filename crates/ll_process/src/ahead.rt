@@ -13,7 +13,7 @@ const TOGETHER: usize = 16;
 /// looked at together wait at the same time.
 #[derive(Clone, Copy)]
 pub(crate) struct Ahead<'c> {
-    pub(crate) case: &'c Case,
+    pub(crate) case: &'c Case<'c>,
     pub(crate) indices: &'c [u32],
     from: usize,
     end: usize,
@@ -24,7 +24,7 @@ pub(crate) struct Ahead<'c> {
 }
 
 /// Whether one of the records at these indices forks.
-fn forks_among(case: &Case, indices: &[u32]) -> bool
+fn forks_among(case: &Case<'_>, indices: &[u32]) -> bool
     requires { All (λ index. index < length case.now.records) indices.now }
     ensures { result ≡ false → (at index : ℕ) → slice_get indices.now at ≡ Some index
         → forked_at case.now.records index ≡ None }
@@ -39,7 +39,7 @@ fn forks_among(case: &Case, indices: &[u32]) -> bool
 
 impl<'c> Ahead<'c> {
     /// Nothing is known of the records at these indices.
-    pub(crate) fn new(case: &'c Case, indices: &'c [u32]) -> Ahead<'c>
+    pub(crate) fn new(case: &'c Case<'c>, indices: &'c [u32]) -> Ahead<'c>
         requires { All (λ index. index < length case.now.records) indices.now }
         ensures case { result.case.now ≡ case.now }
         ensures indices { result.indices.now ≡ indices.now }

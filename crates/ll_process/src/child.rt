@@ -16,7 +16,7 @@ use ll_trace::ProcessId;
 /// The job of the child that a process's own record forks, if it forks one. The child begins with what
 /// its parent has after that record. A record that is known to fork none isn't looked at.
 pub(crate) fn child_job<'c>(
-    case: &'c Case,
+    case: &'c Case<'c>,
     process: ProcessId,
     index: u32,
     may_fork: bool,
@@ -45,7 +45,7 @@ pub(crate) fn child_job<'c>(
 
 /// Offers the job of a child of a case, if there is one, to the hand, which may give it back.
 pub(crate) fn offer<'c, H: Hand<'c>>(
-    case: &'c Case,
+    case: &'c Case<'c>,
     child: Option<Job<'c>>,
     hand: &mut H,
 ) -> Option<Job<'c>>

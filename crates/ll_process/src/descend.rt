@@ -57,7 +57,7 @@ fn finish<'c>(
 /// parent, or to the end of the process, which is then added to those that are done. The first process stands in front.
 fn judge_on<'c, H: Hand<'c>>(
     alloc: Global,
-    case: &'c Case,
+    case: &'c Case<'c>,
     first: ProcessId,
     next: Progress<'c>,
     hand: &mut H,

@@ -12,7 +12,7 @@ use ll_trace::ProcessId;
 /// world after the record that starts it. It belongs to the case that it came from.
 #[derive(Drop)]
 pub struct Job<'c> {
-    pub(crate) case: &'c Case,
+    pub(crate) case: &'c Case<'c>,
     pub(crate) process: ProcessId,
     pub(crate) own: OwnState,
     pub ghost there: { process.0 < process_count case.now.records },

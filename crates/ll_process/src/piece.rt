@@ -18,7 +18,7 @@ use std::alloc::Global;
 /// record by its index in the trace, with the answer that it has in the whole trace.
 #[derive(Drop)]
 pub struct Piece<'c> {
-    pub(crate) case: &'c Case,
+    pub(crate) case: &'c Case<'c>,
     pub(crate) processes: Vec<ProcessId>,
     pub(crate) answers: Vec<(u32, Answer)>,
     pub ghost there: { (k : ℕ) (process : Process) → slice_get processes.items k ≡ Some process
@@ -29,7 +29,7 @@ pub struct Piece<'c> {
 
 impl<'c> Piece<'c> {
     /// No process of a case.
-    pub(crate) fn none(alloc: Global, case: &'c Case) -> Piece<'c>
+    pub(crate) fn none(alloc: Global, case: &'c Case<'c>) -> Piece<'c>
         ensures case { result.case.now ≡ case.now }
         ensures processes { result.processes.items ≡ [] }
     {

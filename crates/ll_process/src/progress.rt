@@ -24,7 +24,7 @@ use std::alloc::Global;
 /// A process of which some records are judged: what it has by itself, and the answers so far.
 #[derive(Drop)]
 pub(crate) struct Progress<'c> {
-    pub(crate) case: &'c Case,
+    pub(crate) case: &'c Case<'c>,
     pub(crate) process: ProcessId,
     pub(crate) own: OwnState,
     pub(crate) ahead: Ahead<'c>,
@@ -44,7 +44,7 @@ pub(crate) struct Progress<'c> {
 /// Judges one of a process's own records, and adds it with its answer at the end. The child that it forks is offered to
 /// the hand, and may come back.
 fn judge_record<'c, H: Hand<'c>>(
-    case: &'c Case,
+    case: &'c Case<'c>,
     process: ProcessId,
     index: u32,
     may_fork: bool,
@@ -80,7 +80,7 @@ fn judge_record<'c, H: Hand<'c>>(
 }
 
 /// Takes what a child and its descendants have off what is left below its parent.
-fn take_off<'c>(case: &'c Case, child: &Option<Job<'c>>, below: &mut u32) {
+fn take_off<'c>(case: &'c Case<'c>, child: &Option<Job<'c>>, below: &mut u32) {
     if let Some(job) = child {
         *below = below.saturating_sub(case.size_of(job.process));
     }

@@ -10,35 +10,34 @@ use crate::case::Case;
 use crate::job::Job;
 use ll_rules::NoMemory;
 use ll_state::OwnState;
-use ll_trace::Op;
 use std::alloc::Global;
 
 /// The job of the process that a `start` record begins; other records begin none.
-fn root_job<'c>(alloc: Global, case: &'c Case, index: usize) -> Option<Job<'c>>
+fn root_job<'c>(alloc: Global, case: &'c Case<'c>, index: usize) -> Option<Job<'c>>
     requires { index < length case.now.records }
     ensures root { option_map (λ job. job.process.0) result ≡ root_at case.now.records index }
     ensures of_case { IfSome result (λ job. job.case.now ≡ case.now) }
 {
     let record = case.record(index);
-    match record.op {
-        Op::Start { nnp, admin } => Some(Job {
+    match record.op.start() {
+        Some((nnp, admin)) => Some(Job {
             case,
             process: record.process,
             own: OwnState::fresh(alloc, nnp, admin),
         }),
-        _ => None,
+        None => None,
     }
 }
 
-impl Case {
+impl<'t> Case<'t> {
     /// One job for each `start` record, in the order of the trace, whose processes are numbered.
-    pub fn roots(&self, alloc: Global) -> Result<Vec<Job<'_>>, NoMemory>
+    pub fn roots(&'t self, alloc: Global) -> Result<Vec<Job<'t>>, NoMemory>
         ensures roots { IfOk result (λ jobs. processes_of jobs.items ≡ roots self.now.records) }
         ensures of_case { IfOk result (λ jobs. AreJobsOf self.now jobs.items) }
         ensures numbered { IfOk result (λ jobs. IsNumbered self.now.records) }
     {
         let mut jobs = Vec::new(alloc);
-        for index in 0..self.trace().records().len() {
+        for index in 0..self.trace().count() {
             if let Some(job) = root_job(alloc, self, index) {
                 append(&mut jobs, job)?;
             }

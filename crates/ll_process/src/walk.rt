@@ -1,6 +1,7 @@
 //! One process's own records, one after another.
 
-ghost use Rattle.std.specs.Prelude.{◌≡◌, ◌<◌, Some, IfOk, IfSome, OnOk, length, slice_get};
+ghost use Rattle.std.specs.Prelude.{◌≡◌, ◌<◌, false, Some, IfOk, IfSome, OnOk, length, slice_get};
+ghost use Rattle.ll_trace.specs.Borrowed.{is_of_rights};
 ghost use Rattle.ll_trace.specs.{declared.op.Record.Record as OneRecord, FirstPlaces.first_place};
 ghost use Rattle.ll_semantics.specs.declared.answer.RulesetOutcome.{RulesetOutcome as OneOutcome};
 ghost use Rattle.ll_semantics.specs.CallContexts.{CallContext, answer_to, state_then};
@@ -13,44 +14,65 @@ use crate::case::Case;
 use ll_rules::NoMemory;
 use ll_semantics::{Answer, RulesetOutcome};
 use ll_state::OwnState;
-use ll_trace::{Op, ProcessId, wants_at_a_path};
+use ll_trace::{Call, Op, ProcessId, Seen, wants_at_a_path};
 use ll_tree::Place;
 
 /// What the rulebook says of the call of the record at an index. It says nothing of most calls, for which it isn't
 /// asked.
-#[tactic(auto, unfolding(ll_semantics::specs::RulesetOutcomes::fitting))]
-fn outcome_at(case: &Case, index: u32, op: &Op) -> RulesetOutcome
+#[tactic(auto, unfolding(ll_semantics::specs::RulesetOutcomes::fitting, ll_trace::specs::Borrowed::meant))]
+fn outcome_at(case: &Case<'_>, index: u32, seen: &Seen<'_>) -> RulesetOutcome
     requires { index < length case.now.records }
+    ensures { (ctx : CallContext) → ((outcome : OneOutcome) →
+        slice_get case.now.outcomes index ≡ Some outcome → OutcomeFits ctx seen.now outcome)
+        → OutcomeFits ctx seen.now result }
+{
+    match seen.call() {
+        Call::Create { .. }
+        | Call::CreateEmpty { .. }
+        | Call::AddPath { .. }
+        | Call::AddPort { .. } => *case.outcome(index as usize),
+        Call::LeaveOutPath { .. } | Call::LeaveOutPort => RulesetOutcome::ByState,
+        Call::Other(op) => outcome_of_other(case, index, op),
+    }
+}
+
+/// The same of a call that no kernel changes.
+#[tactic(auto, unfolding(ll_semantics::specs::RulesetOutcomes::fitting, ll_trace::specs::Borrowed::is_of_rights))]
+fn outcome_of_other(case: &Case<'_>, index: u32, op: &Op) -> RulesetOutcome
+    requires other { is_of_rights op.now ≡ false }
+    requires index { index < length case.now.records }
     ensures { (ctx : CallContext) → ((outcome : OneOutcome) →
         slice_get case.now.outcomes index ≡ Some outcome → OutcomeFits ctx op.now outcome)
         → OutcomeFits ctx op.now result }
 {
     match op {
-        Op::Create { .. }
-        | Op::CreateEmpty { .. }
-        | Op::AddPath { .. }
-        | Op::AddPort { .. }
-        | Op::CloseRs { .. }
-        | Op::Restrict { .. } => *case.outcome(index as usize),
+        Op::CloseRs { .. } | Op::Restrict { .. } => *case.outcome(index as usize),
         _ => RulesetOutcome::ByState,
     }
 }
 
 /// The place of the first path of the call of the record at an index, if it names a path whose place is known.
-fn known_place(case: &Case, index: u32, op: &Op) -> Option<Place>
+fn known_place(case: &Case<'_>, index: u32, seen: &Seen<'_>) -> Option<Place>
     ensures { IfSome result (λ one. (r : OneRecord) → slice_get case.now.records index ≡ Some r
         → one ≡ first_place case.now.tree r.op) }
 {
-    match op {
-        wants_at_a_path!() | Op::OpenFile { .. } | Op::Rename { .. } | Op::Link { .. } =>
-            case.known_place(index as usize),
+    match seen.call() {
+        Call::Other(op) if names_a_place(op) => case.known_place(index as usize),
         _ => None,
     }
 }
 
+/// Whether a call names a path whose place is looked up before.
+fn names_a_place(op: &Op) -> bool {
+    matches!(
+        op,
+        wants_at_a_path!() | Op::OpenFile { .. } | Op::Rename { .. } | Op::Link { .. }
+    )
+}
+
 /// The answer to the record at an index if it meets this.
 fn judge_met(
-    case: &Case,
+    case: &Case<'_>,
     process: ProcessId,
     index: u32,
     own: &mut OwnState,
@@ -68,15 +90,15 @@ fn judge_met(
         slice_get case.now.records index ≡ Some r
         → Agrees ctx.tree ctx.layers own.new (state_then ctx r.op)) }
 {
-    let op = &case.record(index as usize).op;
-    let outcome = outcome_at(case, index, op);
-    let known = known_place(case, index, op);
-    own.answer_call(case.tree(), case.layers(), op, &outcome, known)
+    let record = case.record(index as usize);
+    let outcome = outcome_at(case, index, &record.op);
+    let known = known_place(case, index, &record.op);
+    own.answer_call(case.tree(), case.layers(), &record.op, &outcome, known)
 }
 
 /// The answer to one of a process's own records. A start took effect when its process began.
 pub(crate) fn answer_own(
-    case: &Case,
+    case: &Case<'_>,
     process: ProcessId,
     index: u32,
     own: &mut OwnState,
@@ -87,8 +109,9 @@ pub(crate) fn answer_own(
         (λ given. given ≡ answer_at case.now.tree case.now.abi case.now.records index) }
     ensures leaves { OnOk result (Leaves case.now index process.0 own.new) }
 {
-    match case.record(index as usize).op {
-        Op::Start { .. } => Ok(Answer::Allowed),
-        _ => judge_met(case, process, index, own),
+    let record = case.record(index as usize);
+    match record.op.start() {
+        Some(_) => Ok(Answer::Allowed),
+        None => judge_met(case, process, index, own),
     }
 }

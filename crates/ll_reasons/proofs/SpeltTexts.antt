@@ -11,9 +11,6 @@ use Rattle.ll_lines.specs.declared.path.TheConstants.{LONGEST_PATH}
 use Rattle.ll_lines.proofs.PathLaws.{text_of-path_of, path_of-short, is_path-path_of}
 use Rattle.std.specs.Prelude.{◌&&◌}
 use Rattle.std.proofs.lemmas.Bool.{leb-true, false≢true}
-use Rattle.ll_trace.specs.declared.op.Op.{Op}
-use Rattle.ll_reasons.specs.declared.why.Which.{Which}
-use Rattle.ll_reasons.specs.Meant.{path_named, text_named}
 use Rattle.ll_reasons.specs.Reasons.{path_or_root, spelt}
 
 read_as : (read : Option Path) → IsTrue (is_some read) → read ≡ Some (path_or_root read)
@@ -84,7 +81,7 @@ names_read text (Some path) is =
     omega (arith, whole, names_joined path)
 
 -- it has no more names than its text may have bytes
-pub few_names : (op : Op) (which : Which) → 0 + length (path_named op which) ≤ LONGEST_PATH
-few_names op which =
-    let few : length (path_named op which) ≤ LONGEST_PATH = names_read (text_named op which) (path_of (text_named op which)) refl in
+pub few_names : (text : List ℕ) → 0 + length (spelt text) ≤ LONGEST_PATH
+few_names text =
+    let few : length (spelt text) ≤ LONGEST_PATH = names_read text (path_of text) refl in
     omega (arith, few)

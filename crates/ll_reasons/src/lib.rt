@@ -14,7 +14,7 @@ mod worked;
 
 pub use layers::{allowed_records_need_no_explanation, refusing_layers_are_explained};
 pub use moves::{unlinked, unrenamed};
-pub use objects::{no_object, unmet};
+pub use objects::{no_object, no_object_at, unmet};
 pub use origins::{
     descriptors_come_from_their_openings, layers_come_from_their_restricts,
     layers_keep_their_numbers, rulesets_come_from_their_creations,

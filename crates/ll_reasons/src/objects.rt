@@ -1,15 +1,17 @@
 //! Why what is at a path isn't what a call wants there.
 
-ghost use Rattle.std.specs.Prelude.{◌≡◌, IfSome};
+ghost use Rattle.std.specs.Prelude.{◌≡◌, IfSome, IsTrue, is_some};
+ghost use Rattle.ll_lines.specs.Paths.{path_of};
 ghost use Rattle.ll_tree.specs.{Trees.place, TreeFacts.IsPlace};
 ghost use Rattle.ll_reasons.specs.declared.why.Which.TheVariants.{First};
 ghost use Rattle.ll_reasons.specs.Meant.{path_named, reason_in, text_named};
-ghost use Rattle.ll_reasons.specs.Reasons.{no_object, nowhere, unmet};
+ghost use Rattle.ll_reasons.specs.Reasons.{no_object, nowhere, spelt, unmet};
+ghost use Rattle.ll_trace.specs.declared.op.Op.{Op as Operation};
 
 use crate::paths::{SpeltPath, text_of};
 use crate::why::{NamedPath, Reason, Which};
 use ll_semantics::Wanted;
-use ll_trace::Op;
+use ll_trace::{Op, PathText};
 use ll_tree::{Place, Tree};
 
 /// The place of the first path of a call, which may be known.
@@ -25,13 +27,15 @@ pub(crate) fn place_of(tree: &Tree, op: &Op, known: Option<Place>) -> Place
     }
 }
 
-/// Where the tree ends on the way to a path of a call that isn't there: at the first path, going up, whose directory is
-/// there.
+/// Where the tree ends on the way to a path of a call that isn't there, by its text: at the first path, going up, whose
+/// directory is there.
 #[tactic(auto, unfolding(crate::specs::Meant::reason_in, crate::specs::Meant::path_in))]
-pub(crate) fn nowhere(tree: &Tree, op: &Op, which: Which) -> Reason
-    ensures { reason_in op.now result ≡ nowhere tree.now (path_named op.now which) }
+fn nowhere_from(tree: &Tree, text: &str, which: Which) -> Reason
+    requires { IsTrue (is_some (path_of text.now)) }
+    ensures { (op : Operation) → text_named op which ≡ text.now
+        → reason_in op result ≡ nowhere tree.now (spelt text.now) }
 {
-    let mut missing = SpeltPath::of(op, which);
+    let mut missing = SpeltPath::spelling(text);
     let mut above = 0;
     while let Some(up) = missing.front() {
         if let Some(node) = up.node(tree) {
@@ -45,6 +49,27 @@ pub(crate) fn nowhere(tree: &Tree, op: &Op, which: Which) -> Reason
         above += 1;
     }
     Reason::Absent(NamedPath { which, above })
+}
+
+/// The same of a path that a call names.
+pub(crate) fn nowhere(tree: &Tree, op: &Op, which: Which) -> Reason
+    ensures { reason_in op.now result ≡ nowhere tree.now (path_named op.now which) }
+{
+    nowhere_from(tree, text_of(op, which), which)
+}
+
+/// Why the path of a rule isn't that of an object.
+#[tactic(auto, unfolding(crate::specs::Meant::reason_in, crate::specs::Meant::path_in, crate::specs::Meant::above_by, crate::specs::Reasons::no_object))]
+pub fn no_object_at(tree: &Tree, path: &PathText) -> Reason
+    ensures { (op : Operation) → text_named op First ≡ path.now → reason_in op result
+        ≡ no_object tree.now (path_named op First) (place tree.now (text_named op First)) }
+{
+    let which = Which::First;
+    match tree.place_of(path.as_str()) {
+        Place::Node(node) => Reason::OfKind(tree.kind(node)),
+        Place::Gap(_) => Reason::Absent(NamedPath { which, above: 0 }),
+        Place::Nowhere => nowhere_from(tree, path.as_str(), which),
+    }
 }
 
 /// Why the first path of a call, whose place may be known, isn't that of an object which the call takes.

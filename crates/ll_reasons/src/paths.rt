@@ -40,6 +40,14 @@ impl<'t> SpeltPath<'t> {
         }
     }
 
+    /// The path that a text spells.
+    pub(crate) fn spelling(text: &'t str) -> SpeltPath<'t>
+        requires { IsTrue (is_some (path_of text.now)) }
+        ensures { result ≡ spelt text.now }
+    {
+        SpeltPath { text }
+    }
+
     /// The text.
     pub(crate) fn as_str(&self) -> &'t str
         ensures path { spelt result.now ≡ self.now }

@@ -1,11 +1,11 @@
 -- What rows say, by the findings.
-use Rattle.std.proofs.Common.{◌≡◌, ◌∙◌, ℕ, ◌+◌, ◌<◌, ◌≤◌, Bool, true, false, ◌||◌, List, [], ◌∷◌, ◌++◌, length, map, drop, slice_get, All, refl, sym}
+use Rattle.std.proofs.Common.{◌≡◌, ◌∙◌, ℕ, ◌+◌, ◌<◌, ◌≤◌, Bool, true, false, ◌||◌, List, [], ◌∷◌, ◌++◌, length, map, drop, All, refl, sym}
 use Rattle.std.proofs.Common.{ap, ap₂, arith, codes, cond, inl, inr, subst, get_or}
 use Rattle.std.specs.Prelude.{count_by, nat_lt, unwrap_or, not, ◌&&◌, ◌⊎◌}
 use Rattle.std.specs.List.{list_any, range_with_len}
 use Rattle.std.proofs.lemmas.Bool.{cases_Bool, cases_lt, false≢true}
 use Rattle.std.proofs.lemmas.List.{drop_more, drop_all, length-map}
-use Rattle.std.proofs.lemmas.List.Elements.{All-cons, All-head, All-tail, All-weaker}
+use Rattle.std.proofs.lemmas.List.Elements.{All-head, All-tail}
 use Rattle.std.proofs.lemmas.List.Sums.{sum_by-cons}
 use Rattle.std.proofs.lemmas.Option.{slice_get_past, unwrap_or-slice_get}
 use Rattle.std.proofs.lemmas.List.FromFn.{get_or-map-range_with_len, length-map-range_with_len}
@@ -17,16 +17,15 @@ use Rattle.ll_explain.specs.Told.{said_text, text_told}
 use Rattle.ll_report.specs.declared.options.Shown.{Shown}
 use Rattle.ll_report.specs.declared.spans.Form.TheVariants.{Answers, Explanations}
 use Rattle.ll_findings.specs.Alike.{AreAlike, FindsAs}
-use Rattle.ll_report.specs.Scratches.{told_under, verdict_told}
+use Rattle.ll_report.specs.Printed.{printed_under, text_printed, verdict_printed}
 use Rattle.ll_report.specs.Found.{Found, answer_at, explanation_at}
-use Rattle.ll_report.specs.Lines.{line_of, verdict_of}
-use Rattle.ll_report.specs.Report.{is_refused, line_text, verdict_text}
+use Rattle.ll_report.specs.Lines.{verdict_of}
+use Rattle.ll_report.specs.Report.{is_refused, verdict_text}
 use Rattle.ll_report.specs.Rows.{answers_said, are_several, explanations_said, is_refused_under_some, is_row_left_out, row_text, told_of}
 use Rattle.ll_report.specs.Rows.{total_under_text, totals_from, totals_text}
 use Rattle.ll_report.specs.Shown.{behind_line}
 use Rattle.ll_report.specs.Spans.{agree, versions_text}
 use Rattle.ll_report.specs.Versions.{answered, answers_in, found_in, founds_in, some_refuses}
-use Rattle.ll_report.proofs.SaidAlike.{AreSaid, IsSaid, left_out_alike, row_written, versions_alike}
 
 -- ---- what is said of findings, whichever way they are seen
 
@@ -86,108 +85,33 @@ explained_in tree records finding index = elim (cases_lt index (length records))
 ]
 
 pub explanations_in : (tree : List Entry) (records : List Record) (findings : List FindingValue) (index : ℕ)
-    → explanations_said (founds_in true tree records findings) index ≡ told_under text_told tree records findings index
+    → explanations_said (founds_in true tree records findings) index ≡ printed_under text_printed tree records findings index
 explanations_in tree records findings index =
     map_map (λ found. explanation_at found index) (found_in true tree records) findings
     ∙ map_same (λ finding. explanation_at (found_in true tree records finding) index) (λ finding. text_told tree records finding index) findings
     (λ finding. explained_in tree records finding index)
 
--- the same value says the same
-pub same_text : (tree : List Entry) (records : List Record) (one other : FindingValue) (index : ℕ) → kept_at one index ≡ kept_at other index
-    → text_told tree records one index ≡ text_told tree records other index
-same_text tree records one other index same = ap (λ kept. said_text tree records (said_by (slice_get records index) kept)) same
-
--- ---- records of which all versions find the same
-
-alike_said : {X : Type 0} (said : Found → X) (seen : FindingValue → Found) (same : X) (findings : List FindingValue)
-    → All (λ finding. said (seen finding) ≡ same) findings → AreSaid said same (map seen findings)
-alike_said said seen same [] all = tt
-alike_said said seen same (finding ∷ others) all = (
-  All-head (λ f. said (seen f) ≡ same) finding others all,
-  alike_said said seen same others (All-tail (λ f. said (seen f) ≡ same) finding others all),
-)
-
-answer_so : (seen : FindingValue → Found) (index : ℕ) → ((f : FindingValue) → answer_at (seen f) index ≡ answer_in f index)
-    → (one : FindingValue) (others : List FindingValue) → All (FindsAs one index) others
-    → IsSaid (λ (found : Found). answer_at found index) (answer_in one index) (map seen (one ∷ others))
-answer_so seen index same one others are = (
-  omega arith,
-  alike_said (λ (found : Found). answer_at found index) seen (answer_in one index) (one ∷ others)
-      (All-cons (λ f. answer_at (seen f) index ≡ answer_in one index) one others (same one)
-      (All-weaker (FindsAs one index) (λ f. answer_at (seen f) index ≡ answer_in one index) (λ f is. same f ∙ is.0) others are)),
-)
-
--- whether it is left out
-pub alike_out : (shown : Shown) (findings : List FindingValue) (index : ℕ) (one : FindingValue) (others : List FindingValue)
-    → findings ≡ one ∷ others → AreAlike findings index
-    → ((shown.refused_alone && not (is_refused (verdict_of (answer_in one index)))) || shown.differing_alone)
-    ≡ is_row_left_out shown (answers_in findings) index
-alike_out shown findings index one others is are =
-    sym (left_out_alike shown (answers_in (one ∷ others)) index (answer_in one index)
-    (answer_so answered index (λ f. refl) one others (subst (λ fs. AreAlike fs index) is are)))
-    ∙ ap (λ fs. is_row_left_out shown (answers_in fs) index) (sym is)
-
-module _ (tree : List Entry) (records : List Record) (index oldest : ℕ) (one : FindingValue) (others : List FindingValue) where
-  behind_same : (explains : Bool) → AreAlike (one ∷ others) index
-      → behind_line explains (text_told tree records one index)
-      ≡ behind_line explains (versions_text Explanations oldest (explanations_said (founds_in explains tree records (one ∷ others)) index))
-  behind_same false are = refl
-  behind_same true are =
-      let said : FindingValue → Type 0 = λ f. explanation_at (found_in true tree records f) index ≡ text_told tree records one index in
-      let all : All said (one ∷ others) =
-      All-cons said one others (explained_in tree records one index)
-      (All-weaker (FindsAs one index) said (λ f same. explained_in tree records f index ∙ same_text tree records f one index same.1) others are) in
-      sym (versions_alike (λ (found : Found). explanation_at found index) (λ (text : List ℕ). text) (text_told tree records one index) Explanations oldest
-      (founds_in true tree records (one ∷ others)) (
-        omega arith,
-        alike_said (λ (found : Found). explanation_at found index) (found_in true tree records) (text_told tree records one index)
-            (one ∷ others) all,
-      ))
-
-  first_shown : (shown : Shown) (r : Record) → AreAlike (one ∷ others) index → is_row_left_out shown (answers_in (one ∷ others)) index ≡ false
-      → line_text (line_of r (answer_in one index)) ++ behind_line shown.explanations (text_told tree records one index)
-      ≡ row_text shown oldest (founds_in shown.explanations tree records (one ∷ others)) index (told_of r)
-  first_shown shown r are shows =
-      let founds : List Found = founds_in shown.explanations tree records (one ∷ others) in
-      let seen : is_row_left_out shown founds index ≡ false =
-      sym (same_left_out (one ∷ others) index shown.explanations tree records shown) ∙ shows in
-      ap (λ behind. line_text (line_of r (answer_in one index)) ++ behind) (behind_same shown.explanations are)
-      ∙ row_written shown oldest founds index r (answer_in one index)
-      (answer_so (found_in shown.explanations tree records) index (λ f. refl) one others are) seen
-
--- what is shown of a record of which all versions find the same, is what one of them shows
-pub shown_alike : (shown : Shown) (oldest : ℕ) (tree : List Entry) (records : List Record) (findings : List FindingValue) (index : ℕ) (r : Record)
-    (one : FindingValue) (others : List FindingValue) → findings ≡ one ∷ others → AreAlike findings index
-    → is_row_left_out shown (answers_in findings) index ≡ false
-    → line_text (line_of r (answer_in one index)) ++ behind_line shown.explanations (text_told tree records one index)
-    ≡ row_text shown oldest (founds_in shown.explanations tree records findings) index (told_of r)
-shown_alike shown oldest tree records findings index r one others is are shows =
-    first_shown tree records index oldest one others shown r (subst (λ fs. AreAlike fs index) is are)
-    (subst (λ fs. is_row_left_out shown (answers_in fs) index ≡ false) is shows)
-    ∙ ap (λ fs. row_text shown oldest (founds_in shown.explanations tree records fs) index (told_of r)) (sym is)
-
--- ---- records about which versions may differ
-
--- why one is left out, or is not
+-- ---- why a record is left out, or is not
 module _ (shown : Shown) (findings : List FindingValue) (index : ℕ) (tree : List Entry) (records : List Record) where
   left_out : is_row_left_out shown (answers_in findings) index
-      ≡ ((shown.refused_alone && not (some_refuses findings index)) || (shown.differing_alone && agree (told_under verdict_told tree records findings index)))
+      ≡ ((shown.refused_alone && not (some_refuses findings index))
+      || (shown.differing_alone && agree (printed_under verdict_printed tree records findings index)))
   left_out =
       ap₂ (λ (refused : Bool) (texts : List (List ℕ)). (shown.refused_alone && not refused) || (shown.differing_alone && agree texts))
       (refused_alone findings index) (answered_alone findings index)
 
   pub passed_over : (shown.refused_alone && not (some_refuses findings index)) ≡ true → true ≡ is_row_left_out shown (answers_in findings) index
-  passed_over is = sym (left_out ∙ ap (λ b. b || (shown.differing_alone && agree (told_under verdict_told tree records findings index))) is)
+  passed_over is = sym (left_out ∙ ap (λ b. b || (shown.differing_alone && agree (printed_under verdict_printed tree records findings index))) is)
 
   pub kept_in : (shown.refused_alone && not (some_refuses findings index)) ≡ false → shown.differing_alone ≡ false
       → false ≡ is_row_left_out shown (answers_in findings) index
   kept_in is all =
-      sym (left_out ∙ ap₂ (λ a b. a || (b && agree (told_under verdict_told tree records findings index))) is all)
+      sym (left_out ∙ ap₂ (λ a b. a || (b && agree (printed_under verdict_printed tree records findings index))) is all)
 
   pub as_agreed : (shown.refused_alone && not (some_refuses findings index)) ≡ false → shown.differing_alone ≡ true
-      → agree (told_under verdict_told tree records findings index) ≡ is_row_left_out shown (answers_in findings) index
+      → agree (printed_under verdict_printed tree records findings index) ≡ is_row_left_out shown (answers_in findings) index
   as_agreed is differing =
-      sym (left_out ∙ ap₂ (λ a b. a || (b && agree (told_under verdict_told tree records findings index))) is differing)
+      sym (left_out ∙ ap₂ (λ a b. a || (b && agree (printed_under verdict_printed tree records findings index))) is differing)
 
 module _ (shown : Shown) (oldest : ℕ) (tree : List Entry) (records : List Record) (findings : List FindingValue) (index : ℕ) (r : Record) where
   abbrev founds : List Found
@@ -200,7 +124,7 @@ module _ (shown : Shown) (oldest : ℕ) (tree : List Entry) (records : List Reco
 
   pub apart_shown : (behind : List ℕ) → is_row_left_out shown (answers_in findings) index ≡ false
       → behind ≡ behind_line shown.explanations (versions_text Explanations oldest (explanations_said founds index))
-      → told_of r ++ versions_text Answers oldest (told_under verdict_told tree records findings index) ++ codes "\n" ++ behind
+      → told_of r ++ versions_text Answers oldest (printed_under verdict_printed tree records findings index) ++ codes "\n" ++ behind
       ≡ row_text shown oldest founds index (told_of r)
   apart_shown behind shows is =
       let seen : is_row_left_out shown founds index ≡ false = sym (same_left_out findings index shown.explanations tree records shown) ∙ shows in
@@ -209,7 +133,7 @@ module _ (shown : Shown) (oldest : ℕ) (tree : List Entry) (records : List Reco
       ∙ sym (rw seen refl)
 
 pub behind_told : (explains : Bool) (oldest : ℕ) (tree : List Entry) (records : List Record) (findings : List FindingValue) (index : ℕ) → explains ≡ true
-    → versions_text Explanations oldest (told_under text_told tree records findings index)
+    → versions_text Explanations oldest (printed_under text_printed tree records findings index)
     ≡ behind_line explains (versions_text Explanations oldest (explanations_said (founds_in explains tree records findings) index))
 behind_told true oldest tree records findings index is = ap (versions_text Explanations oldest) (sym (explanations_in tree records findings index))
 behind_told false oldest tree records findings index is = absurd (false≢true is)

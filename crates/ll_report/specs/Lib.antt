@@ -4,9 +4,7 @@ pub mod Shown
 pub mod Made
 pub mod Writing
 pub mod Found
-pub mod Scratches
-pub mod Measures
+pub mod Printed
 pub mod Spans
 pub mod Rows
 pub mod Versions
-pub mod ByValue

@@ -1,7 +1,8 @@
 -- What is said of a record under neighbouring versions: where it is the same, it is said once. Also what spans say under
 -- each of their versions.
 -- Source: docs/FORMATS.md, "Several versions".
-use Rattle.std.specs.Prelude.{◌+◌, ◌-◌, suc, ◌==◌, ◌++◌, ℕ, Bool, true, List, [], ◌∷◌, bytes_eq, codes, decimal, length, map, if◌then◌else◌}
+use Rattle.std.specs.Prelude.{◌≡◌, ◌+◌, ◌-◌, ◌<◌, ◌≤◌, suc, ◌==◌, ◌++◌, ℕ, Bool, true, false, List, [], ◌∷◌, bytes_eq, codes, decimal}
+use Rattle.std.specs.Prelude.{get_or, length, map, if◌then◌else◌}
 use Rattle.std.specs.List.{flat_map, list_all, range_with_len, zip}
 use Rattle.ll_report.specs.declared.spans.Form.{Form}
 use Rattle.ll_report.specs.declared.spans.Form.TheVariants.{Answers, Explanations}
@@ -24,6 +25,17 @@ spans_from span (said ∷ others) =
 abbrev pub spans_of : ℕ → List (List ℕ) → List Span
 spans_of oldest [] = []
 spans_of oldest (said ∷ others) = spans_from (record { first = oldest; last = oldest; said = said }) others
+
+-- a span begins with a version and ends before another one: from it up to there the same is said, and then something else
+pub record IsSpan (said : List (List ℕ)) (from end : ℕ) : Type 0 where
+  pub some : from < end
+  pub within : end ≤ length said
+  pub same : (k : ℕ) → from ≤ k → k < end → get_or said from [] ≡ get_or said k []
+  pub apart : end < length said → bytes_eq (get_or said from []) (get_or said end []) ≡ false
+
+-- this span, where the oldest version has this number
+abbrev pub span_at : ℕ → List (List ℕ) → ℕ → ℕ → Span
+span_at oldest said from end = record { first = oldest + from; last = oldest + (end - 1); said = get_or said from [] }
 
 -- the same is said under all versions
 abbrev pub agree : List (List ℕ) → Bool

@@ -1,6 +1,6 @@
 -- What the report is made of, by what was found under each of them.
 -- Source: docs/FORMATS.md, "Several versions".
-use Rattle.std.specs.Prelude.{ℕ, ◌+◌, ◌<◌, ◌^◌, Bool, List, [], if◌then◌else◌, length, map}
+use Rattle.std.specs.Prelude.{ℕ, Bool, List, [], if◌then◌else◌, length, map}
 use Rattle.std.specs.List.{list_any, range_with_len}
 use Rattle.ll_tree.specs.Trees.{Entry}
 use Rattle.ll_trace.specs.declared.op.Record.{Record}
@@ -13,9 +13,8 @@ use Rattle.ll_report.specs.Lines.{verdict_of}
 use Rattle.ll_report.specs.Made.{Made, rows_of}
 use Rattle.ll_report.specs.Report.{is_refused}
 use Rattle.ll_report.specs.Rows.{row_text, told_of, totals_text}
-use Rattle.ll_report.specs.Scratches.{AreComparable, ScratchValue, said_by, verdict_told}
 
--- what a finding says, by the tree and the records at hand: the answers, and the explanations, where they are shown
+-- what a finding says, by the tree and the records of the trace: the answers, and the explanations, where they are shown
 abbrev pub found_in : Bool → List Entry → List Record → FindingValue → Found
 found_in explains tree records finding = record {
   answers = finding.answers;
@@ -44,15 +43,9 @@ answers_in findings = map answered findings
 abbrev pub some_refuses : List FindingValue → ℕ → Bool
 some_refuses findings index = list_any (λ finding. is_refused (verdict_of (answer_in finding index))) findings
 
--- the numbers of versions fit, and what they say of a record, in words for their answers and as text, can be compared
-pub record IsTellable (scratch : ScratchValue) (row : Row) : Type 0 where
-  pub few : row.oldest + length row.sayings.findings.now < 2 ^ 64
-  pub verdicts : AreComparable 0 scratch row.sayings.index (said_by verdict_told row.sayings)
-  pub texts : AreComparable 0 scratch row.sayings.index (said_by text_told row.sayings)
-
--- what is shown of a record, by what there is to say of it
+-- what is shown of a record, by what versions found of it
 abbrev pub row_of : Row → List ℕ
 row_of row =
     row_text row.shown row.oldest
-    (founds_in row.shown.explanations row.sayings.tree.now row.sayings.records.now row.sayings.findings.now)
-    row.sayings.index (told_of row.record.now)
+    (founds_in row.shown.explanations row.found.tree.now row.found.records.now row.found.findings.now)
+    row.found.index (told_of row.record.now)

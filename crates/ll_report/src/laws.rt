@@ -5,7 +5,7 @@ ghost use Rattle.ll_rights.specs.{declared.abi.Abi.Abi as Version, declared.abi.
 ghost use Rattle.ll_tree.specs.{Trees.Entry, WorkedTree.worked_tree};
 ghost use Rattle.ll_trace.specs.declared.op.Record.{Record as OneRecord};
 ghost use Rattle.ll_semantics.specs.Worlds.{judged};
-ghost use Rattle.ll_process.specs.TakenLater.{AreTakenLater};
+ghost use Rattle.ll_findings.specs.TakenRecords.{AreTaken};
 ghost use Rattle.ll_findings.specs.Findings.{FindingValue, Finds};
 ghost use Rattle.ll_report.specs.{declared.options.Shown.Shown, Found.found_under, Versions.found_in, Lines.lines_of};
 ghost use Rattle.ll_report.specs.Report.{report_text};
@@ -25,11 +25,12 @@ pub fn spans_give_back_what_was_said()
         → all_spread_out (spans_of oldest said) ≡ numbered_from oldest said }
 {}
 
-/// What a finding says is what is found by the definitions, also by the records as an older version takes them.
+/// What a finding says is what is found by the definitions, also by the records of the trace that a kernel has
+/// taken.
 #[tactic(auto, using(crate::proofs::FoundJudged::found_as_judged))]
 pub fn findings_say_what_is_found()
-    ensures { (shown : Shown) (tree : List Entry) (abi : Version) (records later : List OneRecord)
+    ensures { (shown : Shown) (tree : List Entry) (abi : Version) (records trace : List OneRecord)
         (finding : FindingValue) → Finds shown.explanations tree abi records finding
-        → AreTakenLater later records
-        → found_in shown.explanations tree later finding ≡ found_under shown tree records abi }
+        → AreTaken trace records
+        → found_in shown.explanations tree trace finding ≡ found_under shown tree records abi }
 {}

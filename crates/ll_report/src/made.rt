@@ -1,9 +1,10 @@
 //! What a report is made of.
 
-ghost use Rattle.std.specs.Prelude.{◌≡◌, ◌<◌, length};
+ghost use Rattle.std.specs.Prelude.{◌≡◌, ◌<◌, OnOk, length};
 ghost use Rattle.ll_explain.specs.Buffers.{adding};
 ghost use Rattle.ll_report.specs.Made.{row_at};
 
+use crate::pages::TooLong;
 use ll_explain::TextBuffer;
 
 /// What a report is made of: a row of each record, which may be empty, one after another, and the last lines.
@@ -18,9 +19,9 @@ pub trait Rows {
         ensures { result ≡ length (made_of self.now).shown };
 
     /// Adds the row at an index.
-    fn push_row(&mut self, text: &mut TextBuffer, index: usize)
+    fn push_row(&mut self, text: &mut TextBuffer, index: usize) -> Result<(), TooLong>
         requires { index < length (made_of self.old).shown }
-        ensures row { text.new ≡ adding text.old (row_at (made_of self.old) index) }
+        ensures row { OnOk result (text.new ≡ adding text.old (row_at (made_of self.old) index)) }
         ensures made { made_of self.new ≡ made_of self.old };
 
     /// Adds the last lines.

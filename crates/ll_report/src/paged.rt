@@ -5,7 +5,7 @@ ghost use Rattle.std.specs.Bool.{OnFalse, OnTrue};
 ghost use Rattle.std.specs.Io.KnownBytes.{Appends};
 ghost use Rattle.ll_explain.specs.Buffers.{adding, holding};
 ghost use Rattle.ll_report.specs.Made.{part_at, text_of};
-ghost use Rattle.ll_report.specs.Writing.{AppendsBeginning, IsPage, Sends};
+ghost use Rattle.ll_report.specs.Writing.{AppendsBeginning, HoldsRest, IsPage, Sends};
 
 use crate::made::Rows;
 use crate::writing::{write_bytes, write_whole};
@@ -53,9 +53,9 @@ impl<R: Rows + Drop> Paged<R> {
     {
         let Paged { mut rows, page: _ } = self;
         let mut measure = TextBuffer::measure(alloc);
-        push_all(&mut rows, &mut measure);
+        push_all(&mut rows, &mut measure)?;
         let mut text = TextBuffer::new(alloc, measure.count())?;
-        push_all(&mut rows, &mut text);
+        push_all(&mut rows, &mut text)?;
         Ok(text.into_bytes())
     }
 
@@ -82,26 +82,29 @@ impl<R: Rows + Drop> Paged<R> {
 }
 
 /// Adds all rows and the last lines.
-fn push_all<R: Rows>(rows: &mut R, text: &mut TextBuffer)
-    ensures text { text.new ≡ adding text.old (text_of (R.made_of rows.old)) }
+fn push_all<R: Rows>(rows: &mut R, text: &mut TextBuffer) -> Result<(), AllocError>
+    ensures text { OnOk result (text.new ≡ adding text.old (text_of (R.made_of rows.old))) }
     ensures made { R.made_of rows.new ≡ R.made_of rows.old }
 {
     for index in 0..rows.count() {
-        rows.push_row(text, index);
+        rows.push_row(text, index)?;
     }
     rows.push_last(text);
+    Ok(())
 }
 
 /// Adds the row at an index, or the last lines if there are fewer rows.
-fn push_part<R: Rows>(rows: &mut R, text: &mut TextBuffer, index: usize)
-    ensures part { text.new ≡ adding text.old (part_at (R.made_of rows.old) index) }
+fn push_part<R: Rows>(rows: &mut R, text: &mut TextBuffer, index: usize) -> io::Result<()>
+    ensures part { OnOk result
+        (text.new ≡ adding text.old (part_at (R.made_of rows.old) index)) }
     ensures made { R.made_of rows.new ≡ R.made_of rows.old }
 {
     if index < rows.count() {
-        rows.push_row(text, index);
-    } else {
-        rows.push_last(text);
+        rows.push_row(text, index)?;
+        return Ok(());
     }
+    rows.push_last(text);
+    Ok(())
 }
 
 /// Puts the part at an index on a page, behind what is held there, and writes the page out if it is full.
@@ -120,7 +123,7 @@ fn put_part<R: Rows, O: Write>(
         (page.old.held ++ part_at (R.made_of rows.old) index) }
 {
     let written = page.room() - page.held().len();
-    push_part(rows, page, index);
+    push_part(rows, page, index)?;
     if page.count() <= page.room() {
         return Ok(());
     }
@@ -147,32 +150,35 @@ fn put_rest<R: Rows, O: Write>(
         (drop skip (part_at (R.made_of rows.old) index)) }
 {
     let mut written = skip;
-    while !holds_rest(rows, index, written, page) {
+    loop {
+        let whole = holds_rest(rows, index, written, page)?;
+        if whole {
+            page.settle();
+            return Ok(());
+        }
         write_bytes(out, page.held())?;
         let Some(next) = written.checked_add(page.room()) else {
             return Err(ErrorKind::FileTooLarge.into());
         };
         written = next;
     }
-    page.settle();
-    Ok(())
 }
 
 /// Puts a part on an empty page without its first bytes, as much as there is room for, and says whether that is all.
-fn holds_rest<R: Rows>(rows: &mut R, index: usize, skip: usize, page: &mut TextBuffer) -> bool
+fn holds_rest<R: Rows>(
+    rows: &mut R,
+    index: usize,
+    skip: usize,
+    page: &mut TextBuffer,
+) -> io::Result<bool>
     requires { skip ≤ length (part_at (R.made_of rows.old) index) }
-    ensures room { page.new.room ≡ page.old.room }
     ensures made { R.made_of rows.new ≡ R.made_of rows.old }
-    ensures held { page.new.held
-        ≡ take page.old.room (drop skip (part_at (R.made_of rows.old) index)) }
-    ensures all { OnTrue result
-        (length (part_at (R.made_of rows.old) index) ≤ skip + page.old.room) }
-    ensures more { OnFalse result (skip + page.old.room < 2 ^ 64
-        → skip + page.old.room ≤ length (part_at (R.made_of rows.old) index)) }
+    ensures page { IfOk result
+        (HoldsRest (part_at (R.made_of rows.old) index) skip page.old.room page.new) }
 {
     page.restart(skip);
-    push_part(rows, page, index);
-    is_room_for(page.count(), skip, page.room())
+    push_part(rows, page, index)?;
+    Ok(is_room_for(page.count(), skip, page.room()))
 }
 
 /// Whether there is room for so many bytes without the first ones. What can't be counted has none.

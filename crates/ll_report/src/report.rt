@@ -3,9 +3,9 @@
 
 ghost use Rattle.std.specs.Prelude.{◌≡◌, ◌++◌, ◌∷◌, [], codes, count_by, decimal, length, if◌then◌else◌};
 ghost use Rattle.ll_explain.specs.Buffers.{adding};
-ghost use Rattle.ll_report.specs.Lines.{line_of, verdict_of};
+ghost use Rattle.ll_report.specs.Lines.{verdict_of};
 ghost use Rattle.ll_report.specs.Report as words;
-ghost use Rattle.ll_report.specs.Report.{counts_text, layers_text, line_text, next_layer_text, record_text, refused, report_status, verdict_text};
+ghost use Rattle.ll_report.specs.Report.{counts_text, layers_text, next_layer_text, record_text, refused, report_status, verdict_text};
 ghost use Rattle.ll_report.specs.Rows.{abi_text};
 ghost use Rattle.ll_report.specs.Lines as spec;
 
@@ -14,7 +14,6 @@ use ll_explain::{TextBuffer, push_number, push_words};
 use ll_findings::Finding;
 use ll_process::Answer;
 use ll_rules::{Errno, LayerSet, MOST_LAYERS};
-use ll_trace::Record;
 
 /// The report of an audit.
 #[derive(Debug, Drop)]
@@ -43,14 +42,6 @@ pub(crate) fn push_record(text: &mut TextBuffer, line: u64, pid: u64, op: &str)
     push_number(text, pid);
     push_words(text, " ");
     push_words(text, op);
-}
-
-/// Adds what comes before a verdict.
-fn push_head(text: &mut TextBuffer, line: u64, pid: u64, op: &str)
-    ensures { text.new ≡ adding text.old (record_text line pid op.now ++ codes " ") }
-{
-    push_record(text, line, pid, op);
-    push_words(text, " ");
 }
 
 /// Adds the numbers of layers, separated by commas, or a hyphen where there are none.
@@ -126,15 +117,6 @@ pub(crate) fn push_verdict(text: &mut TextBuffer, answer: &Answer)
         Answer::Moot => push_words(text, "moot"),
         Answer::Refused(error, layers) => push_refusal(text, *error, *layers),
     }
-}
-
-/// Adds the line of a record and its answer.
-pub(crate) fn push_line(text: &mut TextBuffer, record: &Record, answer: &Answer)
-    ensures { text.new ≡ adding text.old (line_text (line_of «record».now answer.now)) }
-{
-    push_head(text, record.line, record.pid, record.op.name());
-    push_verdict(text, answer);
-    push_words(text, "\n");
 }
 
 fn is_allowed(answer: &Answer) -> bool

@@ -1,26 +1,20 @@
 //! What is shown of each record.
 
-ghost use Rattle.std.specs.Prelude.{◌≡◌, ◌+◌, ◌++◌, ◌<◌, ◌^◌, ◌&&◌, ◌||◌, count_by, false, length, not};
+ghost use Rattle.std.specs.Prelude.{◌≡◌, ◌+◌, ◌<◌, ◌^◌, ◌&&◌, IfOk, OnOk, count_by, false, length, not};
 ghost use Rattle.std.specs.List.{range_with_len};
-ghost use Rattle.ll_explain.specs.{Buffers.adding, Told.text_told};
-ghost use Rattle.ll_findings.specs.{Alike.AreAlike, Findings.answer_in};
-ghost use Rattle.ll_report.specs.Lines.{line_of, verdict_of};
-ghost use Rattle.ll_report.specs.Report as words;
-ghost use Rattle.ll_report.specs.Report.{line_text};
+ghost use Rattle.ll_explain.specs.Buffers.{adding};
 ghost use Rattle.ll_report.specs.Rows.{is_row_left_out};
-ghost use Rattle.ll_report.specs.{Scratches.AreComparable, Scratches.said_by, Scratches.verdict_told, Shown.behind_line};
-ghost use Rattle.ll_report.specs.Versions.{IsTellable, answers_in, row_of, some_refuses};
+ghost use Rattle.ll_report.specs.Versions.{answers_in, row_of, some_refuses};
 
+use crate::findings_at::FindingsAt;
 use crate::options::Shown;
-use crate::report::{is_refused, push_line, push_record};
-use crate::sayings::Sayings;
-use crate::scratch::Scratch;
+use crate::pages::{Pages, TooLong};
+use crate::printer::{InWords, Verdicts};
+use crate::report::{is_refused, push_record};
 use crate::spans::Form;
-use crate::telling::{InWords, Verdicts};
-use ll_explain::{TextBuffer, push_found, push_words};
+use ll_explain::{TextBuffer, push_words};
 use ll_findings::{Finding, Findings};
 use ll_trace::Record;
-use ll_tree::Tree;
 
 /// Whether some version refuses the record at an index.
 fn some_refuses(findings: &[Finding], index: usize) -> bool
@@ -58,118 +52,40 @@ pub fn refused_under_some(findings: &Findings, records: usize) -> u64
 fn is_passed_over(shown: Shown, findings: &Findings, index: usize) -> bool
     ensures { result ≡ (shown.refused_alone && not (some_refuses findings.now index)) }
 {
-    shown.refused_alone && !some_refuses(findings.as_slice(), index)
-}
-
-/// Whether a record about which versions may differ is left out of what is shown.
-fn is_apart_left_out(shown: Shown, sayings: &Sayings<'_>, scratch: &mut Scratch) -> bool
-    requires { AreComparable 0 scratch.old sayings.now.index (said_by verdict_told sayings.now) }
-    ensures out { result
-        ≡ is_row_left_out shown (answers_in sayings.now.findings.now) sayings.now.index }
-    ensures scratch { scratch.new ≡ scratch.old }
-{
-    if is_passed_over(shown, sayings.findings, sayings.index) {
-        return true;
-    }
-    if !shown.differing_alone {
-        return false;
-    }
-    sayings.agree::<Verdicts>(scratch)
-}
-
-/// Whether a record about which versions agree is left out, by what one of them finds.
-fn is_left_out_by(shown: Shown, finding: &Finding, index: usize) -> bool
-    ensures { result ≡ ((shown.refused_alone
-        && not (words.is_refused (verdict_of (answer_in finding.now index))))
-        || shown.differing_alone) }
-{
-    shown.refused_alone && !is_refused(&finding.answer(index)) || shown.differing_alone
-}
-
-/// Whether a record about which versions agree is left out of what is shown.
-fn is_alike_left_out(shown: Shown, sayings: &Sayings<'_>) -> bool
-    requires { AreAlike sayings.now.findings.now sayings.now.index }
-    ensures { result
-        ≡ is_row_left_out shown (answers_in sayings.now.findings.now) sayings.now.index }
-{
-    match sayings.findings.as_slice().split_first() {
-        Some((first, _)) => is_left_out_by(shown, first, sayings.index),
-        None => false,
-    }
+    shown.refused_alone && !is_refused_under_some(findings, index)
 }
 
 /// Whether a record is left out of what is shown, by what is answered to it under each version.
-pub fn is_left_out(shown: Shown, sayings: &Sayings<'_>, scratch: &mut Scratch) -> bool
-    requires { AreComparable 0 scratch.old sayings.now.index (said_by verdict_told sayings.now) }
-    ensures out { result
-        ≡ is_row_left_out shown (answers_in sayings.now.findings.now) sayings.now.index }
-    ensures scratch { scratch.new ≡ scratch.old }
+pub fn is_left_out(shown: Shown, row: &FindingsAt<'_>, pages: &mut Pages) -> Result<bool, TooLong>
+    ensures { IfOk result (λ out. out
+        ≡ is_row_left_out shown (answers_in row.now.findings.now) row.now.index) }
 {
-    if sayings.is_apart() {
-        is_apart_left_out(shown, sayings, scratch)
-    } else {
-        is_alike_left_out(shown, sayings)
+    if is_passed_over(shown, row.findings, row.index) {
+        return Ok(true);
     }
+    if !shown.differing_alone {
+        return Ok(false);
+    }
+    let agree = row.agree::<Verdicts>(pages)?;
+    Ok(agree)
 }
 
-/// Adds the line of the record at an index, and its explanation if these are shown, by what is found of it.
-#[tactic(auto, using(ll_explain::proofs::Buffering::adding_both, ll_explain::proofs::Buffering::adding_nothing))]
-fn push_block(
-    text: &mut TextBuffer,
-    explains: bool,
-    tree: &Tree,
-    records: &[Record],
-    finding: &Finding,
-    index: usize,
-    record: &Record,
-)
-    ensures { text.new ≡ adding text.old
-        (line_text (line_of «record».now (answer_in finding.now index))
-        ++ behind_line explains (text_told tree.now records.now finding.now index)) }
-{
-    push_line(text, record, &finding.answer(index));
-    if explains {
-        push_found(text, tree, records, finding, index);
-    }
-}
-
-/// A record, and what there is to say of it. The oldest version has this number.
+/// A record, and what versions found of it. The oldest version has this number.
 #[derive(Clone, Copy)]
 pub(crate) struct Row<'f> {
     pub(crate) shown: Shown,
     pub(crate) oldest: u64,
     pub(crate) record: &'f Record,
-    pub(crate) sayings: Sayings<'f>,
+    pub(crate) found: FindingsAt<'f>,
 }
 
 impl<'f> Row<'f> {
-    /// Adds what is shown of the record, where all versions find the same.
-    fn push_alike(&self, text: &mut TextBuffer)
-        requires alike { AreAlike self.now.sayings.findings.now self.now.sayings.index }
+    /// Adds the record's line, and the explanations if these are shown.
+    fn push_line(&self, text: &mut TextBuffer, pages: &mut Pages) -> Result<(), TooLong>
+        requires few { self.now.oldest + length self.now.found.findings.now < 2 ^ 64 }
         requires shows { is_row_left_out self.now.shown
-            (answers_in self.now.sayings.findings.now) self.now.sayings.index ≡ false }
-        ensures { text.new ≡ adding text.old (row_of self.now) }
-    {
-        let Some((first, _)) = self.sayings.findings.as_slice().split_first() else {
-            return;
-        };
-        let Sayings {
-            tree,
-            records,
-            index,
-            ..
-        } = self.sayings;
-        let explains = self.shown.explanations;
-        push_block(text, explains, tree, records, first, index, self.record);
-    }
-
-    /// Adds what is shown of the record, where versions may differ.
-    fn push_apart(&self, text: &mut TextBuffer, scratch: &mut Scratch)
-        requires tellable { IsTellable scratch.old self.now }
-        requires shows { is_row_left_out self.now.shown
-            (answers_in self.now.sayings.findings.now) self.now.sayings.index ≡ false }
-        ensures text { text.new ≡ adding text.old (row_of self.now) }
-        ensures scratch { scratch.new ≡ scratch.old }
+            (answers_in self.now.found.findings.now) self.now.found.index ≡ false }
+        ensures { OnOk result (text.new ≡ adding text.old (row_of self.now)) }
     {
         push_record(
             text,
@@ -177,28 +93,27 @@ impl<'f> Row<'f> {
             self.record.pid,
             self.record.op.name(),
         );
-        self.sayings
-            .push_versions::<Verdicts>(text, scratch, Form::Answers, self.oldest);
+        self.found
+            .push_versions::<Verdicts>(text, pages, Form::Answers, self.oldest)?;
         push_words(text, "\n");
-        if self.shown.explanations {
-            self.sayings
-                .push_versions::<InWords>(text, scratch, Form::Explanations, self.oldest);
+        if !self.shown.explanations {
+            return Ok(());
         }
+        self.found
+            .push_versions::<InWords>(text, pages, Form::Explanations, self.oldest)?;
+        Ok(())
     }
 
     /// Adds what is shown of the record.
-    pub(crate) fn push_to(&self, text: &mut TextBuffer, scratch: &mut Scratch)
-        requires { IsTellable scratch.old self.now }
-        ensures text { text.new ≡ adding text.old (row_of self.now) }
-        ensures scratch { scratch.new ≡ scratch.old }
+    pub(crate) fn push_to(&self, text: &mut TextBuffer, pages: &mut Pages) -> Result<(), TooLong>
+        requires { self.now.oldest + length self.now.found.findings.now < 2 ^ 64 }
+        ensures { OnOk result (text.new ≡ adding text.old (row_of self.now)) }
     {
-        if is_left_out(self.shown, &self.sayings, scratch) {
-            return;
+        let out = is_left_out(self.shown, &self.found, pages)?;
+        if out {
+            return Ok(());
         }
-        if self.sayings.is_apart() {
-            self.push_apart(text, scratch);
-        } else {
-            self.push_alike(text);
-        }
+        self.push_line(text, pages)?;
+        Ok(())
     }
 }

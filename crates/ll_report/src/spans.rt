@@ -1,14 +1,14 @@
 //! What is said of a record under neighbouring versions.
 #![tactic(auto, using(ll_explain::proofs::Buffering::adding_both))]
 
-ghost use Rattle.std.specs.Prelude.{◌≡◌, ◌+◌, ◌<◌, ◌^◌, [], get_or, length};
+ghost use Rattle.std.specs.Prelude.{◌≡◌, ◌+◌, ◌<◌, ◌≤◌, ◌^◌, IfOk, OnOk, [], get_or, length};
 ghost use Rattle.ll_explain.specs.Buffers.{adding};
-ghost use Rattle.ll_report.specs.Scratches.{AreComparable, said_by};
-ghost use Rattle.ll_report.specs.Spans.{agree, alone_text, numbers_text, span_text, versions_text};
+ghost use Rattle.ll_report.specs.Printed.{texts_of};
+ghost use Rattle.ll_report.specs.Spans.{IsSpan, agree, alone_text, numbers_text, span_at, span_text, versions_text};
 
-use crate::sayings::Sayings;
-use crate::scratch::Scratch;
-use crate::telling::Telling;
+use crate::findings_at::FindingsAt;
+use crate::pages::{Pages, TooLong};
+use crate::printer::Printer;
 use ll_explain::{TextBuffer, push_number, push_words};
 
 /// What is said under each version.
@@ -31,107 +31,117 @@ fn push_numbers(text: &mut TextBuffer, first: u64, last: u64)
     }
 }
 
-impl<'f> Sayings<'f> {
-    /// Adds what a version says, which is said under the versions from the first to the last.
-    fn push_span<T: Telling>(
+impl<'f> FindingsAt<'f> {
+    /// The version behind a span, which begins with a version. Texts are compared only if versions may differ about the
+    /// record.
+    pub fn span_end<P: Printer>(&self, pages: &mut Pages, from: usize) -> Result<usize, TooLong>
+        requires { from < length self.now.findings.now }
+        ensures { IfOk result (IsSpan (texts_of P.printed self.now) from) }
+    {
+        let count = self.versions();
+        if !self.findings.is_apart(self.index) {
+            return Ok(count);
+        }
+        for version in from + 1..count {
+            let same = pages.are_same::<P>(self, from, version)?;
+            if !same {
+                return Ok(version);
+            }
+        }
+        Ok(count)
+    }
+
+    /// Whether all versions say the same.
+    pub(crate) fn agree<P: Printer>(&self, pages: &mut Pages) -> Result<bool, TooLong>
+        ensures { IfOk result (λ all. all ≡ agree (texts_of P.printed self.now)) }
+    {
+        if self.versions() == 0 {
+            return Ok(true);
+        }
+        let end = self.span_end::<P>(pages, 0)?;
+        Ok(end == self.versions())
+    }
+
+    /// Adds what the versions of a span say, which goes from a version to one before another. The oldest version has this
+    /// number.
+    fn push_span<P: Printer>(
         &self,
         text: &mut TextBuffer,
+        pages: &mut Pages,
         form: Form,
-        first: u64,
-        last: u64,
-        version: usize,
+        oldest: u64,
+        from: usize,
+        end: usize,
     )
-        requires { version < length self.now.findings.now }
-        ensures { text.new ≡ adding text.old (span_text form (record {
-          first = first;
-          last = last;
-          said = get_or (said_by T.told self.now) version [];
-        })) }
+        requires few { oldest + length self.now.findings.now < 2 ^ 64 }
+        requires from { from < end }
+        requires end { end ≤ length self.now.findings.now }
+        ensures { text.new ≡ adding text.old
+            (span_text form (span_at oldest (texts_of P.printed self.now) from end)) }
     {
+        let first = oldest + from as u64;
+        let last = oldest + (end as u64 - 1);
         match form {
             Form::Answers => {
                 push_words(text, " ");
                 push_numbers(text, first, last);
                 push_words(text, " ");
-                self.push::<T>(text, version);
+                self.print::<P>(text, from);
             }
             Form::Explanations => {
-                if self.fingerprint::<T>(version) == 0 {
+                if pages.is_blank::<P>(self, from) {
                     return;
                 }
                 push_words(text, "    abi ");
                 push_numbers(text, first, last);
                 push_words(text, ":\n");
-                self.push::<T>(text, version);
+                self.print::<P>(text, from);
             }
         }
     }
 
-    /// Adds what a version says, which all versions say.
-    fn push_alone<T: Telling>(&self, text: &mut TextBuffer, form: Form, version: usize)
-        requires { version < length self.now.findings.now }
+    /// Adds what all versions say, of which there is one at least.
+    fn push_alone<P: Printer>(&self, text: &mut TextBuffer, form: Form)
+        requires { 0 < length self.now.findings.now }
         ensures { text.new ≡ adding text.old
-            (alone_text form (get_or (said_by T.told self.now) version [])) }
+            (alone_text form (get_or (texts_of P.printed self.now) 0 [])) }
     {
         match form {
             Form::Answers => {
                 push_words(text, " ");
-                self.push::<T>(text, version);
+                self.print::<P>(text, 0);
             }
-            Form::Explanations => self.push::<T>(text, version),
+            Form::Explanations => self.print::<P>(text, 0),
         }
-    }
-
-    /// Whether all versions say the same.
-    pub(crate) fn agree<T: Telling>(&self, scratch: &mut Scratch) -> bool
-        requires { AreComparable T.byte_at scratch.old self.now.index (said_by T.told self.now) }
-        ensures agree { result ≡ agree (said_by T.told self.now) }
-        ensures scratch { scratch.new ≡ scratch.old }
-    {
-        if self.versions() == 0 {
-            return true;
-        }
-        for version in 1..self.versions() {
-            if !scratch.same::<T>(self, 0, version) {
-                return false;
-            }
-        }
-        true
     }
 
     /// Adds what is said: once, where all say the same, and else span after span. The oldest version has this number.
-    pub(crate) fn push_versions<T: Telling>(
+    pub(crate) fn push_versions<P: Printer>(
         &self,
         text: &mut TextBuffer,
-        scratch: &mut Scratch,
+        pages: &mut Pages,
         form: Form,
         oldest: u64,
-    )
-        requires few { oldest + length self.now.findings.now < 2 ^ 64 }
-        requires comparable { AreComparable T.byte_at scratch.old self.now.index
-            (said_by T.told self.now) }
-        ensures text { text.new ≡ adding text.old
-            (versions_text form oldest (said_by T.told self.now)) }
-        ensures scratch { scratch.new ≡ scratch.old }
+    ) -> Result<(), TooLong>
+        requires { oldest + length self.now.findings.now < 2 ^ 64 }
+        ensures { OnOk result (text.new ≡ adding text.old
+            (versions_text form oldest (texts_of P.printed self.now))) }
     {
-        if self.versions() == 0 {
-            return;
+        let count = self.versions();
+        if count == 0 {
+            return Ok(());
         }
-        let mut current = 0;
-        let mut first = oldest;
-        let mut last = oldest;
-        for version in 1..self.versions() {
-            if !scratch.same::<T>(self, current, version) {
-                self.push_span::<T>(text, form, first, last, current);
-                first = last + 1;
-                current = version;
-            }
-            last += 1;
+        let mut end = self.span_end::<P>(pages, 0)?;
+        if end == count {
+            self.push_alone::<P>(text, form);
+            return Ok(());
         }
-        if current == 0 {
-            self.push_alone::<T>(text, form, current);
-        } else {
-            self.push_span::<T>(text, form, first, last, current);
+        self.push_span::<P>(text, pages, form, oldest, 0, end);
+        while end < count {
+            let from = end;
+            end = self.span_end::<P>(pages, from)?;
+            self.push_span::<P>(text, pages, form, oldest, from, end);
         }
+        Ok(())
     }
 }

@@ -5,20 +5,18 @@ ghost use Rattle.ll_explain.specs.Buffers.{adding};
 ghost use Rattle.ll_report.specs.Rows.{refused_under_some, rows_text, total_under_text, totals_from, totals_text};
 ghost use Rattle.ll_report.specs.Versions.{answered, answers_in, founds_in, rows_made};
 
+use crate::findings_at::FindingsAt;
 use crate::made::Rows;
 use crate::options::Shown;
+use crate::pages::{Pages, TooLong};
 use crate::report::Totals;
 use crate::row_report::RowReport;
 use crate::rows::{Row, refused_under_some};
-use crate::sayings::Sayings;
-use crate::scratch::Scratch;
-use crate::telling::InWords;
 use ll_explain::TextBuffer;
 use ll_findings::{Finding, Findings};
 use ll_trace::Located;
 use std::alloc::{AllocError, Global};
 use std::marker::Model;
-use std::thread::Threads;
 
 /// What is shown of the records of a trace over versions of which the oldest has this number, by what was found under
 /// each.
@@ -28,13 +26,12 @@ pub struct VersionRows {
     findings: Findings,
     shown: Shown,
     oldest: u64,
-    scratch: Scratch,
+    pages: Pages,
 }
 
 impl Model for VersionRows {
     ghost use Rattle.std.specs.Prelude.{◌+◌, ◌<◌, ◌^◌, length};
-    ghost use Rattle.ll_explain.specs.Told.{text_told};
-    ghost use Rattle.ll_report.specs.{Made.Made, Scratches.Suits};
+    ghost use Rattle.ll_report.specs.Made.{Made};
     ghost use Rattle.ll_report.specs.Versions.{founds_in, rows_made};
 
     ghost Value = { Made };
@@ -42,9 +39,7 @@ impl Model for VersionRows {
     ghost view = { λ rows. rows_made rows.shown rows.oldest (founds_in rows.shown.explanations
         rows.located.tree rows.located.trace rows.findings) rows.located.trace };
 
-    ghost invariant = { λ rows.
-        Suits 0 text_told rows.located.tree rows.located.trace rows.findings rows.scratch
-        × (rows.oldest + length rows.findings < 2 ^ 64) };
+    ghost invariant = { λ rows. rows.oldest + length rows.findings < 2 ^ 64 };
 }
 
 /// Adds the last line of a version, with its number if it is one of several.
@@ -83,7 +78,7 @@ impl Rows for VersionRows {
         self.located.trace.records().len()
     }
 
-    fn push_row(&mut self, text: &mut TextBuffer, index: usize) {
+    fn push_row(&mut self, text: &mut TextBuffer, index: usize) -> Result<(), TooLong> {
         let located = &self.located;
         let records = located.trace.records();
         if let Some(record) = records.get(index) {
@@ -91,15 +86,16 @@ impl Rows for VersionRows {
                 shown: self.shown,
                 oldest: self.oldest,
                 record,
-                sayings: Sayings {
+                found: FindingsAt {
                     tree: &located.tree,
                     records,
                     findings: &self.findings,
                     index,
                 },
             };
-            row.push_to(text, &mut self.scratch);
+            row.push_to(text, &mut self.pages)?;
         }
+        Ok(())
     }
 
     fn push_last(&mut self, text: &mut TextBuffer) {
@@ -108,9 +104,8 @@ impl Rows for VersionRows {
 }
 
 /// The report over versions of which the oldest has this number, by what was found under each, as much as is shown of
-/// it. Up to four threads look through the records.
-pub fn report_over<R: Threads + Sync>(
-    rt: &R,
+/// it.
+pub fn report_over(
     alloc: Global,
     located: Located,
     findings: Findings,
@@ -124,14 +119,13 @@ pub fn report_over<R: Threads + Sync>(
         shown.explanations located.tree located.trace findings) located.trace) }
 {
     let refused = refused_under_some(&findings, located.trace.records().len());
-    let records = located.trace.records();
-    let scratch = Scratch::of::<InWords, R>(rt, alloc, &located.tree, records, &findings)?;
+    let pages = Pages::new(alloc)?;
     let rows = VersionRows {
         located,
         findings,
         shown,
         oldest,
-        scratch,
+        pages,
     };
     let report = RowReport::of(alloc, rows, refused)?;
     Ok(report)

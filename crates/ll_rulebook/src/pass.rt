@@ -3,7 +3,7 @@
 ghost use Rattle.std.specs.Prelude.{◌≡◌, ℕ, ◌<◌, ◌^◌, Bool, false, [], length, None, IfOk, OnOk};
 ghost use Rattle.ll_rules.specs.Layers.{without_rules};
 ghost use Rattle.ll_semantics.specs.Answers.{fails};
-ghost use Rattle.ll_trace.specs.{Entries.is_start, Traces.AreRecords};
+ghost use Rattle.ll_trace.specs.{Entries.is_start, Borrowed.is_of_rights};
 ghost use Rattle.ll_rulebook.specs.Stores.{IsAnswerTo, held_by};
 
 use crate::store::Store;
@@ -11,7 +11,7 @@ use crate::tables::Tables;
 use ll_rights::{Abi, Fs, Net};
 use ll_rules::{Errno, Layer, LayerSet, NoMemory, RuleFault, Ruleset};
 use ll_semantics::{Answer, RulesetOutcome};
-use ll_trace::{Op, PathText, Record, changes_nothing};
+use ll_trace::{Call, Op, PathText, Seen, TakenTrace, changes_nothing};
 use ll_tree::Tree;
 use std::alloc::Global;
 
@@ -188,24 +188,18 @@ impl<'t> Pass<'t> {
         Ok(RulesetOutcome::ByState)
     }
 
-    /// Settles one record: what it answers, if it is one that creates, changes or closes a ruleset, or the
-    /// layer that its ruleset is frozen to.
-    #[tactic(auto, unfolding(ll_trace::specs::Entries::is_start))]
-    pub(crate) fn settle(&mut self, alloc: Global, record: &Record) -> Settled
-        requires there { is_start «record».now.op ≡ false
-            → «record».now.process.0 < length self.old.tables.held.items }
+    /// Settles a call that no kernel changes.
+    #[tactic(auto, unfolding(ll_trace::specs::Entries::is_start, ll_trace::specs::Borrowed::is_of_rights))]
+    fn settle_other(&mut self, alloc: Global, process: usize, op: &Op) -> Settled
+        requires other { is_of_rights op.now ≡ false }
+        requires there { is_start op.now ≡ false → process < length self.old.tables.held.items }
         requires sound { IsSound self.old }
         requires room { length self.old.store.layers < 2 ^ 32 }
-        ensures { IfOk result (Settles «record».now.process.0 «record».now.op self.old self.new) }
+        ensures { IfOk result (Settles process op.now self.old self.new) }
     {
-        let process = record.process.0 as usize;
-        match &record.op {
+        match op {
             Op::Start { .. } => self.start(alloc),
             Op::Fork { .. } => self.fork(process),
-            Op::Create { rs, fs, net } => self.create(alloc, process, *rs, *fs, *net),
-            Op::CreateEmpty { rs } => self.create_empty(alloc, process, *rs),
-            Op::AddPath { rs, path, fs } => self.add_path(process, *rs, path, *fs),
-            Op::AddPort { rs, port, net } => self.add_port(process, *rs, *port, *net),
             Op::CloseRs { rs } => self.close_rs(process, *rs),
             Op::Restrict { rs } => self.restrict(alloc, process, *rs),
             changes_nothing!()
@@ -214,6 +208,28 @@ impl<'t> Pass<'t> {
             | Op::Adopt { .. }
             | Op::Dup { .. }
             | Op::Close { .. } => Ok(RulesetOutcome::ByState),
+            Op::Create { .. } | Op::CreateEmpty { .. } | Op::AddPath { .. } | Op::AddPort { .. } =>
+                unreachable!(),
+        }
+    }
+
+    /// Settles one record: what it answers, if it is one that creates, changes or closes a ruleset, or the
+    /// layer that its ruleset is frozen to.
+    #[tactic(auto, unfolding(ll_trace::specs::Entries::is_start, ll_trace::specs::Borrowed::meant))]
+    pub(crate) fn settle(&mut self, alloc: Global, process: usize, seen: &Seen<'_>) -> Settled
+        requires there { is_start seen.now ≡ false → process < length self.old.tables.held.items }
+        requires sound { IsSound self.old }
+        requires room { length self.old.store.layers < 2 ^ 32 }
+        ensures { IfOk result (Settles process seen.now self.old self.new) }
+    {
+        match seen.call() {
+            Call::Create { rs, fs, net } => self.create(alloc, process, rs, fs, net),
+            Call::CreateEmpty { rs } => self.create_empty(alloc, process, rs),
+            Call::AddPath { rs, path, fs } => self.add_path(process, rs, path, fs),
+            Call::AddPort { rs, port, net } => self.add_port(process, rs, port, net),
+            Call::LeaveOutPath { .. } => Ok(RulesetOutcome::ByState),
+            Call::LeaveOutPort => Ok(RulesetOutcome::ByState),
+            Call::Other(op) => self.settle_other(alloc, process, op),
         }
     }
 
@@ -222,18 +238,18 @@ impl<'t> Pass<'t> {
     fn settle_next(
         &mut self,
         alloc: Global,
-        record: &Record,
+        process: usize,
+        seen: &Seen<'_>,
         outcomes: &mut Vec<RulesetOutcome>,
     ) -> Result<(), NoMemory>
-        requires there { is_start «record».now.op ≡ false
-            → «record».now.process.0 < length self.old.tables.held.items }
+        requires there { is_start seen.now ≡ false → process < length self.old.tables.held.items }
         requires sound { IsSound self.old }
         requires room { length self.old.store.layers < 2 ^ 32 }
         ensures { OnOk result (AddsOutcome outcomes.old.items outcomes.new.items
-            (Settles «record».now.process.0 «record».now.op self.old self.new)) }
+            (Settles process seen.now self.old self.new)) }
     {
         outcomes.reserve(1)?;
-        match self.settle(alloc, record)? {
+        match self.settle(alloc, process, seen)? {
             RulesetOutcome::Answered(answer) => outcomes.push_reserved(RulesetOutcome::Answered(
                 answer,
             )),
@@ -247,17 +263,16 @@ impl<'t> Pass<'t> {
     pub(crate) fn settle_all(
         &mut self,
         alloc: Global,
-        records: &[Record],
+        trace: &TakenTrace<'_>,
     ) -> Result<Vec<RulesetOutcome>, NoMemory>
-        requires begins { HasSettled self.old.tree.now self.old.abi records.now 0 self.old [] }
-        requires are_records { AreRecords records.now }
-        requires few { length records.now < 2 ^ 32 }
-        ensures { IfOk result (λ outcomes. HasSettled self.old.tree.now self.old.abi records.now
-            (length records.now) self.new outcomes.items) }
+        requires { HasSettled self.old.tree.now self.old.abi trace.now 0 self.old [] }
+        ensures { IfOk result (λ outcomes. HasSettled self.old.tree.now self.old.abi trace.now
+            (length trace.now) self.new outcomes.items) }
     {
         let mut outcomes = Vec::new(alloc);
-        for record in records {
-            self.settle_next(alloc, record, &mut outcomes)?;
+        for index in 0..trace.count() {
+            let (seen, process) = trace.call(index);
+            self.settle_next(alloc, process.0 as usize, &seen, &mut outcomes)?;
         }
         Ok(outcomes)
     }

@@ -7,7 +7,7 @@ use crate::pass::Pass;
 use ll_rights::Abi;
 use ll_rules::{Layer, NoMemory};
 use ll_semantics::RulesetOutcome;
-use ll_trace::Trace;
+use ll_trace::TakenTrace;
 use ll_tree::Tree;
 use std::alloc::Global;
 
@@ -25,12 +25,17 @@ pub struct Rulebook {
 impl Rulebook {
     /// The rulebook of a trace on a tree: the answer to each record that creates, changes or closes a
     /// ruleset, and the layer of each record that restricts its process by a ruleset it holds.
-    pub fn of(alloc: Global, tree: &Tree, trace: &Trace, abi: Abi) -> Result<Rulebook, NoMemory>
+    pub fn of(
+        alloc: Global,
+        tree: &Tree,
+        trace: &TakenTrace<'_>,
+        abi: Abi,
+    ) -> Result<Rulebook, NoMemory>
         ensures { IfOk result
             (λ book. IsSettled tree.now abi trace.now book.layers.items book.outcomes.items) }
     {
         let mut pass = Pass::new(alloc, tree, abi);
-        let outcomes = pass.settle_all(alloc, trace.records())?;
+        let outcomes = pass.settle_all(alloc, trace)?;
         let layers = pass.into_layers();
         Ok(Rulebook { outcomes, layers })
     }

@@ -20,7 +20,7 @@ use ll_rights::Net;
 use ll_rules::{Domain, Layer, NoMemory};
 use ll_semantics::{Answer, Descriptor, RulesetOutcome};
 use ll_shared::SharedMap;
-use ll_trace::{Op, changes_nothing, wants_at_a_path};
+use ll_trace::{Call as Taken, Op, Seen, changes_nothing, wants_at_a_path};
 use ll_tree::{Place, Tree};
 use std::alloc::Global;
 
@@ -83,28 +83,55 @@ impl OwnState {
         &mut self,
         tree: &Tree,
         layers: &[Layer],
-        op: &Op,
+        seen: &Seen<'_>,
         outcome: &RulesetOutcome,
         known: Option<Place>,
     ) -> Result<Answer, NoMemory>
         ghost ctx: { CallContext }
         requires met { IsMet ctx tree.now layers.now }
         requires agrees { Agrees ctx.tree ctx.layers self.old ctx.state }
-        requires fits { OutcomeFits ctx op.now outcome.now }
-        requires known { IfSome known (λ one. one ≡ first_place tree.now op.now) }
-        ensures answer { IfOk result (λ answer. answer ≡ answer_to ctx op.now) }
-        ensures ok { OnOk result (Agrees ctx.tree ctx.layers self.new (state_then ctx op.now)) }
+        requires fits { OutcomeFits ctx seen.now outcome.now }
+        requires known { IfSome known (λ one. one ≡ first_place tree.now seen.now) }
+        ensures answer { IfOk result (λ answer. answer ≡ answer_to ctx seen.now) }
+        ensures ok { OnOk result (Agrees ctx.tree ctx.layers self.new (state_then ctx seen.now)) }
         ensures err { OnErr result (Agrees ctx.tree ctx.layers self.new ctx.state) }
     {
         match outcome {
             RulesetOutcome::Answered(answer) => Ok(*answer),
             RulesetOutcome::Frozen(layer) => Ok(self.restrict(layers, Some(*layer))),
-            RulesetOutcome::ByState => self.answer_by_state(&Call {
+            RulesetOutcome::ByState => self.answer_seen(tree, layers, seen, known),
+        }
+    }
+
+    /// Answers a call of which the rulesets say nothing.
+    #[tactic(auto, unfolding(ll_trace::specs::Borrowed::meant, ll_semantics::specs::RulesetOutcomes::fitting))]
+    fn answer_seen(
+        &mut self,
+        tree: &Tree,
+        layers: &[Layer],
+        seen: &Seen<'_>,
+        known: Option<Place>,
+    ) -> Result<Answer, NoMemory>
+        ghost ctx: { CallContext }
+        requires met { IsMet ctx tree.now layers.now }
+        requires agrees { Agrees ctx.tree ctx.layers self.old ctx.state }
+        requires fits { OutcomeFits ctx seen.now RulesetOutcome.ByState }
+        requires known { IfSome known (λ one. one ≡ first_place tree.now seen.now) }
+        ensures { IsJudged ctx seen.now self.new result }
+    {
+        match seen.call() {
+            Taken::Other(op) => self.answer_by_state(&Call {
                 known,
                 op,
                 tree,
                 layers,
             }),
+            Taken::LeaveOutPath { .. } => Ok(Answer::Moot),
+            Taken::LeaveOutPort => Ok(Answer::Moot),
+            Taken::Create { .. }
+            | Taken::CreateEmpty { .. }
+            | Taken::AddPath { .. }
+            | Taken::AddPort { .. } => unreachable!(),
         }
     }
 

@@ -3,6 +3,8 @@
 #![tactic(auto)]
 
 mod failing;
+#[cfg(test)]
+mod ground;
 mod keeper;
 mod order;
 #[cfg(test)]

@@ -11,11 +11,11 @@ use std::alloc::Global;
 
 /// Judges all processes of a case with a hand that keeps what is wanted. Of the roots and the jobs kept,
 /// the one of the greatest process number is judged first, until none is left.
-pub fn judge_greatest_first(
+pub fn judge_greatest_first<'c>(
     alloc: Global,
-    case: &Case,
+    case: &'c Case<'c>,
     wanted: Wanted,
-) -> Result<Vec<Piece<'_>>, NoMemory>
+) -> Result<Vec<Piece<'c>>, NoMemory>
     ensures of_case { IfOk result (λ pieces. ArePiecesOf case.now pieces.items) }
     ensures each_once { IfOk result (λ pieces. (process : ℕ)
         → process < process_count case.now.records

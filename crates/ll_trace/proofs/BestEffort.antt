@@ -1,5 +1,5 @@
 -- What best effort leaves of the records of a trace: their lines, pids and processes, and which of them start or end a process.
-use Rattle.std.proofs.Common.{◌≡◌, ℕ, zero, suc, ◌+◌, Bool, true, false, not, ◌&&◌, List, [], ◌∷◌, get_or, map, take, Option, Some}
+use Rattle.std.proofs.Common.{◌≡◌, ℕ, zero, suc, ◌+◌, Bool, true, false, not, ◌&&◌, List, [], ◌∷◌, map, take, Option, Some}
 use Rattle.std.proofs.Common.{None, cond, refl, sym, ap, ◌∙◌, if◌then◌else◌}
 use Rattle.std.specs.Prelude.{slice_get}
 use Rattle.std.proofs.lemmas.Option.{none-some, same_Some}
@@ -14,16 +14,14 @@ use Rattle.ll_trace.specs.declared.op.Op.{Op}
 use Rattle.ll_trace.specs.declared.op.Op.TheVariants as calls
 use Rattle.ll_trace.specs.declared.op.ProcessId.{ProcessId}
 use Rattle.ll_trace.specs.declared.op.Record.{Record}
-use Rattle.ll_trace.specs.declared.tables.Tables.{Tables}
 use Rattle.ll_trace.specs.Entries.{Entry, is_start, is_exit, pid_started, is_live, process_named, entry_fault}
 use Rattle.ll_trace.specs.Entries as entries
 use Rattle.ll_trace.specs.Records.{entry_of, record_of, records_after, process_of}
 use Rattle.ll_trace.specs.Traces.{AreFaultless, AreRecords}
-use Rattle.ll_trace.specs.Processes.{is_starting, process_count, number_if, started_at, own_from, own_records, forked_by, parents}
-use Rattle.ll_trace.specs.Indexed.{HaveRights, Indexes}
+use Rattle.ll_trace.specs.Processes.{is_starting, process_count, number_if, started_at, own_from, forked_by, parents}
 use Rattle.ll_trace.specs.FirstPlaces.{AreFirstPlaces, first_place, paths_of}
 use Rattle.ll_trace.specs.Operations.{op_name}
-use Rattle.ll_trace.specs.BestEffort.{at_best_effort, names_rights, record_at_best_effort, records_at_best_effort}
+use Rattle.ll_trace.specs.BestEffort.{at_best_effort, record_at_best_effort, records_at_best_effort}
 use Rattle.ll_trace.proofs.Numbering.{are_numbered}
 use Rattle.ll_trace.proofs.Numbers.{process_count-cons}
 
@@ -82,10 +80,6 @@ module _ (abi : Abi) where
   is_start-kept : (op : Op) → is_start (at_best_effort abi op) ≡ is_start op
   unfolding role
   is_start-kept op = ap (λ does. does.start) (role-kept op)
-
-  pub op_name-kept : (op : Op) → op_name (at_best_effort abi op) ≡ op_name op
-  unfolding role
-  op_name-kept op = ap (λ does. does.name) (role-kept op)
 
   pub paths-kept : (op : Op) → paths_of (at_best_effort abi op) ≡ paths_of op
   unfolding role
@@ -182,12 +176,12 @@ module _ (abi : Abi) where
 
   -- ---- tables
 
-  parents-kept : (records : List Record) → parents (records_at_best_effort abi records) ≡ parents records
+  pub parents-kept : (records : List Record) → parents (records_at_best_effort abi records) ≡ parents records
   unfolding parents role
   parents-kept [] = refl
   parents-kept (r ∷ rs) = rw (is_starting-kept r.op, ap (λ does. does.forked r.process) (role-kept r.op), parents-kept rs) refl
 
-  starting-kept : (records : List Record) → process_count (records_at_best_effort abi records) ≡ process_count records
+  pub starting-kept : (records : List Record) → process_count (records_at_best_effort abi records) ≡ process_count records
   starting-kept [] = refl
   starting-kept (r ∷ rs) =
       process_count-cons (record_at_best_effort abi r) (records_at_best_effort abi rs)
@@ -195,12 +189,12 @@ module _ (abi : Abi) where
       ∙ ap (λ (n : ℕ). cond (is_starting r.op) 1 0 + n) (starting-kept rs)
       ∙ sym (process_count-cons r rs)
 
-  own-kept : (process k : ℕ) (records : List Record) → own_from process k (records_at_best_effort abi records) ≡ own_from process k records
+  pub own-kept : (process k : ℕ) (records : List Record) → own_from process k (records_at_best_effort abi records) ≡ own_from process k records
   unfolding own_from
   own-kept process k [] = refl
   own-kept process k (r ∷ rs) = rw (own-kept process (k + 1) rs) refl
 
-  kept_there : Option Record → Option Record
+  pub kept_there : Option Record → Option Record
   kept_there None = None
   kept_there (Some r) = Some (record_at_best_effort abi r)
 
@@ -210,46 +204,14 @@ module _ (abi : Abi) where
   number-kept records k None = refl
   number-kept records k (Some r) = rw (is_starting-kept r.op, take-map (record_at_best_effort abi) k records, starting-kept (take k records)) refl
 
-  there-kept : (records : List Record) (k : ℕ) → slice_get (records_at_best_effort abi records) k ≡ kept_there (slice_get records k)
+  pub there-kept : (records : List Record) (k : ℕ) → slice_get (records_at_best_effort abi records) k ≡ kept_there (slice_get records k)
   unfolding kept_there
   there-kept [] k = refl
   there-kept (r ∷ rs) zero = refl
   there-kept (r ∷ rs) (suc k) = there-kept rs k
 
-  started-kept : (records : List Record) (k : ℕ) → started_at (records_at_best_effort abi records) k ≡ started_at records k
+  pub started-kept : (records : List Record) (k : ℕ) → started_at (records_at_best_effort abi records) k ≡ started_at records k
   unfolding started_at
   started-kept records k =
       ap (number_if is_starting (records_at_best_effort abi records) k) (there-kept records k) ∙ number-kept records k (slice_get records k)
-
   -- what best effort makes of a call names rights only if the call does
-  named_before : (op : Op) → names_rights (at_best_effort abi op) ≡ true → names_rights op ≡ true
-  unfolding at_best_effort names_rights
-  named_before (calls.Create rs fs net) names = refl
-  named_before (calls.AddPath rs path fs) names = refl
-  named_before (calls.AddPort rs port net) names = refl
-  named_before op names = names
-
-  rights-kept : (indices : List ℕ) (records : List Record) → HaveRights indices records → HaveRights indices (records_at_best_effort abi records)
-  unfolding kept_there HaveRights
-  rights-kept indices records have = λ k after at. by k after (slice_get records k) refl (sym (there-kept records k) ∙ at)
-    where
-      by : (k : ℕ) (after : Record) (one : Option Record) → slice_get records k ≡ one → kept_there one ≡ Some after → names_rights after.op ≡ true
-          → (j : ℕ) × (slice_get indices j ≡ Some k)
-      by k after None is kept names = absurd (none-some after kept)
-      by k after (Some r) is kept names =
-          let same : record_at_best_effort abi r ≡ after = same_Some (record_at_best_effort abi r) after kept in
-          have k r is (named_before r.op (ap (λ (x : Record). names_rights x.op) same ∙ names))
-
-  pub indexes-kept : (tables : Tables) (records : List Record) → Indexes tables records → Indexes tables (records_at_best_effort abi records)
-  unfolding own_records
-  indexes-kept tables records indexes = record {
-    by_process = indexes.by_process ∙ sym (parents-kept records);
-    size = indexes.size ∙ sym (starting-kept records);
-    indices = λ process. indexes.indices process ∙ sym (own-kept process 0 records);
-    by_start = record {
-      one_each = indexes.by_start.one_each ∙ sym (starting-kept records);
-      start =
-          λ process below. started-kept records (get_or tables.starts.items process 0) ∙ indexes.by_start.start process (rw (← starting-kept records) below);
-    };
-    rights = rights-kept tables.rights.items records indexes.rights;
-  }

@@ -11,6 +11,6 @@ pub mod OnLiterals
 pub mod SetLemmas
 pub mod BestEffort
 pub mod Versions
-pub mod Dropping
+pub mod Seeing
 pub mod SaidByName
 pub mod RecentOwners

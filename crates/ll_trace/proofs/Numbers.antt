@@ -45,23 +45,9 @@ unfolding is_start is_fork
 fork_no_start (Fork child) holds = refl
 fork_no_start op holds = cc
 
-pub is_fork-from : (op : Op) (child : ℕ) → op ≡ Fork child → is_fork op ≡ true
-unfolding is_fork
-is_fork-from op child is = ap (λ o. is_fork o) is
-
-pub is_fork-not : (op : Op) → ((child : ℕ) → op ≡ Fork child → ⊥) → is_fork op ≡ false
-unfolding is_fork
-is_fork-not (Fork child) other = absurd (other child refl)
-is_fork-not op other = refl
-
 pub is_start-from : (op : Op) (nnp admin : Bool) → op ≡ Start nnp admin → is_start op ≡ true
 unfolding is_start
 is_start-from op nnp admin is = ap (λ o. is_start o) is
-
-pub is_start-not : (op : Op) → ((nnp admin : Bool) → op ≡ Start nnp admin → ⊥) → is_start op ≡ false
-unfolding is_start
-is_start-not (Start nnp admin) other = absurd (other nnp admin refl)
-is_start-not op other = refl
 
 -- ---- counting one record more
 

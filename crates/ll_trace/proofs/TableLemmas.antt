@@ -8,11 +8,10 @@ use Rattle.std.proofs.lemmas.Bool.{cases_lt, eq-eqb, ne_eqb, eqb-true, eqb-false
 use Rattle.std.proofs.lemmas.List.{get_or_append_left, get_or_at, length-append, get_or-set_same, get_or-set_other, get_or-map, map-set, append-nil}
 use Rattle.std.proofs.lemmas.List.{length-take, take_more}
 use Rattle.std.proofs.lemmas.List.Sorted.{searched}
-use Rattle.std.proofs.lemmas.Option.{none-some, same_Some, slice_get-get_or, slice_get_within, slice_get_read}
+use Rattle.std.proofs.lemmas.Option.{slice_get_within, slice_get_read}
 use Rattle.ll_trace.specs.declared.op.Record.{Record}
 use Rattle.ll_trace.specs.Processes.{is_starting, process_count, started_at, own_from, own_records, forked_by, parent_of, only, IsNumbered}
-use Rattle.ll_trace.specs.BestEffort.{names_rights}
-use Rattle.ll_trace.specs.Indexed.{AreStarts, Adds, HaveRights, Indexes, lists}
+use Rattle.ll_trace.specs.Indexed.{AreStarts, Adds, Indexes, lists}
 use Rattle.ll_trace.proofs.Numbers.{with_first, StartedAt, count-all, count-le, count-started, process_count-push, started_at-is, started_at-push, started_once}
 use Rattle.ll_trace.proofs.Numbers.{count-more, numbered_below, parents-push, length-parents, parent_below}
 use Rattle.std.specs.Prelude.{All, IfSome, slice_get}
@@ -54,34 +53,6 @@ starts-push starts records it are = record {
         let same : process_count records ≡ p = omega arith in
         rw (get_or_at starts (length records) [] 0 p (omega (arith, are.one_each))) (last_starts records it kind ∙ ap (λ n. Some n) same)
     last false kind p past below = absurd (omega arith)
-
--- ---- the indices of the calls that name rights, of one record more
-
-at_left : {X : Type 0} (xs ys : List X) (k : ℕ) (x : X) → slice_get xs k ≡ Some x → slice_get (xs ++ ys) k ≡ Some x
-at_left [] ys k x at = absurd (none-some x at)
-at_left (z ∷ xs) ys zero x at = at
-at_left (z ∷ xs) ys (suc k) x at = at_left xs ys k x at
-
-at_end : {X : Type 0} (xs : List X) (x : X) → slice_get (xs ++ x ∷ []) (length xs) ≡ Some x
-at_end [] x = refl
-at_end (z ∷ xs) x = at_end xs x
-
-rights-push : (indices : List ℕ) (records : List Record) (it : Record) → HaveRights indices records
-    → HaveRights (indices ++ cond (names_rights it.op) (length records ∷ []) []) (records ++ it ∷ [])
-unfolding HaveRights
-rights-push indices records it have = λ k r at names. elim (cases_lt k (length records)) [
-  | inl below ↦
-      let one : slice_get records k ≡ Some (get_or records k r) = slice_get-get_or records k r below in
-      let same : get_or records k r ≡ r = same_Some (get_or records k r) r (sym (at_left records (it ∷ []) k (get_or records k r) one) ∙ at) in
-      let there = have k (get_or records k r) one (ap (λ (x : Record). names_rights x.op) same ∙ names) in
-      (there.0, at_left indices (cond (names_rights it.op) (length records ∷ []) []) there.0 k there.1)
-  | inr past ↦
-      let end : k ≡ length records = omega (arith, past, slice_get_within (records ++ it ∷ []) k r at, length-append records (it ∷ [])) in
-      let same : it ≡ r = same_Some it r (sym (at_end records it) ∙ ap (slice_get (records ++ it ∷ [])) (sym end) ∙ at) in
-      let noted : cond (names_rights it.op) (length records ∷ []) [] ≡ k ∷ [] =
-      ap (λ b. cond b (length records ∷ []) []) (ap (λ (x : Record). names_rights x.op) same ∙ names) ∙ ap (λ n. n ∷ []) (sym end) in
-      (length indices, ap (λ ns. slice_get (indices ++ ns) (length indices)) noted ∙ at_end indices k)
-]
 
 -- ---- which process a record starts
 
@@ -175,7 +146,6 @@ indexes_next old new records it indexes adds_one =
       indices = λ q. adds_one.indices q ∙ ap (λ ns. ns ++ cond (eqb it.process.0 q) (length records ∷ []) []) (indexes.indices q)
           ∙ sym (own_from-push q 0 records it ∙ ap (λ k. own_from q 0 records ++ cond (eqb it.process.0 q) (k ∷ []) []) here);
       by_start = rw adds_one.by_start (starts-push old.starts.items records it indexes.by_start);
-      rights = subst (λ indices. HaveRights indices (records ++ it ∷ [])) (sym adds_one.rights) (rights-push old.rights.items records it indexes.rights);
     }
 
 -- ---- the tables of the first records, record after record

@@ -1,6 +1,6 @@
 -- What a program calls that first asks its kernel for the version of Landlock's interface, and then uses those of its rights that this version supports.
 -- Source: landlock(7), "VERSIONS"; the kernel's userspace document on Landlock, "Defining and enforcing a security policy", which advises "a best-effort security approach".
-use Rattle.std.specs.Prelude.{◌≡◌, ℕ, Bool, true, false, List, map, not, ◌&&◌, if◌then◌else◌}
+use Rattle.std.specs.Prelude.{◌≡◌, ℕ, List, map, not, ◌&&◌, if◌then◌else◌}
 use Rattle.ll_rights.specs.declared.abi.Abi.{Abi}
 use Rattle.ll_rights.specs.declared.fs.Fs.{Fs}
 use Rattle.ll_rights.specs.declared.net.Net.{Net}
@@ -34,13 +34,6 @@ at_best_effort abi (calls.Create rs fs net) = creates rs fs net (supported_fs ab
 at_best_effort abi (calls.AddPath rs path fs) = adds_path rs path fs (supported_fs abi fs)
 at_best_effort abi (calls.AddPort rs port net) = adds_port rs port net (supported_net abi net)
 at_best_effort abi op = op
-
--- a call that names rights: best effort leaves every other call as it is
-unfoldable pub names_rights : Op → Bool
-names_rights (calls.Create rs fs net) = true
-names_rights (calls.AddPath rs path fs) = true
-names_rights (calls.AddPort rs port net) = true
-names_rights op = false
 
 -- the same of a record, which keeps its line and its process
 abbrev pub record_at_best_effort : Abi → Record → Record

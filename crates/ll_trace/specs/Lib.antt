@@ -12,3 +12,6 @@ pub mod SingleUse
 pub mod BestEffort
 pub mod FirstPlaces
 pub mod SaidByName
+pub mod Taken
+pub mod Borrowed
+pub mod SeenRecords

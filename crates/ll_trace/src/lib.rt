@@ -11,6 +11,7 @@ mod parts;
 mod path_text;
 mod reader;
 mod rows;
+mod seen;
 mod tables;
 mod trace;
 
@@ -23,4 +24,5 @@ pub use op::{Mode, Op, ProcessId, Record, Sort};
 pub use path_text::{PathText, SecondPath};
 pub use reader::{MOST_PROCESSES, MOST_RECORDS};
 pub use rows::{calls_at_best_effort, faulty_traces, whole_traces};
+pub use seen::{Call, Kernel, Seen, SeenRecord, TakenTrace};
 pub use trace::{Effort, Trace};

@@ -1,12 +1,10 @@
 //! A trace with the places in the tree that its records name.
 
 ghost use Rattle.std.specs.Prelude.{◌≡◌, ◌≤◌, IfOk, map};
-ghost use Rattle.ll_trace.specs.BestEffort.{records_at_best_effort};
 ghost use Rattle.ll_trace.specs.FirstPlaces.{AreFirstPlaces, first_place};
 
 use crate::op::Record;
 use crate::trace::Trace;
-use ll_rights::Abi;
 use ll_tree::{Place, Tree};
 use rayon::prelude::*;
 use std::alloc::{AllocError, Global};
@@ -64,25 +62,6 @@ impl Located {
             trace,
             places,
         })
-    }
-
-    /// The same with the trace of a program that uses what a version supports ([`Trace::at_best_effort`]), which
-    /// names the same places.
-    pub fn at_best_effort(self, abi: Abi) -> Located
-        ensures tree { result.tree ≡ self.tree }
-        ensures trace { result.trace ≡ records_at_best_effort abi self.trace }
-        ensures places { result.places ≡ self.places }
-    {
-        let Located {
-            tree,
-            trace,
-            places,
-        } = self;
-        Located {
-            tree,
-            trace: trace.at_best_effort(abi),
-            places,
-        }
     }
 }
 

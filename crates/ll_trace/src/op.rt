@@ -1,17 +1,11 @@
 //! Records: what a process did, and the process that a record belongs to.
 
-ghost use Rattle.std.specs.Prelude.{◌≡◌, ◌&&◌, IfOk, None, Some, if◌then◌else◌};
-ghost use Rattle.ll_rights.specs.Rights as files;
-ghost use Rattle.ll_rights.specs.NetRights as network;
+ghost use Rattle.std.specs.Prelude.{◌≡◌};
 ghost use Rattle.ll_tree.specs.Trees.{place};
-ghost use Rattle.ll_rights.specs.Supported.{supported_fs, supported_net};
-ghost use Rattle.ll_trace.specs.BestEffort.{at_best_effort, creates, adds_path, adds_port, names_rights};
 
 use crate::path_text::{PathText, SecondPath};
-use ll_rights::{Abi, Fs, Kind, Net};
+use ll_rights::{Fs, Kind, Net};
 use ll_tree::{Place, Tree};
-use std::alloc::{AllocError, Global};
-use std::mem;
 
 /// A process of the trace. Processes are numbered from 0, in the order of the records that start them.
 #[derive(Clone, Copy, Debug, PartialEq, Eq)]
@@ -318,65 +312,6 @@ impl Op {
             _ => None,
         }
     }
-
-    /// Whether a call names rights, which best effort may take out.
-    #[tactic(auto, unfolding(crate::specs::BestEffort::names_rights))]
-    pub(crate) fn names_rights(&self) -> bool
-        ensures { result ≡ names_rights self.now }
-    {
-        matches!(
-            self,
-            Op::Create { .. } | Op::AddPath { .. } | Op::AddPort { .. }
-        )
-    }
-
-    /// A copy of a call that names rights, which best effort may change; `None` for every other call.
-    #[tactic(auto, unfolding(crate::specs::BestEffort::names_rights))]
-    pub fn copy_if_naming_rights(&self, alloc: Global) -> Result<Option<Op>, AllocError>
-        ensures { IfOk result
-            (λ copy. copy ≡ (if names_rights self.now then Some self.now else None)) }
-    {
-        Ok(match self {
-            Op::Create { rs, fs, net } => Some(Op::Create {
-                rs: *rs,
-                fs: *fs,
-                net: *net,
-            }),
-            Op::AddPath { rs, path, fs } => Some(Op::AddPath {
-                rs: *rs,
-                path: path.try_clone(alloc)?,
-                fs: *fs,
-            }),
-            Op::AddPort { rs, port, net } => Some(Op::AddPort {
-                rs: *rs,
-                port: *port,
-                net: *net,
-            }),
-            changes_nothing!() | changes_without_names!() | Op::OpenFile { .. } => None,
-        })
-    }
-
-    /// Turns a call into the one that a program makes instead if it goes by its kernel's version of
-    /// Landlock: the rights that this version lacks are taken out.
-    pub(crate) fn drop_unsupported(&mut self, abi: Abi)
-        ensures { self.new ≡ at_best_effort abi self.old }
-    {
-        let whole = mem::replace(self, Op::Exit);
-        *self = whole.at_best_effort(abi);
-    }
-
-    /// The call that a program makes instead of this one.
-    #[tactic(auto, unfolding(crate::specs::BestEffort::at_best_effort))]
-    fn at_best_effort(self, abi: Abi) -> Op
-        ensures { result ≡ at_best_effort abi self }
-    {
-        match self {
-            Op::Create { rs, fs, net } => created(rs, fs, net, abi),
-            Op::AddPath { rs, path, fs } => path_added(rs, path, fs, abi),
-            Op::AddPort { rs, port, net } => port_added(rs, port, net, abi),
-            other => other,
-        }
-    }
 }
 
 /// The place of a path.
@@ -384,61 +319,4 @@ fn place_at(tree: &Tree, path: &PathText) -> Place
     ensures { result ≡ place tree.now path.now }
 {
     tree.place_of(path.as_str())
-}
-
-/// Whether two sets have no right.
-fn are_empty(fs: Fs, net: Net) -> bool
-    ensures { result ≡ (files.is_empty fs && network.is_empty net) }
-{
-    fs.is_empty() && net.is_empty()
-}
-
-/// What a program calls for a `create`: if none of its rights is supported, the program does without a
-/// ruleset, and is judged with one that handles nothing.
-fn created(rs: u64, fs: Fs, net: Net, abi: Abi) -> Op
-    ensures { result ≡ creates rs fs net (supported_fs abi fs) (supported_net abi net) }
-{
-    let supported = fs.supported(abi);
-    let ports = net.supported(abi);
-    if are_empty(supported, ports) && !are_empty(fs, net) {
-        Op::CreateEmpty { rs }
-    } else {
-        Op::Create {
-            rs,
-            fs: supported,
-            net: ports,
-        }
-    }
-}
-
-/// What a program calls for an `add_path`: it leaves out the call if none of its rights is supported.
-fn path_added(rs: u64, path: PathText, fs: Fs, abi: Abi) -> Op
-    ensures { result ≡ adds_path rs path fs (supported_fs abi fs) }
-{
-    let supported = fs.supported(abi);
-    if supported.is_empty() && !fs.is_empty() {
-        Op::LeaveOutPath { path }
-    } else {
-        Op::AddPath {
-            rs,
-            path,
-            fs: supported,
-        }
-    }
-}
-
-/// What a program calls for an `add_port`: it leaves out the call if none of its rights is supported.
-fn port_added(rs: u64, port: u64, net: Net, abi: Abi) -> Op
-    ensures { result ≡ adds_port rs port net (supported_net abi net) }
-{
-    let supported = net.supported(abi);
-    if supported.is_empty() && !net.is_empty() {
-        Op::LeaveOutPort
-    } else {
-        Op::AddPort {
-            rs,
-            port,
-            net: supported,
-        }
-    }
 }

@@ -1,11 +1,9 @@
 //! A trace that was read.
 
-ghost use Rattle.std.specs.Prelude.{◌≡◌, ◌≢◌, ◌<◌, ◌≤◌, length, option_map, All, IfOk, IfErr, IfSome, MatchOption, slice_get, slice_set};
+ghost use Rattle.std.specs.Prelude.{◌≡◌, ◌≢◌, ◌<◌, ◌≤◌, length, option_map, All, IfOk, IfErr, IfSome};
 ghost use Rattle.ll_lines.specs.{declared.fault.Cause.TheVariants.Memory, Reading.IsBad};
 ghost use Rattle.ll_trace.specs.declared.reader.TheConstants.{MOST_PROCESSES, MOST_RECORDS};
 ghost use Rattle.ll_trace.specs.{Entries.trace_file, Traces.AreRecords, Records.IsTrace};
-ghost use Rattle.ll_trace.specs.BestEffort.{record_at_best_effort, records_at_best_effort};
-ghost use Rattle.ll_trace.specs.Indexed.{HaveRights};
 ghost use Rattle.ll_trace.specs.Processes.{process_count, parent_of, own_records, started_at};
 
 use crate::op::{ProcessId, Record};
@@ -14,7 +12,6 @@ use crate::reader::{Reader, read_all, read_blocks};
 use crate::tables::{Tables, index};
 use ll_lines::blocks::LineBlocks;
 use ll_lines::{Cause, ReadFault};
-use ll_rights::Abi;
 use std::alloc::Global;
 use std::marker::Model;
 use std::thread::Threads;
@@ -126,22 +123,6 @@ impl Trace {
         }
     }
 
-    /// The trace of a program that first asks its kernel for the version of Landlock's interface, and
-    /// then uses only those of its rights that this version supports. Lines and processes do not
-    /// change, nor does a record that names no right which the version lacks.
-    pub fn at_best_effort(self, abi: Abi) -> Trace
-        ensures { result ≡ records_at_best_effort abi self }
-    {
-        let Trace {
-            mut records,
-            tables,
-        } = self;
-        for index in &tables.rights {
-            drop_at(&mut records, *index as usize, abi);
-        }
-        Trace { records, tables }
-    }
-
     /// The records, in the order of the file.
     #[tactic(auto, using(crate::proofs::Numbering::few_records))]
     pub fn records(&self) -> &[Record]
@@ -151,14 +132,6 @@ impl Trace {
     {
         let records = &self.records;
         records.as_slice()
-    }
-
-    /// The indices of the calls that name rights. There may be indices of other calls among them.
-    pub fn rights(&self) -> &[u32]
-        ensures { HaveRights result.now self.now }
-    {
-        let rights = &self.tables.rights;
-        rights.as_slice()
     }
 
     /// The number of processes of the trace.
@@ -199,18 +172,6 @@ impl Trace {
             Ok(process) => Some(ProcessId(process as u32)),
             Err(_) => None,
         }
-    }
-}
-
-/// Takes those rights that a version lacks out of the call of the record at an index, if there is one.
-fn drop_at(records: &mut Vec<Record>, index: usize, abi: Abi)
-    ensures { MatchOption (slice_get records.old.items index)
-        (records.new.items ≡ records.old.items)
-        (λ r. records.new.items
-        ≡ slice_set records.old.items index (record_at_best_effort abi r)) }
-{
-    if let Some(record) = records.get_mut(index) {
-        record.op.drop_unsupported(abi);
     }
 }
 

@@ -1,16 +1,18 @@
 -- The trails of processes after one record more.
-use Rattle.std.proofs.Common.{◌≡◌, ℕ, ◌+◌, ◌<◌, List, [], ◌∷◌, ◌++◌, length, Bool, Some, refl, sym, ap, subst, ◌∙◌, inl, inr, length-append, length-set}
+use Rattle.std.proofs.Common.{◌≡◌, ℕ, ◌+◌, ◌<◌, List, [], ◌∷◌, ◌++◌, length, true, false, Some, refl, sym, ap, subst, ◌∙◌, inl, inr, length-append, length-set}
 use Rattle.std.proofs.Math.ListN.{set}
 use Rattle.std.specs.List.{slice_get}
-use Rattle.std.proofs.lemmas.Bool.{cases_eq, eq-eqb, ne_eqb}
+use Rattle.std.proofs.lemmas.Bool.{cases_eq, eq-eqb, ne_eqb, true≢false}
 use Rattle.std.proofs.lemmas.Option.{same_Some}
 use Rattle.ll_trace.proofs.Numbers.{slice_get-push}
 use Rattle.ll_trace.specs.declared.op.Op.{Op}
 use Rattle.ll_trace.specs.declared.op.Op.TheVariants as calls
+use Rattle.ll_trace.specs.Entries.{is_start}
+use Rattle.ll_trace.specs.Processes.{is_fork}
 use Rattle.ll_semantics.specs.declared.answer.Answer.{Answer}
 use Rattle.ll_semantics.specs.Worlds.{if_allowed}
 use Rattle.ll_rulebook.proofs.Frozen.{slice_get-set}
-use Rattle.ll_reasons.specs.Origins.{Origins, Sources, with_origins, traced, sources_by}
+use Rattle.ll_reasons.specs.Origins.{Origins, Sources, no_origins, with_next, with_origins, traced, sources_by}
 use Rattle.ll_trails.specs.declared.trail.ProcessOrigins.{ProcessOrigins}
 use Rattle.ll_trails.specs.TraceOrigins.{Follows, AreTrails}
 
@@ -66,11 +68,22 @@ all_alike trails others sources alike are = record {
 }
 
 -- a call that starts no process
-pub sources_by_other : (index : ℕ) (op : Op) (process : ℕ) (answer : Answer) (sources : Sources) →
-    ((x x' : Bool) → op ≡ calls.Start x x' → ⊥) → ((x : ℕ) → op ≡ calls.Fork x → ⊥) →
-    sources_by index op process answer sources
+pub sources_by_start : (index : ℕ) (op : Op) (process : ℕ) (answer : Answer) (sources : Sources) → is_start op ≡ true
+    → sources_by index op process answer sources ≡ with_next sources no_origins
+unfolding sources_by is_start
+sources_by_start index (calls.Start nnp admin) process answer sources is = refl
+sources_by_start index op process answer sources is = absurd (true≢false (sym is))
+
+pub sources_by_fork : (index : ℕ) (op : Op) (process : ℕ) (answer : Answer) (sources : Sources) → is_fork op ≡ true
+    → sources_by index op process answer sources ≡ with_next sources (sources.processes process)
+unfolding sources_by is_fork
+sources_by_fork index (calls.Fork child) process answer sources is = refl
+sources_by_fork index op process answer sources is = absurd (true≢false (sym is))
+
+pub sources_by_other : (index : ℕ) (op : Op) (process : ℕ) (answer : Answer) (sources : Sources) → is_start op ≡ false → is_fork op ≡ false
+    → sources_by index op process answer sources
     ≡ if_allowed answer (record sources { processes = with_origins sources.processes process (traced index op (sources.processes process)) }) sources
-unfolding sources_by
-sources_by_other index (calls.Start nnp admin) process answer sources not_start not_fork = absurd (not_start nnp admin refl)
-sources_by_other index (calls.Fork child) process answer sources not_start not_fork = absurd (not_fork child refl)
+unfolding sources_by is_start is_fork
+sources_by_other index (calls.Start nnp admin) process answer sources not_start not_fork = absurd (true≢false not_start)
+sources_by_other index (calls.Fork child) process answer sources not_start not_fork = absurd (true≢false not_fork)
 sources_by_other index op process answer sources not_start not_fork = refl

@@ -4,13 +4,13 @@ ghost use Rattle.std.specs.Prelude.{IfOk};
 ghost use Rattle.ll_trails.specs.CaseTrails.{IsLayerBy, AreLayersBy};
 
 use crate::trail::ProcessOrigins;
-use ll_process::CaseView;
+use ll_process::Case;
 use ll_rules::LayerId;
 use ll_semantics::RulesetOutcome;
 use std::alloc::{AllocError, Global};
 
 /// The layer of a case that the record at an index restricts its process by, if it does.
-fn layer_by(case: &CaseView<'_>, index: u32) -> Option<LayerId>
+fn layer_by(case: &Case<'_>, index: u32) -> Option<LayerId>
     ensures { IsLayerBy case.now index result }
 {
     let index = index as usize;
@@ -28,7 +28,7 @@ fn layer_by(case: &CaseView<'_>, index: u32) -> Option<LayerId>
 /// `restrict` records named, the oldest first. An error says that memory ran out.
 pub fn domain_of(
     alloc: Global,
-    case: &CaseView<'_>,
+    case: &Case<'_>,
     trail: &ProcessOrigins,
 ) -> Result<Vec<LayerId>, AllocError>
     ensures { IfOk result (λ ids. AreLayersBy case.now trail.now ids.items) }

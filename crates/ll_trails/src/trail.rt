@@ -1,17 +1,17 @@
 //! Where the layers, open descriptors and rulesets of processes come from.
 
 ghost use Rattle.std.specs.Prelude.{◌≡◌, ◌<◌, ◌+◌, ◌++◌, ◌∷◌, ℕ, [], Some, false, length, slice_get, IfOk, OnOk};
-ghost use Rattle.ll_trace.specs.Entries.{is_start};
+ghost use Rattle.ll_trace.specs.{Entries.is_start, Borrowed.is_of_rights};
 ghost use Rattle.ll_reasons.specs.Origins.{Origins, Sources, no_origins, no_sources, sources_by, traced, with_next};
 ghost use Rattle.ll_trails.specs.CaseTrails.{AreTrailsAt, IsAnswerAt, ObjectToTheSame, TrailsBegin};
 ghost use Rattle.ll_trails.specs.TraceOrigins.{AreTrails, Follows};
 
 use crate::openings::Openings;
-use ll_process::CaseView;
+use ll_process::Case;
 use ll_rules::NoMemory;
 use ll_semantics::Answer;
 use ll_shared::SharedMap;
-use ll_trace::{Op, ProcessId, changes_nothing};
+use ll_trace::{Call, Op, ProcessId, Seen, changes_nothing};
 use std::alloc::{AllocError, Global};
 
 /// Where the layers, open descriptors and rulesets of one process come from: the records that made them, by their
@@ -58,15 +58,35 @@ impl ProcessOrigins {
     }
 
     /// Follows an allowed call, the record at an index of the trace.
-    #[tactic(auto, unfolding(ll_reasons::specs::Origins::traced))]
-    fn follow(&mut self, index: u32, op: &Op) -> Result<(), NoMemory>
+    #[tactic(auto, unfolding(ll_reasons::specs::Origins::traced, ll_trace::specs::Borrowed::meant))]
+    fn follow(&mut self, index: u32, seen: &Seen<'_>) -> Result<(), NoMemory>
+        ensures { OnOk result ((o : Origins) → Follows self.old o
+            → Follows self.new (traced index seen.now o)) }
+    {
+        match seen.call() {
+            Call::Create { rs, .. } => {
+                self.rulesets.insert(rs, index)?;
+            }
+            Call::CreateEmpty { rs } => {
+                self.rulesets.insert(rs, index)?;
+            }
+            Call::AddPath { .. } => {}
+            Call::AddPort { .. } => {}
+            Call::LeaveOutPath { .. } => {}
+            Call::LeaveOutPort => {}
+            Call::Other(op) => self.follow_other(index, op)?,
+        }
+        Ok(())
+    }
+
+    /// Follows an allowed call that no kernel changes.
+    #[tactic(auto, unfolding(ll_reasons::specs::Origins::traced, ll_trace::specs::Borrowed::is_of_rights))]
+    fn follow_other(&mut self, index: u32, op: &Op) -> Result<(), NoMemory>
+        requires { is_of_rights op.now ≡ false }
         ensures { OnOk result ((o : Origins) → Follows self.old o
             → Follows self.new (traced index op.now o)) }
     {
         match op {
-            Op::Create { rs, .. } | Op::CreateEmpty { rs } => {
-                self.rulesets.insert(*rs, index)?;
-            }
             Op::CloseRs { rs } => {
                 self.rulesets.remove(*rs)?;
             }
@@ -79,12 +99,9 @@ impl ProcessOrigins {
                 self.openings.put(*to, opening)?;
             }
             Op::Close { fd } => self.openings.put(*fd, None)?,
-            Op::Start { .. }
-            | Op::Fork { .. }
-            | Op::Nnp
-            | Op::AddPath { .. }
-            | Op::AddPort { .. }
-            | changes_nothing!() => {}
+            Op::Start { .. } | Op::Fork { .. } | Op::Nnp | changes_nothing!() => {}
+            Op::Create { .. } | Op::CreateEmpty { .. } | Op::AddPath { .. } | Op::AddPort { .. } =>
+                unreachable!(),
         }
         Ok(())
     }
@@ -140,7 +157,7 @@ impl TraceOrigins {
     pub fn follow(
         &mut self,
         alloc: Global,
-        case: &CaseView<'_>,
+        case: &Case<'_>,
         index: usize,
         answer: Answer,
     ) -> Result<(), NoMemory>
@@ -149,8 +166,8 @@ impl TraceOrigins {
         requires trails { AreTrailsAt case.now index self.old }
         ensures { OnOk result (AreTrailsAt case.now (index + 1) self.new) }
     {
-        let (op, process) = case.call(index);
-        self.follow_by(alloc, index as u32, op, process, answer)?;
+        let (seen, process) = case.call(index);
+        self.follow_by(alloc, index as u32, &seen, process, answer)?;
         Ok(())
     }
 
@@ -160,26 +177,29 @@ impl TraceOrigins {
         &mut self,
         alloc: Global,
         index: u32,
-        op: &Op,
+        seen: &Seen<'_>,
         process: ProcessId,
         answer: Answer,
     ) -> Result<(), NoMemory>
-        requires { is_start op.now ≡ false → process.0 < length self.old.trails.items }
+        requires { is_start seen.now ≡ false → process.0 < length self.old.trails.items }
         ensures { OnOk result ((sources : Sources) → AreTrails self.old.trails.items sources
             → AreTrails self.new.trails.items
-            (sources_by index op.now process.0 answer sources)) }
+            (sources_by index seen.now process.0 answer sources)) }
     {
         let number = process.0 as usize;
-        match op {
-            Op::Start { .. } => self.begin(ProcessOrigins::new(alloc))?,
-            Op::Fork { .. } => {
-                let child = self.trails[number].again()?;
-                self.begin(child)?;
-            }
-            _ => match answer {
-                Answer::Allowed => self.trails[number].follow(index, op)?,
-                Answer::Moot | Answer::Refused(_, _) => {}
-            },
+        if seen.is_start() {
+            self.begin(ProcessOrigins::new(alloc))?;
+            return Ok(());
+        }
+        if seen.is_fork() {
+            let child = self.trails[number].again()?;
+            self.begin(child)?;
+            return Ok(());
+        }
+        match answer {
+            Answer::Allowed => self.trails[number].follow(index, seen)?,
+            Answer::Moot => {}
+            Answer::Refused(_, _) => {}
         }
         Ok(())
     }

@@ -7,7 +7,8 @@ use mathlib.Core.List.{List}
 use mir.Syntax.{Sym}
 use Rattle.std.proofs.Crossing.{crosses}
 use Rattle.ll_semantics.proofs.answer.Answer.TheSendSync as answer
-use Rattle.ll_process.proofs.Crossing.{case_sync, past_sync}
+use Rattle.ll_trace.proofs.located.Located.TheSendSync as located
+use Rattle.ll_process.proofs.Crossing.{settled_sync}
 use Rattle.ll_findings.proofs.findings.Findings.TheSendSync as findings
 use Rattle.ll_audit.proofs.judged.explain_beside.Lts as lts
 use Rattle.ll_audit.proofs.judged.explain_beside.Goals as goal
@@ -19,15 +20,15 @@ captures_send name Ts all = recorded_send (field_at name Ts).row _ _ (type_at na
 pub join-findings-requires-send-F : goal.join-findings-requires-send-F
 join-findings-requires-send-F g c κs within =
     let name = lts.name-8 g.row.R g.row.G g.R.laws g.G.laws g.R.Threads-dict g.R.Wait-dict g.G.Gate-dict in
-    let Ts : List RattleType = lts.of-24 g.row.R g.row.G g.R.laws g.G.laws g.R.Threads-dict g.R.Wait-dict g.G.Gate-dict _ _ _ in
+    let Ts : List RattleType = lts.of-22 g.row.R g.row.G g.R.laws g.G.laws g.R.Threads-dict g.R.Wait-dict g.G.Gate-dict _ _ _ in
     let all : AllSend (shape (type_at name Ts)).fields = (
       search (c.type_bounds.sync-R, sendable) depth 20,
       (
         search sendable depth 20,
         (
-          search (case_sync, sendable) depth 20,
+          search (located.the_sync, crosses, sendable) depth 40,
           (
-            search (past_sync, sendable) depth 20,
+            search (settled_sync, sendable) depth 20,
             (
               search (answer.the_send, crosses, sendable) depth 40,
               (search sendable depth 20, (search (findings.the_send, crosses, sendable) depth 40, (search sendable depth 20, tt))),

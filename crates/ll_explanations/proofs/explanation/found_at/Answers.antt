@@ -6,8 +6,8 @@ use Rattle.ll_trails.specs.TraceOrigins.{Follows}
 use Rattle.ll_explanations.proofs.Explaining.{index_within, starts_nothing}
 use Rattle.ll_explanations.proofs.explanation.found_at.Goals as goal
 
-pub call-requires : goal.call-requires
-call-requires c =
+pub call-seen-requires : goal.call-seen-requires
+call-seen-requires c =
     let cv : CaseValue = c.args.case.now in
     index_within cv.tree cv.abi cv.records c.args.index c.args.answer c.requires.answer
 
@@ -20,8 +20,8 @@ of-requires c =
     omega (
       arith,
       c.requires.trails.count,
-      process_there cv.tree cv.abi cv.records c.args.index found.0 c.call.ensures.case.numbered (omega (arith, within)) found.1 goes,
-      ap (λ process. process.0) (c.call.ensures.process found.0 found.1),
+      process_there cv.tree cv.abi cv.records c.args.index found.0 c.call-seen.ensures.case.numbered (omega (arith, within)) found.1 goes,
+      ap (λ process. process.0) (c.call-seen.ensures.process found.0 found.1),
     )
 
 pub returns : goal.returns
@@ -29,14 +29,14 @@ unfolding origins_at
 returns c =
     let cv : CaseValue = c.args.case.now in
     let found = record_there cv.records c.args.index (index_within cv.tree cv.abi cv.records c.args.index c.args.answer c.requires.answer) in
-    let process = c.call.ensures.process found.0 found.1 in
+    let process = c.call-seen.ensures.process found.0 found.1 in
     record {
-      case = c.call.ensures.case;
+      case = c.call-seen.ensures.case;
       found = record {
         r = found.0;
         there = found.1;
-        call = c.call.ensures.op found.0 found.1;
+        call = c.call-seen.ensures.op found.0 found.1;
         follows = subst (λ p. Follows c.of.result.now (origins_at cv.tree cv.abi cv.records c.args.index p.0)) process
-            (c.requires.trails.each c.call.result.1.0 c.of.result.now c.of.ensures);
+            (c.requires.trails.each c.call-seen.result.1.0 c.of.result.now c.of.ensures);
       };
     }

@@ -20,7 +20,7 @@ use Rattle.ll_explanations.proofs.explanation.refused.Goals as goal
 
 pub invariant_of-ctx-clause-inside : goal.invariant_of-ctx-clause-inside
 invariant_of-ctx-clause-inside c =
-    let found = c.found_at.ensures.found in
+    let found = c.found_at-seen.ensures.found in
     let is : IsDomainAt c.args.case.now c.args.index found.r.process.0 c.in_ok-domain.domain.items =
     c.in_ok-domain.ensures c.args.index found.r.process.0 found.follows in
     subst (λ (ids : List LayerId). IsDomainOf c.layers.result.now ids) (sym c.deref.ensures.value)
@@ -29,20 +29,20 @@ invariant_of-ctx-clause-inside c =
 pub invariant_of-ctx-clause-rules : goal.invariant_of-ctx-clause-rules
 invariant_of-ctx-clause-rules c =
     subst (λ (tree : List Entry). All (AreInTree tree) c.layers.result.now) (sym c.tree.ensures)
-    (subst (λ (layers : List (RulesOn ℕ)). All (AreInTree c.args.case.now.tree) layers) (sym c.layers.ensures) c.found_at.ensures.case.settled.inside)
+    (subst (λ (layers : List (RulesOn ℕ)). All (AreInTree c.args.case.now.tree) layers) (sym c.layers.ensures) c.found_at-seen.ensures.case.settled.inside)
 
 pub objections_to-requires : goal.objections_to-requires
 objections_to-requires c =
-    known_there c.args.case.now c.args.index c.tree.result.now c.found_at.result.0.now c.found_at.result.1.now c.found_at.ensures.found
+    known_there c.args.case.now c.args.index c.tree.result.now c.found_at-seen.result.0 c.found_at-seen.result.1.now c.found_at-seen.ensures.found
     c.known_place-known.result c.tree.ensures c.known_place-known.ensures
 
 pub returns : goal.returns
 unfolding explanation_in
 returns c =
     let cv : CaseValue = c.args.case.now in
-    let found = c.found_at.ensures.found in
+    let found = c.found_at-seen.ensures.found in
     let r : Record = found.r in
-    let call : Op = c.found_at.result.0.now in
+    let call : Op = c.found_at-seen.result.0 in
     let o : Origins = origins_at cv.tree cv.abi cv.records c.args.index r.process.0 in
     let ids : List LayerId = c.in_ok-domain.domain.items in
     let all = c.in_ok-all.all.items in
@@ -53,7 +53,7 @@ returns c =
       means =
           ap (λ (tree : List Entry). objections (by_layer tree all)) (sym c.tree.ensures)
           ∙ ap objections (c.in_ok-all.ensures.said
-          ∙ objected c.tree.result.now (all_in_tree c.tree.result.now (domain_of c.layers.result.now c.deref.result.now)) c.found_at.result.1.now o
+          ∙ objected c.tree.result.now (all_in_tree c.tree.result.now (domain_of c.layers.result.now c.deref.result.now)) c.found_at-seen.result.1.now o
           found.follows c.args.error c.args.numbers call
           ∙ ap (λ (tree : List Entry). said tree c.layers.result.now c.deref.result.now) c.tree.ensures
           ∙ ap (λ (layers : List (RulesOn ℕ)). said cv.tree layers c.deref.result.now) c.layers.ensures

@@ -6,4 +6,4 @@ pub returns : goal.returns
 unfolding answer_tokens
 returns c =
     wrote_4 c.args.out.now c.write_refusal.new.out c.write_key.new.self c.write_layers_of.new.out c.write_why.new.out _ _ _ _
-    c.write_refusal.ensures c.write_key.ensures c.write_layers_of.ensures (c.write_why.ensures c.args.saying.now.tree.now)
+    c.write_refusal.ensures c.write_key.ensures c.write_layers_of.ensures (c.write_why.ensures c.args.here.now.tree.now)

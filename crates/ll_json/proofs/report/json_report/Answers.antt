@@ -13,7 +13,7 @@ use Rattle.ll_json.proofs.RowsTold.{report_is}
 use Rattle.ll_json.proofs.report.json_report.Goals as goal
 
 pub returns : goal.returns
-returns g c =
+returns c =
     let a = c.args in
     let tree = a.located.tree in
     let later : List Record = a.located.trace in

@@ -15,7 +15,7 @@ use Rattle.ll_pool.proofs.gather.assemble.Goals as goal
 pub loop-piece-init : goal.loop-piece-init
 loop-piece-init c =
     let len : length c.in_ok-answers.answers.items ≡ length c.args.case.now.records =
-    (let h = c.in_ok-answers.ensures.len in omega (arith, h, ap (λ (rs : List Record). length rs) (c.records.ensures.value ∙ c.trace.ensures.records))) in
+    (let h = c.in_ok-answers.ensures.len in omega (arith, h, c.count.ensures.count, ap (λ (rs : List Record). length rs) c.trace.ensures.records)) in
     record {
       len = len;
       same = len;

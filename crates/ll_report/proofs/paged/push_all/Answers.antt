@@ -13,5 +13,5 @@ loop-index-preserved g c =
       c.push_row.ensures.made ∙ same,
       goes_on c.loop-index.text c.push_row.new.text _ (row_at made c.loop-index.index) (left made (c.loop-index.index + 1))
           (ap (adding c.loop-index.text) (sym (left_next made c.loop-index.index below)) ∙ c.loop-index.invariant.1)
-          (c.push_row.ensures.row ∙ ap (λ (m : Made). adding c.loop-index.text (row_at m c.loop-index.index)) same),
+          (c.in_ok-push_row.ensures.row ∙ ap (λ (m : Made). adding c.loop-index.text (row_at m c.loop-index.index)) same),
     )

@@ -2,7 +2,7 @@
 
 use crate::keeper::Wanted;
 use crate::order::judge_greatest_first;
-use crate::tests::judging::worked::{FAMILY_ANSWERS, Forks, boxed_case, case_with, judge_told};
+use crate::tests::judging::worked::{FAMILY_ANSWERS, Forks, ground_of, ground_with, judge_told};
 use ll_fixtures::FAMILY;
 use ll_pool::collect;
 use ll_process::{Answer, Case};
@@ -26,8 +26,8 @@ fn pieces_by_hand(
 
 /// The number of pieces of the family with each hand.
 fn pieces_of_family(rt: &(impl AllocGlobal + Abort)) -> Result<[usize; 3], Fail> {
-    let case = boxed_case(rt.alloc(), FAMILY.as_bytes())?;
-    pieces_by_hand(rt, &case, FAMILY_ANSWERS)
+    let ground = ground_of(rt.alloc(), FAMILY.as_bytes())?;
+    pieces_by_hand(rt, &ground.case(), FAMILY_ANSWERS)
 }
 
 #[test]
@@ -37,7 +37,7 @@ fn answers_are_the_same_whatever_a_hand_keeps(rt: HostRuntime) -> Result<(), Fai
 }
 
 /// The process with which the first piece of a case begins.
-fn first_judged(alloc: Global, case: &Case) -> Result<Option<ProcessId>, Fail> {
+fn first_judged<'c>(alloc: Global, case: &'c Case<'c>) -> Result<Option<ProcessId>, Fail> {
     let pieces = judge_greatest_first(alloc, case, Wanted::Nothing)?;
     Ok(match pieces.first() {
         Some(piece) => piece.processes().first().copied(),
@@ -47,8 +47,8 @@ fn first_judged(alloc: Global, case: &Case) -> Result<Option<ProcessId>, Fail> {
 
 /// The process with which the first piece begins if this many processes start by themselves.
 fn first_of_roots(alloc: Global, processes: u32) -> Result<Option<ProcessId>, Fail> {
-    let case = case_with(alloc, Forks::Nobody, processes)?;
-    first_judged(alloc, &case)
+    let ground = ground_with(alloc, Forks::Nobody, processes)?;
+    first_judged(alloc, &ground.case())
 }
 
 #[test]
@@ -58,7 +58,7 @@ fn the_greatest_process_is_judged_first(rt: HostRuntime) -> Result<(), Fail> {
 }
 
 /// How many pieces a hand leads to that keeps nothing, and how many records they allow.
-fn allowed_in(alloc: Global, case: &Case) -> Result<[usize; 2], Fail> {
+fn allowed_in<'c>(alloc: Global, case: &'c Case<'c>) -> Result<[usize; 2], Fail> {
     let pieces = judge_greatest_first(alloc, case, Wanted::Nothing)?;
     let count = pieces.len();
     let answers = collect(alloc, case, pieces)?;
@@ -71,8 +71,8 @@ fn allowed_in(alloc: Global, case: &Case) -> Result<[usize; 2], Fail> {
 
 /// The same of a chain of forks.
 fn allowed_in_chain(alloc: Global) -> Result<[usize; 2], Fail> {
-    let case = case_with(alloc, Forks::TheOneBefore, 65_536)?;
-    allowed_in(alloc, &case)
+    let ground = ground_with(alloc, Forks::TheOneBefore, 65_536)?;
+    allowed_in(alloc, &ground.case())
 }
 
 #[test]

@@ -5,7 +5,9 @@ ghost use Rattle.std.specs.Prelude.{IfOk};
 ghost use Rattle.ll_pool.specs.Gathered.{ArePiecesOf};
 
 use crate::tests::gates::Meeting;
-use crate::tests::judging::worked::{FAMILY_ANSWERS, Forks, boxed_case, case_with, expect_answers};
+use crate::tests::judging::worked::{
+    FAMILY_ANSWERS, Forks, expect_answers, ground_of, ground_with,
+};
 use ll_audit::Idle;
 use ll_fixtures::FAMILY;
 use ll_pool::{CollectFault, collect, judge_alone, run};
@@ -21,7 +23,7 @@ use std::thread::Threads;
 fn made<'c, R: Threads + Wait + Sync>(
     rt: &R,
     alloc: Global,
-    case: &'c Case,
+    case: &'c Case<'c>,
     workers: usize,
     cut: &[bool],
 ) -> Result<Vec<Piece<'c>>, Fail>
@@ -31,10 +33,10 @@ fn made<'c, R: Threads + Wait + Sync>(
 }
 
 /// How many pieces workers make.
-fn count_of<R: Threads + Wait + Sync>(
+fn count_of<'c, R: Threads + Wait + Sync>(
     rt: &R,
     alloc: Global,
-    case: &Case,
+    case: &'c Case<'c>,
     workers: usize,
     cut: &[bool],
 ) -> Result<usize, Fail> {
@@ -42,10 +44,10 @@ fn count_of<R: Threads + Wait + Sync>(
 }
 
 /// The answers of the pieces that workers make.
-fn collected<R: Threads + Wait + Sync>(
+fn collected<'c, R: Threads + Wait + Sync>(
     rt: &R,
     alloc: Global,
-    case: &Case,
+    case: &'c Case<'c>,
     workers: usize,
     cut: &[bool],
 ) -> Result<Vec<Answer>, Fail> {
@@ -68,10 +70,10 @@ const EVEN: [bool; 12] = [
 ];
 
 /// The answers of the family are the same for several numbers of workers with a cut.
-fn expect_family<R: Threads + Wait + Sync + Abort>(
+fn expect_family<'c, R: Threads + Wait + Sync + Abort>(
     rt: &R,
     alloc: Global,
-    case: &Case,
+    case: &'c Case<'c>,
     cut: &[bool],
 ) -> Result<(), Fail> {
     for workers in [1, 3, 8] {
@@ -82,10 +84,10 @@ fn expect_family<R: Threads + Wait + Sync + Abort>(
 }
 
 /// They are the same with each cut.
-fn expect_family_with_cuts<R: Threads + Wait + Sync + Abort>(
+fn expect_family_with_cuts<'c, R: Threads + Wait + Sync + Abort>(
     rt: &R,
     alloc: Global,
-    case: &Case,
+    case: &'c Case<'c>,
 ) -> Result<(), Fail> {
     expect_family(rt, alloc, case, &[])?;
     expect_family(rt, alloc, case, &EVERY)?;
@@ -96,12 +98,12 @@ fn expect_family_with_cuts<R: Threads + Wait + Sync + Abort>(
 fn the_answers_are_the_same_for_every_number_of_workers_and_every_cut(
     rt: HostRuntime,
 ) -> Result<(), Fail> {
-    let case = boxed_case(rt.alloc(), FAMILY.as_bytes())?;
-    expect_family_with_cuts(&rt, rt.alloc(), &case)
+    let ground = ground_of(rt.alloc(), FAMILY.as_bytes())?;
+    expect_family_with_cuts(&rt, rt.alloc(), &ground.case())
 }
 
 /// One thread gives the answers of the family.
-fn expect_alone(rt: &impl Abort, alloc: Global, case: &Case) -> Result<(), Fail> {
+fn expect_alone<'c>(rt: &impl Abort, alloc: Global, case: &'c Case<'c>) -> Result<(), Fail> {
     let answers = judge_alone(alloc, case)?;
     expect_answers(rt, &answers, FAMILY_ANSWERS);
     Ok(())
@@ -109,15 +111,15 @@ fn expect_alone(rt: &impl Abort, alloc: Global, case: &Case) -> Result<(), Fail>
 
 #[test]
 fn one_thread_gives_the_same_answers(rt: HostRuntime) -> Result<(), Fail> {
-    let case = boxed_case(rt.alloc(), FAMILY.as_bytes())?;
-    expect_alone(&rt, rt.alloc(), &case)
+    let ground = ground_of(rt.alloc(), FAMILY.as_bytes())?;
+    expect_alone(&rt, rt.alloc(), &ground.case())
 }
 
 /// How many pieces one worker makes, and how many of them have twelve processes.
-fn pieces_of_family<R: Threads + Wait + Sync>(
+fn pieces_of_family<'c, R: Threads + Wait + Sync>(
     rt: &R,
     alloc: Global,
-    case: &Case,
+    case: &'c Case<'c>,
 ) -> Result<[usize; 2], Fail> {
     let pieces = made(rt, alloc, case, 1, &[])?;
     Ok([pieces.len(), pieces_of(&pieces, 12)])
@@ -125,8 +127,8 @@ fn pieces_of_family<R: Threads + Wait + Sync>(
 
 /// The number of pieces of the family, and of those with twelve processes.
 fn pieces_by_one<R: Threads + Wait + Sync>(rt: &R, alloc: Global) -> Result<[usize; 2], Fail> {
-    let case = boxed_case(alloc, FAMILY.as_bytes())?;
-    pieces_of_family(rt, alloc, &case)
+    let ground = ground_of(alloc, FAMILY.as_bytes())?;
+    pieces_of_family(rt, alloc, &ground.case())
 }
 
 #[test]
@@ -137,8 +139,8 @@ fn one_worker_makes_one_piece_of_the_whole_family(rt: HostRuntime) -> Result<(),
 
 /// The fault of no piece at all.
 fn fault_of_none(alloc: Global) -> Result<Option<CollectFault>, Fail> {
-    let case = boxed_case(alloc, FAMILY.as_bytes())?;
-    Ok(collect(alloc, &case, Vec::new(alloc)).err())
+    let ground = ground_of(alloc, FAMILY.as_bytes())?;
+    Ok(collect(alloc, &ground.case(), Vec::new(alloc)).err())
 }
 
 #[test]
@@ -149,10 +151,10 @@ fn without_a_piece_the_first_process_is_missing(rt: HostRuntime) -> Result<(), F
 }
 
 /// The fault of the pieces that one worker makes, and makes again.
-fn fault_of_twice<R: Threads + Wait + Sync>(
+fn fault_of_twice<'c, R: Threads + Wait + Sync>(
     rt: &R,
     alloc: Global,
-    case: &Case,
+    case: &'c Case<'c>,
 ) -> Result<Option<CollectFault>, Fail> {
     let mut pieces = made(rt, alloc, case, 1, &[])?;
     let mut again = made(rt, alloc, case, 1, &[])?;
@@ -165,8 +167,8 @@ fn fault_of_family<R: Threads + Wait + Sync>(
     rt: &R,
     alloc: Global,
 ) -> Result<Option<CollectFault>, Fail> {
-    let case = boxed_case(alloc, FAMILY.as_bytes())?;
-    fault_of_twice(rt, alloc, &case)
+    let ground = ground_of(alloc, FAMILY.as_bytes())?;
+    fault_of_twice(rt, alloc, &ground.case())
 }
 
 #[test]
@@ -177,10 +179,10 @@ fn a_piece_made_twice_doubles_the_first_process(rt: HostRuntime) -> Result<(), F
 }
 
 /// How many pieces eight workers make, and how many answers they collect.
-fn counts_of<R: Threads + Wait + Sync>(
+fn counts_of<'c, R: Threads + Wait + Sync>(
     rt: &R,
     alloc: Global,
-    case: &Case,
+    case: &'c Case<'c>,
 ) -> Result<[usize; 2], Fail> {
     let pieces = count_of(rt, alloc, case, 8, &[])?;
     let answers = collected(rt, alloc, case, 8, &[])?;
@@ -189,8 +191,8 @@ fn counts_of<R: Threads + Wait + Sync>(
 
 /// The same of an empty trace.
 fn counts_of_nothing<R: Threads + Wait + Sync>(rt: &R, alloc: Global) -> Result<[usize; 2], Fail> {
-    let case = boxed_case(alloc, b"")?;
-    counts_of(rt, alloc, &case)
+    let ground = ground_of(alloc, b"")?;
+    counts_of(rt, alloc, &ground.case())
 }
 
 #[test]
@@ -200,10 +202,10 @@ fn an_empty_trace_has_no_answers(rt: HostRuntime) -> Result<(), Fail> {
 }
 
 /// How many pieces one worker makes with a cut, and how many of them have 77 processes and one.
-fn pieces_with<R: Threads + Wait + Sync>(
+fn pieces_with<'c, R: Threads + Wait + Sync>(
     rt: &R,
     alloc: Global,
-    case: &Case,
+    case: &'c Case<'c>,
     cut: &[bool],
 ) -> Result<[usize; 3], Fail> {
     let pieces = made(rt, alloc, case, 1, cut)?;
@@ -213,8 +215,8 @@ fn pieces_with<R: Threads + Wait + Sync>(
 /// The same of a process that forks 1,100 children, where the one worker is to cut each process off.
 fn pieces_of_children<R: Threads + Wait + Sync>(rt: &R, alloc: Global) -> Result<[usize; 3], Fail> {
     let every = vec![in alloc; true; 1101]?;
-    let case = case_with(alloc, Forks::TheFirst, 1101)?;
-    pieces_with(rt, alloc, &case, &every)
+    let ground = ground_with(alloc, Forks::TheFirst, 1101)?;
+    pieces_with(rt, alloc, &ground.case(), &every)
 }
 
 #[test]
@@ -233,8 +235,8 @@ fn count_of_forks<R: Threads + Wait + Sync>(
     workers: usize,
     cut: &[bool],
 ) -> Result<usize, Fail> {
-    let case = case_with(alloc, forks, processes)?;
-    count_of(rt, alloc, &case, workers, cut)
+    let ground = ground_with(alloc, forks, processes)?;
+    count_of(rt, alloc, &ground.case(), workers, cut)
 }
 
 /// A child that is judged apart where the cut says so, more roots than the queue holds, and a long line of descendants,
@@ -256,10 +258,10 @@ fn all_processes_are_judged_in_so_many_pieces(rt: HostRuntime) -> Result<(), Fai
 }
 
 /// The first number of pieces, of a hundred times, that is another than so many.
-fn count_unlike<R: Threads + Wait + Sync>(
+fn count_unlike<'c, R: Threads + Wait + Sync>(
     rt: &R,
     alloc: Global,
-    case: &Case,
+    case: &'c Case<'c>,
     cut: &[bool],
 ) -> Result<Option<usize>, Fail> {
     for _ in 0..100 {
@@ -274,8 +276,8 @@ fn count_unlike<R: Threads + Wait + Sync>(
 /// The same of a tree of forks that is cut at each of its 1,023 processes.
 fn tree_cut_unlike<R: Threads + Wait + Sync>(rt: &R, alloc: Global) -> Result<Option<usize>, Fail> {
     let every = vec![in alloc; true; 1023]?;
-    let case = case_with(alloc, Forks::TheOneAtHalf, 1023)?;
-    count_unlike(rt, alloc, &case, &every)
+    let ground = ground_with(alloc, Forks::TheOneAtHalf, 1023)?;
+    count_unlike(rt, alloc, &ground.case(), &every)
 }
 
 #[test]
@@ -288,10 +290,10 @@ fn a_tree_of_forks_is_cut_into_single_processes_a_hundred_times(
 
 /// How many pieces two workers make, how many of the jobs of `first` and of the process after it begin, and how many of
 /// these wait in vain.
-fn judged_at_once<R: Threads + Wait + Sync>(
+fn judged_at_once<'c, R: Threads + Wait + Sync>(
     rt: &R,
     alloc: Global,
-    case: &Case,
+    case: &'c Case<'c>,
     first: u32,
 ) -> Result<(usize, (u64, u64)), Fail> {
     let gate = Meeting::of(first, first.saturating_add(1));
@@ -306,8 +308,8 @@ fn forks_at_once<R: Threads + Wait + Sync>(
     (forks, processes): (Forks, u32),
     first: u32,
 ) -> Result<(usize, (u64, u64)), Fail> {
-    let case = case_with(alloc, forks, processes)?;
-    judged_at_once(rt, alloc, &case, first)
+    let ground = ground_with(alloc, forks, processes)?;
+    judged_at_once(rt, alloc, &ground.case(), first)
 }
 
 /// Two roots, and two children of one process, are judged at once.

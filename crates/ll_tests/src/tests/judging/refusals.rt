@@ -6,15 +6,15 @@ ghost use Rattle.std.specs.Prelude.{IfOk};
 ghost use Rattle.ll_process.specs.Jobs.{AreJobsOf};
 ghost use Rattle.ll_pool.specs.Gathered.{ArePiecesOf};
 
+use crate::ground::Ground;
 use crate::keeper::{Keeper, Wanted};
 use crate::order::judge_greatest_first;
-use crate::tests::judging::worked::{case_of, expect_answers, is_told};
+use crate::tests::judging::worked::{V4, expect_answers, is_told, worked_ground};
 use ll_fixtures::TREE;
 use ll_pool::{CollectFault, collect, judge_alone};
 use ll_process::{Answer, Case, Job, Piece, judge};
-use ll_rights::Abi;
 use ll_rules::NoMemory;
-use ll_trace::{ProcessId, Trace};
+use ll_trace::{Located, ProcessId, Trace};
 use ll_tree::Tree;
 use std::alloc::Global;
 use std::process::Abort;
@@ -63,14 +63,17 @@ fn trace_again(alloc: Global) -> Result<Trace, Fail> {
     }
 }
 
-/// The case of the trace at version 4. Its tree and its trace are read again where the first reading met the
-/// refusal, and both where making the case did, since they went with it.
-fn case_again(alloc: Global) -> Result<Case, Fail> {
-    let tree = tree_again(alloc)?;
-    let trace = trace_again(alloc)?;
-    match Case::new(alloc, tree, trace, Abi::V4) {
-        Ok(case) => Ok(case),
-        Err(NoMemory) => case_of(alloc, TRACE.as_bytes()),
+/// The ground of the case of the trace at version 4. Its tree and its trace are read again where the first reading met
+/// the refusal, and both where settling did, since they went with it.
+fn ground_again(alloc: Global) -> Result<Ground, Fail> {
+    let located = Located {
+        tree: tree_again(alloc)?,
+        trace: trace_again(alloc)?,
+        places: Vec::new(alloc),
+    };
+    match Ground::new(alloc, located, V4) {
+        Ok(ground) => Ok(ground),
+        Err(NoMemory) => worked_ground(alloc, TRACE.as_bytes()),
     }
 }
 
@@ -83,7 +86,7 @@ fn are_of(jobs: &[Job<'_>], processes: &[ProcessId]) -> bool {
             .all(|(job, process)| job.process() == *process)
 }
 
-fn roots_again(alloc: Global, case: &Case) -> Result<Vec<Job<'_>>, Fail>
+fn roots_again<'c>(alloc: Global, case: &'c Case<'c>) -> Result<Vec<Job<'c>>, Fail>
     ensures { IfOk result (λ jobs. AreJobsOf case.now jobs.items) }
 {
     match case.roots(alloc) {
@@ -92,7 +95,7 @@ fn roots_again(alloc: Global, case: &Case) -> Result<Vec<Job<'_>>, Fail>
     }
 }
 
-fn pieces_again(alloc: Global, case: &Case) -> Result<Vec<Piece<'_>>, Fail>
+fn pieces_again<'c>(alloc: Global, case: &'c Case<'c>) -> Result<Vec<Piece<'c>>, Fail>
     ensures { IfOk result (λ pieces. ArePiecesOf case.now pieces.items) }
 {
     match judge_greatest_first(alloc, case, Wanted::Even) {
@@ -109,7 +112,7 @@ fn is_answer(index: usize, answer: &Answer) -> bool {
     }
 }
 
-fn answers_again(alloc: Global, case: &Case) -> Result<Vec<Answer>, Fail> {
+fn answers_again<'c>(alloc: Global, case: &'c Case<'c>) -> Result<Vec<Answer>, Fail> {
     match judge_alone(alloc, case) {
         Ok(answers) => Ok(answers),
         Err(NoMemory) => Ok(judge_alone(alloc, case)?),
@@ -117,7 +120,7 @@ fn answers_again(alloc: Global, case: &Case) -> Result<Vec<Answer>, Fail> {
 }
 
 /// The case is judged as it was before anything was refused.
-fn expect_unchanged(rt: &impl Abort, alloc: Global, case: &Case) -> Result<(), Fail> {
+fn expect_unchanged<'c>(rt: &impl Abort, alloc: Global, case: &'c Case<'c>) -> Result<(), Fail> {
     let answers = answers_again(alloc, case)?;
     expect_answers(rt, &answers, ANSWERS);
     Ok(())
@@ -125,31 +128,31 @@ fn expect_unchanged(rt: &impl Abort, alloc: Global, case: &Case) -> Result<(), F
 
 #[test]
 fn case_without_memory(rt: HostRuntime) -> Result<(), Fail> {
-    let case = case_again(rt.alloc())?;
-    expect_unchanged(&rt, rt.alloc(), &case)
+    let ground = ground_again(rt.alloc())?;
+    expect_unchanged(&rt, rt.alloc(), &ground.case())
 }
 
 /// Whether the roots are the two processes that the trace starts with.
-fn has_two_roots(alloc: Global, case: &Case) -> Result<bool, Fail> {
+fn has_two_roots<'c>(alloc: Global, case: &'c Case<'c>) -> Result<bool, Fail> {
     let jobs = roots_again(alloc, case)?;
     Ok(are_of(&jobs, &[ProcessId(0), ProcessId(1)]))
 }
 
 /// The roots are these, and the case is judged as before.
-fn expect_two_roots(rt: &impl Abort, alloc: Global, case: &Case) -> Result<(), Fail> {
+fn expect_two_roots<'c>(rt: &impl Abort, alloc: Global, case: &'c Case<'c>) -> Result<(), Fail> {
     assert!(rt; has_two_roots(alloc, case)?);
     expect_unchanged(rt, alloc, case)
 }
 
 #[test]
 fn roots_without_memory(rt: HostRuntime) -> Result<(), Fail> {
-    let case = case_again(rt.alloc())?;
-    expect_two_roots(&rt, rt.alloc(), &case)
+    let ground = ground_again(rt.alloc())?;
+    expect_two_roots(&rt, rt.alloc(), &ground.case())
 }
 
 /// The job of process 1, and a hand with even numbers that holds the job of process 0.
 #[tactic(auto, using(crate::proofs::Ordering::left_of_case))]
-fn job_again(alloc: Global, case: &Case) -> Result<(Job<'_>, Keeper<'_>), Fail>
+fn job_again<'c>(alloc: Global, case: &'c Case<'c>) -> Result<(Job<'c>, Keeper<'c>), Fail>
     ensures { IfOk result (λ both. AreJobsOf both.0.case.now both.1.jobs.items) }
 {
     let mut jobs = roots_again(alloc, case)?;
@@ -184,11 +187,11 @@ fn expect_job(rt: &impl Abort, alloc: Global, job: Job<'_>) -> Result<(), Fail> 
 }
 
 /// A hand holds the job that it held, and besides jobs of processes of the trace, which can be judged.
-fn expect_kept(
+fn expect_kept<'c>(
     rt: &impl Abort,
     alloc: Global,
-    case: &Case,
-    keeper: Keeper<'_>,
+    case: &'c Case<'c>,
+    keeper: Keeper<'c>,
 ) -> Result<(), Fail> {
     assert_eq!(rt; keeper.wanted, Wanted::Even);
     assert_eq!(rt; keeper.jobs.first().map(Job::process), Some(ProcessId(0)));
@@ -203,7 +206,7 @@ fn expect_kept(
 fn judged_again<'c>(
     rt: &impl Abort,
     alloc: Global,
-    case: &'c Case,
+    case: &'c Case<'c>,
 ) -> Result<(Piece<'c>, Keeper<'c>), Fail> {
     let (job, mut keeper) = job_again(alloc, case)?;
     match judge(alloc, job, &mut keeper) {
@@ -229,7 +232,7 @@ fn are_judged(piece: &Piece<'_>) -> bool {
 }
 
 /// The processes are shared out between the piece and the hand as the hand wants.
-fn expect_shared(rt: &impl Abort, alloc: Global, case: &Case) -> Result<(), Fail> {
+fn expect_shared<'c>(rt: &impl Abort, alloc: Global, case: &'c Case<'c>) -> Result<(), Fail> {
     let (piece, keeper) = judged_again(rt, alloc, case)?;
     expect_piece(rt, &piece, ProcessId(1));
     assert!(rt; are_judged(&piece) && are_of(&keeper.jobs, &KEPT));
@@ -237,18 +240,22 @@ fn expect_shared(rt: &impl Abort, alloc: Global, case: &Case) -> Result<(), Fail
 }
 
 /// They are shared out so, and the case is judged as before.
-fn expect_judged(rt: &impl Abort, alloc: Global, case: &Case) -> Result<(), Fail> {
+fn expect_judged<'c>(rt: &impl Abort, alloc: Global, case: &'c Case<'c>) -> Result<(), Fail> {
     expect_shared(rt, alloc, case)?;
     expect_unchanged(rt, alloc, case)
 }
 
 #[test]
 fn judge_without_memory(rt: HostRuntime) -> Result<(), Fail> {
-    let case = case_again(rt.alloc())?;
-    expect_judged(&rt, rt.alloc(), &case)
+    let ground = ground_again(rt.alloc())?;
+    expect_judged(&rt, rt.alloc(), &ground.case())
 }
 
-fn collected_again(rt: &impl Abort, alloc: Global, case: &Case) -> Result<Vec<Answer>, Fail> {
+fn collected_again<'c>(
+    rt: &impl Abort,
+    alloc: Global,
+    case: &'c Case<'c>,
+) -> Result<Vec<Answer>, Fail> {
     let pieces = pieces_again(alloc, case)?;
     match collect(alloc, case, pieces) {
         Ok(answers) => Ok(answers),
@@ -261,20 +268,24 @@ fn collected_again(rt: &impl Abort, alloc: Global, case: &Case) -> Result<Vec<An
 }
 
 /// The answers are collected.
-fn expect_collected(rt: &impl Abort, alloc: Global, case: &Case) -> Result<(), Fail> {
+fn expect_collected<'c>(rt: &impl Abort, alloc: Global, case: &'c Case<'c>) -> Result<(), Fail> {
     let answers = collected_again(rt, alloc, case)?;
     expect_answers(rt, &answers, ANSWERS);
     Ok(())
 }
 
 /// They are, and the case is judged as before.
-fn expect_collected_alike(rt: &impl Abort, alloc: Global, case: &Case) -> Result<(), Fail> {
+fn expect_collected_alike<'c>(
+    rt: &impl Abort,
+    alloc: Global,
+    case: &'c Case<'c>,
+) -> Result<(), Fail> {
     expect_collected(rt, alloc, case)?;
     expect_unchanged(rt, alloc, case)
 }
 
 #[test]
 fn collect_without_memory(rt: HostRuntime) -> Result<(), Fail> {
-    let case = case_again(rt.alloc())?;
-    expect_collected_alike(&rt, rt.alloc(), &case)
+    let ground = ground_again(rt.alloc())?;
+    expect_collected_alike(&rt, rt.alloc(), &ground.case())
 }

@@ -1,7 +1,7 @@
 //! Worked traces that a hand judges which keeps nothing.
 
 use crate::keeper::Wanted;
-use crate::tests::judging::worked::{boxed_case, case_at_best_effort, judge_told};
+use crate::tests::judging::worked::{ground_at_best_effort, ground_of, judge_told};
 use ll_rights::Abi;
 use std::process::Abort;
 use std::test::Fail;
@@ -27,8 +27,8 @@ const CONFINED: &str = "a a a m a a E1 a a a E2 X2 P2";
 
 /// The number of pieces at best effort, whose answers are those told.
 fn pieces_at(rt: &(impl AllocGlobal + Abort), abi: Abi, told: &str) -> Result<usize, Fail> {
-    let case = case_at_best_effort(rt.alloc(), abi, PORTS_FIRST)?;
-    judge_told(rt, &case, told, Wanted::Nothing)
+    let ground = ground_at_best_effort(rt.alloc(), abi, PORTS_FIRST)?;
+    judge_told(rt, &ground.case(), told, Wanted::Nothing)
 }
 
 /// At best effort a ruleset of which a version supports nothing refuses nothing, and its layer keeps its number.
@@ -44,8 +44,8 @@ fn layers_keep_their_numbers_at_best_effort(rt: HostRuntime) -> Result<(), Fail>
 
 /// The number of pieces at version 4, whose answers are those told.
 fn pieces_of(rt: &(impl AllocGlobal + Abort), told: &str) -> Result<usize, Fail> {
-    let case = boxed_case(rt.alloc(), PORTS_FIRST)?;
-    judge_told(rt, &case, told, Wanted::Nothing)
+    let ground = ground_of(rt.alloc(), PORTS_FIRST)?;
+    judge_told(rt, &ground.case(), told, Wanted::Nothing)
 }
 
 #[test]
@@ -67,7 +67,7 @@ const LATER_RULE: &[u8] = b"\
 /// No clause bounds the number of layers.
 #[test]
 fn a_ruleset_without_a_new_rule_is_frozen_once(rt: HostRuntime) -> Result<(), Fail> {
-    let case = boxed_case(rt.alloc(), LATER_RULE)?;
-    assert_eq!(rt; case.layers().len(), 2);
+    let ground = ground_of(rt.alloc(), LATER_RULE)?;
+    assert_eq!(rt; ground.case().layers().len(), 2);
     Ok(())
 }

@@ -1,5 +1,6 @@
 //! Cases against the worked tree, and the answers that their records are to get.
 
+use crate::ground::Ground;
 use crate::keeper::Wanted;
 use crate::order::judge_greatest_first;
 use ll_fixtures::TREE;
@@ -7,7 +8,7 @@ use ll_pool::collect;
 use ll_process::{Answer, Case};
 use ll_rights::Abi;
 use ll_rules::{Errno, LayerSet};
-use ll_trace::Trace;
+use ll_trace::{Effort, Kernel, Located, Trace};
 use ll_tree::Tree;
 use std::alloc::Global;
 use std::io::Write;
@@ -54,24 +55,37 @@ pub(crate) fn expect_answers(rt: &impl Abort, answers: &[Answer], told: &str) {
     }
 }
 
-/// The case of a trace at version 4.
-pub(crate) fn case_of(alloc: Global, trace: &[u8]) -> Result<Case, Fail> {
-    let tree = Tree::read(alloc, TREE.as_bytes())?;
-    let trace = Trace::read(alloc, trace)?;
-    Ok(Case::new(alloc, tree, trace, Abi::V4)?)
+/// Version 4, with rulesets as they were recorded.
+pub(crate) const V4: Kernel = Kernel {
+    abi: Abi::V4,
+    effort: Effort::AsRecorded,
+};
+
+/// The ground of the case of a trace under a kernel.
+fn ground_under(alloc: Global, trace: &[u8], kernel: Kernel) -> Result<Ground, Fail> {
+    let located = Located {
+        tree: Tree::read(alloc, TREE.as_bytes())?,
+        trace: Trace::read(alloc, trace)?,
+        places: Vec::new(alloc),
+    };
+    Ok(Ground::new(alloc, located, kernel)?)
+}
+
+/// The same at version 4.
+pub(crate) fn worked_ground(alloc: Global, trace: &[u8]) -> Result<Ground, Fail> {
+    ground_under(alloc, trace, V4)
 }
 
 /// The same in a box: to drop a box takes one step in each path out of a function that owns it.
-pub(crate) fn boxed_case(alloc: Global, trace: &[u8]) -> Result<Box<Case>, Fail> {
-    let case = case_of(alloc, trace)?;
-    Ok(Box::new(alloc, case)?)
+pub(crate) fn ground_of(alloc: Global, trace: &[u8]) -> Result<Box<Ground>, Fail> {
+    let ground = worked_ground(alloc, trace)?;
+    Ok(Box::new(alloc, ground)?)
 }
 
-/// The case of a program that goes by its kernel's version.
-pub(crate) fn case_at_best_effort(alloc: Global, abi: Abi, trace: &[u8]) -> Result<Case, Fail> {
-    let tree = Tree::read(alloc, TREE.as_bytes())?;
-    let trace = Trace::read(alloc, trace)?;
-    Ok(Case::new(alloc, tree, trace.at_best_effort(abi), abi)?)
+/// The ground of the case of a program that goes by its kernel's version.
+pub(crate) fn ground_at_best_effort(alloc: Global, abi: Abi, trace: &[u8]) -> Result<Ground, Fail> {
+    let effort = Effort::Best;
+    ground_under(alloc, trace, Kernel { abi, effort })
 }
 
 /// Who forks the processes of a trace but the first, whose pid is 1.
@@ -100,8 +114,12 @@ impl Forks {
     }
 }
 
-/// The case of so many processes that do nothing else.
-pub(crate) fn case_with(alloc: Global, forks: Forks, processes: u32) -> Result<Box<Case>, Fail> {
+/// The ground of the case of so many processes that do nothing else.
+pub(crate) fn ground_with(
+    alloc: Global,
+    forks: Forks,
+    processes: u32,
+) -> Result<Box<Ground>, Fail> {
     let mut trace = Vec::new(alloc);
     for pid in 1..=processes {
         match forks.parent(pid) {
@@ -114,7 +132,7 @@ pub(crate) fn case_with(alloc: Global, forks: Forks, processes: u32) -> Result<B
             }
         }
     }
-    boxed_case(alloc, &trace)
+    ground_of(alloc, &trace)
 }
 
 /// Judges a case with a hand that keeps what is wanted, and compares the answers. The result is the number of pieces.

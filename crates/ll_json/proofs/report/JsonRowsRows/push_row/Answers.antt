@@ -1,13 +1,12 @@
-use Rattle.std.proofs.Common.{◌≡◌, ◌∙◌, ◌<◌, ◌≤◌, List, ℕ, ap, arith, false, length, map, subst, sym, true}
+use Rattle.std.proofs.Common.{◌≡◌, ◌∙◌, ◌<◌, ◌≤◌, List, ℕ, ap, arith, false, length, subst, sym, true}
 use Rattle.ll_trace.specs.declared.reader.TheConstants.{MOST_RECORDS}
 use Rattle.ll_trace.specs.declared.op.Record.{Record}
 use Rattle.ll_trails.proofs.AtIndices.{read_there}
 use Rattle.ll_explain.specs.Buffers.{adding}
-use Rattle.ll_report.specs.Scratches.{AreComparable, ScratchValue, told_under, verdict_told}
+use Rattle.ll_report.specs.Printed.{printed_under}
 use Rattle.ll_report.specs.Rows.{is_row_left_out}
 use Rattle.ll_report.specs.Versions.{answers_in}
 use Rattle.ll_json.specs.Rows.{line_of, said_of}
-use Rattle.ll_json.specs.Telling.{answer_at, members_told}
 use Rattle.ll_json.proofs.RowsMade.{among, as_many, line_added, nothing_added}
 use Rattle.ll_json.proofs.report.JsonRowsRows.push_row.Goals as goal
 
@@ -26,37 +25,17 @@ offset_bounds-records-index c =
     c.args.index c.requires in
     omega (arith, few, below)
 
-pub is_left_out-requires : goal.is_left_out-requires
-is_left_out-requires c =
-    let rows = c.self.inside in
-    let below = among rows.shown rows.oldest rows.located.tree rows.located.trace rows.findings rows.program.now c.args.self.now c.self.view_is
-    c.args.index c.requires in
-    subst (λ (texts : List (List ℕ)). AreComparable 0 rows.scratch c.args.index texts)
-    (ap (λ (records : List Record). told_under verdict_told rows.located.tree records rows.findings c.args.index) (sym c.records-records.ensures.value))
-    (c.self.invariant.1.verdicts c.args.index below)
-
-pub returns-then-is_left_out-clause-row : goal.returns-then-is_left_out-clause-row
-returns-then-is_left_out-clause-row c =
+pub returns-then-out-clause-row : goal.returns-then-out-clause-row
+returns-then-out-clause-row c =
     let rows = c.self.inside in
     let below = among rows.shown rows.oldest rows.located.tree rows.located.trace rows.findings rows.program.now c.args.self.now c.self.view_is
     c.args.index c.requires in
     let there = read_there rows.located.trace c.records-records.result.now c.args.index c.index-records-index.result
     c.records-records.ensures.value below c.index-records-index.is in
     let out : is_row_left_out rows.shown (answers_in rows.findings) c.args.index ≡ true =
-    sym c.is_left_out.ensures.out ∙ c.if-is_left_out.true in
+    sym c.in_ok-out.ensures ∙ c.if-out.true in
     nothing_added rows.shown rows.oldest rows.located.tree rows.located.trace rows.findings rows.program.now c.args.self.now c.self.view_is
     c.args.index c.index-records-index.result there c.args.text.now out
-
-pub push_line-requires-clause-comparable : goal.push_line-requires-clause-comparable
-push_line-requires-clause-comparable c =
-    let rows = c.self.inside in
-    let below = among rows.shown rows.oldest rows.located.tree rows.located.trace rows.findings rows.program.now c.args.self.now c.self.view_is
-    c.args.index c.requires in
-    let told : List Record → List (List ℕ) =
-    λ (records : List Record). told_under (members_told rows.shown.explanations) rows.located.tree records rows.findings c.args.index in
-    subst (λ (scratch : ScratchValue). AreComparable answer_at scratch c.args.index (told c.records-records.result.now)) (sym c.is_left_out.ensures.scratch)
-    (subst (λ (texts : List (List ℕ)). AreComparable answer_at rows.scratch c.args.index texts) (ap told (sym c.records-records.ensures.value))
-    (c.self.invariant.1.texts c.args.index below))
 
 pub returns-clause-row : goal.returns-clause-row
 returns-clause-row c =
@@ -66,9 +45,9 @@ returns-clause-row c =
     let r = c.index-records-index.result in
     let there = read_there rows.located.trace c.records-records.result.now c.args.index r c.records-records.ensures.value below c.index-records-index.is in
     let out : is_row_left_out rows.shown (answers_in rows.findings) c.args.index ≡ false =
-    sym c.is_left_out.ensures.out ∙ c.if-is_left_out.false in
+    sym c.in_ok-out.ensures ∙ c.if-out.false in
     line_added rows.shown rows.oldest rows.located.tree rows.located.trace rows.findings rows.program.now c.args.self.now c.self.view_is
     c.args.index r there c.args.text.now _ out
-    (c.push_line.ensures.text ∙ ap (λ (records : List Record).
-    adding c.args.text.now (line_of rows.oldest r (map (said_of rows.shown.explanations rows.located.tree records c.args.index) rows.findings)))
+    (c.in_ok-push_line.ensures ∙ ap (λ (records : List Record).
+    adding c.args.text.now (line_of rows.oldest r (printed_under (said_of rows.shown.explanations) rows.located.tree records rows.findings c.args.index)))
     c.records-records.ensures.value)

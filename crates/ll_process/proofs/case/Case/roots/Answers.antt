@@ -1,5 +1,5 @@
 -- Each start record gives one job more.
-use Rattle.std.proofs.Common.{◌≡◌, ◌<◌, ◌≤◌, ◌+◌, List, Option, length, sym, ap, ◌∙◌, subst}
+use Rattle.std.proofs.Common.{◌≡◌, ◌<◌, ◌≤◌, ◌+◌, ℕ, List, Option, length, sym, ap, ◌∙◌, subst}
 use Rattle.std.specs.Prelude.{IfSome}
 use Rattle.std.specs.Option.{option_map}
 use Rattle.ll_trace.specs.declared.op.Record.{Record}
@@ -13,9 +13,10 @@ loop-index-init c = rooted_none c.args.self.now c.new-jobs.result.items c.new-jo
 
 pub loop-index-preserved : goal.loop-index-preserved
 loop-index-preserved c =
-    let records : c.records-index-end.result.now ≡ c.args.self.now.records = c.records-index-end.ensures.value ∙ c.trace.ensures.records in
+    let records : c.count-index-end.result ≡ length c.args.self.now.records =
+    c.count-index-end.ensures.count ∙ ap (λ (rs : List Record). length rs) c.trace.ensures.records in
     let within : c.loop-index.index < length c.args.self.now.records =
-    subst (λ (xs : List Record). c.loop-index.index < length xs) records c.loop-index-test.true in
+    subst (λ (n : ℕ). c.loop-index.index < n) records c.loop-index-test.true in
     elim c.match-root_job.branch [
       | in-Some+in_ok-append w ↦
           subst (λ jobs. Rooted c.args.self.now (c.loop-index.index + 1) jobs.items) (sym w.jobs-is)
@@ -33,9 +34,10 @@ loop-index-preserved c =
 
 pub returns-clause-roots : goal.returns-clause-roots
 returns-clause-roots c =
-    let records : c.records-index-end.result.now ≡ c.args.self.now.records = c.records-index-end.ensures.value ∙ c.trace.ensures.records in
+    let records : c.count-index-end.result ≡ length c.args.self.now.records =
+    c.count-index-end.ensures.count ∙ ap (λ (rs : List Record). length rs) c.trace.ensures.records in
     rooted_all c.args.self.now c.loop-index.index c.loop-index.jobs.items
-    (subst (λ (xs : List Record). length xs ≤ c.loop-index.index) records c.loop-index-test.false) c.loop-index.invariant
+    (subst (λ (n : ℕ). n ≤ c.loop-index.index) records c.loop-index-test.false) c.loop-index.invariant
 
 pub returns-clause-numbered : goal.returns-clause-numbered
 returns-clause-numbered c = c.trace.ensures.case.numbered

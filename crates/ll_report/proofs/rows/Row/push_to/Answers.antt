@@ -4,10 +4,10 @@ use Rattle.ll_explain.proofs.Buffering.{adding_nothing}
 use Rattle.ll_report.proofs.RowsSaid.{apart_out}
 use Rattle.ll_report.proofs.rows.Row.push_to.Goals as goal
 
-pub returns-then-is_left_out-clause-text : goal.returns-then-is_left_out-clause-text
-returns-then-is_left_out-clause-text c =
+pub returns-then-out : goal.returns-then-out
+returns-then-out c =
     let row = c.args.self.now in
-    let s = row.sayings in
+    let s = row.found in
     adding_nothing c.args.text.now
     ∙ ap (adding c.args.text.now) (apart_out row.shown row.oldest s.tree.now s.records.now s.findings.now s.index row.record.now
-    (sym c.is_left_out.ensures.out ∙ c.if-is_left_out.true))
+    (sym c.in_ok-out.ensures ∙ c.if-out.true))

@@ -1,18 +1,23 @@
-use Rattle.std.proofs.Common.{refl}
-use Rattle.std.proofs.lemmas.Option.{slice_get_read}
+use Rattle.std.proofs.Common.{inl, inr, arith}
+use Rattle.std.proofs.lemmas.Option.{slice_get_cases}
 use Rattle.ll_rulebook.proofs.Course.{has_table, settled_next}
 use Rattle.ll_rulebook.proofs.pass.Pass.settle_all.Goals as goal
 
 pub settle_next-requires-clause-there : goal.settle_next-requires-clause-there
-settle_next-requires-clause-there c =
-    has_table c.args.self.now.tree.now c.args.self.now.abi c.args.records.now c.loop-record.record-index c.record-item.result c.loop-record.self
-    c.loop-record.outcomes.items c.requires.are_records
-    (slice_get_read c.args.records.now _ c.loop-record.record-index c.record-item.result refl c.loop-record-test.true c.record-item.is) c.loop-record.invariant
+settle_next-requires-clause-there c = elim ((slice_get_cases c.args.trace.now c.loop-index.index).1) [
+  | inl found ↦
+      rw (c.call-seen.ensures.op found.0 found.2, c.call-seen.ensures.process found.0 found.2)
+      (has_table c.args.self.now.tree.now c.args.self.now.abi c.args.trace.now c.loop-index.index found.0 c.loop-index.self
+      c.loop-index.outcomes.items c.count-index-end.ensures.are_records found.2 c.loop-index.invariant)
+  | inr past ↦ absurd (omega (arith, past.0, c.loop-index-test.true, c.count-index-end.ensures.count))
+]
 
-pub loop-record-preserved : goal.loop-record-preserved
-loop-record-preserved c =
-    let adds = c.in_ok-settle_next.ensures in
-    rw adds.added (settled_next c.args.self.now.tree.now c.args.self.now.abi c.args.records.now c.loop-record.record-index c.record-item.result
-    c.loop-record.self c.settle_next.new.self c.loop-record.outcomes.items adds.outcome
-    (slice_get_read c.args.records.now _ c.loop-record.record-index c.record-item.result refl c.loop-record-test.true c.record-item.is)
-    c.loop-record.invariant adds.holds)
+pub loop-index-preserved : goal.loop-index-preserved
+loop-index-preserved c = elim ((slice_get_cases c.args.trace.now c.loop-index.index).1) [
+  | inl found ↦
+      let adds = c.in_ok-settle_next.ensures in
+      rw adds.added (settled_next c.args.self.now.tree.now c.args.self.now.abi c.args.trace.now c.loop-index.index found.0
+      c.loop-index.self c.settle_next.new.self c.loop-index.outcomes.items adds.outcome found.2 c.loop-index.invariant
+      (rw (← c.call-seen.ensures.op found.0 found.2, ← c.call-seen.ensures.process found.0 found.2) adds.holds))
+  | inr past ↦ absurd (omega (arith, past.0, c.loop-index-test.true, c.count-index-end.ensures.count))
+]

@@ -27,7 +27,7 @@ settled_none tree abi records pass of_tree of_abi rulesets layers tables = recor
   fits = λ k r outcome eq noted. absurd (cc);
 }
 
-pub settle_all-requires-clause-begins : goal.settle_all-requires-clause-begins
-settle_all-requires-clause-begins c =
-    settled_none c.new-pass.result.tree.now c.new-pass.result.abi c.records.result.now c.new-pass.result refl refl c.new-pass.ensures.rulesets
+pub settle_all-requires : goal.settle_all-requires
+settle_all-requires c =
+    settled_none c.new-pass.result.tree.now c.new-pass.result.abi c.args.trace.now c.new-pass.result refl refl c.new-pass.ensures.rulesets
     c.new-pass.ensures.layers c.new-pass.ensures.tables

@@ -1,11 +1,9 @@
-use Rattle.std.proofs.Common.{◌≡◌, ℕ, ◌+◌, ◌<◌, cond, List, [], ◌∷◌, ◌++◌, length, get_or, Option, refl, sym, ap, ◌∙◌, set, Vec, eqb}
+use Rattle.std.proofs.Common.{◌≡◌, ℕ, ◌+◌, ◌<◌, cond, List, [], ◌∷◌, ◌++◌, length, get_or, refl, sym, ap, ◌∙◌, set, Vec, eqb}
 use Rattle.std.proofs.lemmas.List.{length-set}
 use Rattle.std.specs.declared.alloc.Global.{Global}
 use Rattle.ll_trace.specs.declared.op.Record.{Record}
 use Rattle.ll_trace.specs.Processes.{is_starting, forked_by}
-use Rattle.ll_trace.specs.BestEffort.{names_rights}
 use Rattle.ll_trace.specs.Indexed.{Adds, lists}
-use Rattle.ll_trace.specs.declared.op.ProcessId.{ProcessId}
 use Rattle.ll_trace.specs.declared.tables.Tables.{Tables}
 use Rattle.ll_trace.proofs.TableLemmas.{length-grown, grown, length-lists, pushed}
 use Rattle.ll_trace.proofs.tables.Tables.add.Goals as goal
@@ -14,10 +12,9 @@ adds : (old new : Tables) (it : Record) (index : ℕ) (between : List (Vec ℕ G
     → new.parents.items ≡ old.parents.items ++ cond (is_starting it.op) (forked_by it.op it.process ∷ []) []
     → lists between ≡ lists old.own.items ++ cond (is_starting it.op) ([] ∷ []) []
     → new.starts.items ≡ old.starts.items ++ cond (is_starting it.op) (index ∷ []) []
-    → new.rights.items ≡ old.rights.items ++ cond (names_rights it.op) (index ∷ []) []
     → new.own.items ≡ set between it.process.0 after → before ≡ get_or between it.process.0 before → after.items ≡ before.items ++ index ∷ []
     → it.process.0 < length old.own.items + cond (is_starting it.op) 1 0 → Adds old new it index
-adds old new it index between before after parents_are begun starts_are rights_are own_is before_is grows known =
+adds old new it index between before after parents_are begun starts_are own_is before_is grows known =
     let count : length between ≡ length old.own.items + cond (is_starting it.op) 1 0 =
     sym (length-lists between) ∙ (ap length begun
     ∙ (length-grown (lists old.own.items) (is_starting it.op) [] ∙ ap (λ n. n + cond (is_starting it.op) 1 0) (length-lists old.own.items))) in
@@ -29,17 +26,10 @@ adds old new it index between before after parents_are begun starts_are rights_a
           ∙ (pushed between it.process.0 q index before after (eqb it.process.0 q) refl within before_is grows
           ∙ ap (λ ns. ns ++ cond (eqb it.process.0 q) (index ∷ []) []) (ap (λ ls. get_or ls q []) begun ∙ grown (lists old.own.items) (is_starting it.op) q));
       by_start = starts_are;
-      rights = rights_are;
     }
 
 pub returns : goal.returns
 returns c =
     let begun = c.in_ok-begin.ensures in
-    let noted = c.in_ok-note_rights.ensures in
-    let rights : c.note_rights.new.self.rights.items ≡ c.args.self.now.rights.items ++ cond (names_rights c.args.added.now.op) (c.args.index ∷ []) [] =
-    noted.rights ∙ ap (λ (v : Vec ℕ Global). v.items ++ cond (names_rights c.args.added.now.op) (c.args.index ∷ []) []) begun.rights in
-    adds c.args.self.now _ c.args.added.now c.args.index c.note_rights.new.self.own.items c.index_mut.result.now c.push.new.self
-    (ap (λ (v : Vec (Option ProcessId) Global). v.items) noted.parents ∙ begun.parents)
-    (ap (λ (v : Vec (Vec ℕ Global) Global). lists v.items) noted.own ∙ begun.own)
-    (ap (λ (v : Vec ℕ Global). v.items) noted.starts ∙ begun.starts) rights
-    refl c.index_mut.ensures.value c.in_ok-push.ensures.items c.requires
+    adds c.args.self.now _ c.args.added.now c.args.index c.begin.new.self.own.items c.index_mut.result.now c.push.new.self
+    begun.parents begun.own begun.starts refl c.index_mut.ensures.value c.in_ok-push.ensures.items c.requires

@@ -1,0 +1,88 @@
+-- What is the same of the records of a trace under every kernel.
+use Rattle.std.proofs.Common.{◌≡◌, ◌∙◌, ℕ, List, length, refl, sym, ap, Some}
+use Rattle.std.specs.Prelude.{slice_get, option_map}
+use Rattle.std.proofs.lemmas.List.{length-map}
+use Rattle.std.proofs.lemmas.Option.{slice_get-map, same_Some}
+use Rattle.ll_rights.specs.declared.abi.Abi.{Abi}
+use Rattle.ll_trace.specs.declared.op.Record.{Record}
+use Rattle.ll_trace.specs.declared.trace.Effort.{Effort}
+use Rattle.ll_trace.specs.declared.trace.Effort.TheVariants.{AsRecorded, Best}
+use Rattle.ll_trace.specs.BestEffort.{record_at_best_effort}
+use Rattle.ll_trace.specs.Processes.{process_count, parents, own_records, started_at}
+use Rattle.ll_tree.specs.declared.place.Place.{Place}
+use Rattle.ll_tree.specs.Trees.{Entry}
+use Rattle.ll_trace.specs.FirstPlaces.{AreFirstPlaces}
+use Rattle.ll_trace.specs.Taken.{by_effort, records_by}
+use Rattle.ll_trace.specs.Traces.{AreRecords}
+use Rattle.ll_trace.proofs.BestEffort.{are_records-kept, first_places-kept, own-kept, parents-kept, started-kept, starting-kept}
+
+module _ (effort : Effort) (abi : Abi) (records : List Record) where
+  pub as_many : length (records_by effort abi records) ≡ length records
+  as_many = go effort where
+    go : (e : Effort) → length (records_by e abi records) ≡ length records
+    go AsRecorded = refl
+    go Best = length-map records (record_at_best_effort abi)
+
+  pub still_records : AreRecords records → AreRecords (records_by effort abi records)
+  still_records are = go effort where
+    go : (e : Effort) → AreRecords (records_by e abi records)
+    go AsRecorded = are
+    go Best = are_records-kept abi records are
+
+  pub count_seen : process_count (records_by effort abi records) ≡ process_count records
+  count_seen = go effort where
+    go : (e : Effort) → process_count (records_by e abi records) ≡ process_count records
+    go AsRecorded = refl
+    go Best = starting-kept abi records
+
+  pub parents_seen : parents (records_by effort abi records) ≡ parents records
+  parents_seen = go effort where
+    go : (e : Effort) → parents (records_by e abi records) ≡ parents records
+    go AsRecorded = refl
+    go Best = parents-kept abi records
+
+  pub own_seen : (process : ℕ) → own_records (records_by effort abi records) process ≡ own_records records process
+  unfolding own_records
+  own_seen process = go effort where
+    go : (e : Effort) → own_records (records_by e abi records) process ≡ own_records records process
+    go AsRecorded = refl
+    go Best = own-kept abi process 0 records
+
+  pub started_seen : (k : ℕ) → started_at (records_by effort abi records) k ≡ started_at records k
+  started_seen k = go effort where
+    go : (e : Effort) → started_at (records_by e abi records) k ≡ started_at records k
+    go AsRecorded = refl
+    go Best = started-kept abi records k
+
+  -- the record at an index
+  pub op_seen : (k : ℕ) (r s : Record) → slice_get records k ≡ Some r → slice_get (records_by effort abi records) k ≡ Some s → by_effort effort abi r.op ≡ s.op
+  unfolding by_effort
+  op_seen k r s here there = go effort there where
+    go : (e : Effort) → slice_get (records_by e abi records) k ≡ Some s → by_effort e abi r.op ≡ s.op
+    go AsRecorded at = ap (λ (one : Record). one.op) (same_Some r s (sym here ∙ at))
+    go Best at =
+        ap (λ (one : Record). one.op) (same_Some (record_at_best_effort abi r) s
+        (sym (slice_get-map (record_at_best_effort abi) records k ∙ ap (option_map (record_at_best_effort abi)) here) ∙ at))
+
+  pub process_seen : (k : ℕ) (r s : Record) → slice_get records k ≡ Some r → slice_get (records_by effort abi records) k ≡ Some s → r.process ≡ s.process
+  process_seen k r s here there = go effort there where
+    go : (e : Effort) → slice_get (records_by e abi records) k ≡ Some s → r.process ≡ s.process
+    go AsRecorded at = ap (λ (one : Record). one.process) (same_Some r s (sym here ∙ at))
+    go Best at =
+        ap (λ (one : Record). one.process) (same_Some (record_at_best_effort abi r) s
+        (sym (slice_get-map (record_at_best_effort abi) records k ∙ ap (option_map (record_at_best_effort abi)) here) ∙ at))
+
+  pub record_seen : (k : ℕ) (r : Record) → slice_get records k ≡ Some r
+      → slice_get (records_by effort abi records) k ≡ Some (record r { op = by_effort effort abi r.op })
+  unfolding by_effort
+  record_seen k r here = go effort where
+    go : (e : Effort) → slice_get (records_by e abi records) k ≡ Some (record r { op = by_effort e abi r.op })
+    go AsRecorded = here
+    go Best = slice_get-map (record_at_best_effort abi) records k ∙ ap (option_map (record_at_best_effort abi)) here
+
+  pub first_places_seen : (tree : List Entry) (places : List Place) → AreFirstPlaces tree records places
+      → AreFirstPlaces tree (records_by effort abi records) places
+  first_places_seen tree places are = go effort where
+    go : (e : Effort) → AreFirstPlaces tree (records_by e abi records) places
+    go AsRecorded = are
+    go Best = first_places-kept abi tree records places are
