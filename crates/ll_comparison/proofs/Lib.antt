@@ -1,4 +1,1 @@
-pub mod Folds
-pub mod Texts
-pub mod Writing
-pub mod Answering
+pub mod Answered

@@ -1,9 +1,8 @@
--- A comparison of two policies, as a line of JSON says it: which objects are files, and the layers of both. Rules are on
--- objects and ports by their numbers; what several rules grant on one number is granted there together.
+-- A comparison of two policies, as a line of JSON says it: which objects are files, what each is in, how many ports are
+-- numbered, and the layers of both. Rules are on objects and ports by their numbers; what several rules grant on one number is granted there together.
 -- Source: docs/RULES.md; landlock(7), "Landlock rules".
-use Rattle.std.specs.Prelude.{ℕ, Bool, true, nat_lt, nat_le, List, [], ◌∷◌, ◌++◌, length, map, replicate, codes, option_and_then, ok_or, Result, Ok, Err, slice_set, slice_index_or, if◌then◌else◌}
-use Rattle.serde_json.specs.Data.{Data, Items, no_items, item}
-use Rattle.serde_json.specs.Find.{as_bool, as_number, as_u64}
+use Rattle.std.specs.Prelude.{ℕ, ◌+◌, Bool, true, nat_le, List, [], ◌∷◌, ◌++◌, length, map, replicate, codes, Result, Ok, Err, slice_set, slice_index_or, if◌then◌else◌}
+use Rattle.serde_json.specs.Data.{Data}
 use Rattle.ll_rights.specs.declared.fs.Fs.{Fs}
 use Rattle.ll_rights.specs.declared.net.Net.{Net}
 use Rattle.ll_rights.specs.Rights as files
@@ -12,6 +11,7 @@ use Rattle.ll_lines.specs.declared.fault.Cause.{Cause}
 use Rattle.ll_lines.specs.declared.fault.Cause.TheVariants.{Field}
 use Rattle.ll_lines.specs.Members.{value_at, number_at, flag_at, items_at, ◌>>=◌}
 use Rattle.ll_members.specs.Rights.{fs_at, net_at}
+use Rattle.ll_values.specs.Lists.{fold_items, list_at, place_in, truth_in}
 use Rattle.ll_policy.specs.declared.layer.Layer.{Layer}
 use Rattle.ll_comparison.specs.declared.comparison.TheConstants.{MOST_PORTS}
 use Rattle.ll_comparison.specs.declared.comparison.Comparison.{Comparison as Compared}
@@ -27,37 +27,12 @@ pub record LayerSeen : Type 0 where
 
 pub record Comparison : Type 0 where
   pub files : List Bool
+  pub parents : List ℕ
+  pub ports : ℕ
   pub old : List LayerSeen
   pub new : List LayerSeen
 
--- ---- the values of a list, one after another
-
--- each value taken in after those before it
-unfoldable pub fold_items : {Whole : Type 0} → (Whole → Data → Result Whole Cause) → Whole → Items → Result Whole Cause
-fold_items add whole no_items = Ok whole
-fold_items add whole (item value others) = do
-  more ← add whole value
-  fold_items add more others
-
--- one more behind those before it
-unfoldable pub one_more : {X : Type 0} → (Data → Result X Cause) → List X → Data → Result (List X) Cause
-one_more read earlier value = do
-  x ← read value
-  Ok (earlier ++ x ∷ [])
-
--- the values of a member that is a list, each read by itself
-abbrev pub list_at : {X : Type 0} → List ℕ → (Data → Result X Cause) → Data → Result (List X) Cause
-list_at name read value = do
-  items ← items_at name value
-  fold_items (one_more read) [] items
-
 -- ---- rules
-
--- a number in a list, below a bound
-unfoldable pub place_in : ℕ → Data → Result ℕ Cause
-place_in bound value = do
-  number ← ok_or (option_and_then as_u64 (as_number value)) Field
-  if nat_lt number bound then Ok number else Err Field
 
 -- some rights more on the object of a number
 unfoldable pub with_files_on : Fs → List Fs → Data → Result (List Fs) Cause
@@ -128,14 +103,23 @@ layers_at name objects ports value = list_at name (layer_in objects ports) value
 
 -- ---- the comparison
 
-unfoldable pub truth_in : Data → Result Bool Cause
-truth_in value = ok_or (as_bool value) Field
-
 -- which objects are files; object 0 is the root, a directory
 unfoldable pub files_at : Data → Result (List Bool) Cause
 files_at value = do
   files ← list_at (codes "files") truth_in value
   if slice_index_or files 0 true then Err Field else Ok files
+
+-- what one object more is in, which comes before it
+unfoldable pub with_parent : List ℕ → Data → Result (List ℕ) Cause
+with_parent parents value = do
+  parent ← place_in (length parents + 1) value
+  Ok (parents ++ parent ∷ [])
+
+-- what each object after the root is in
+unfoldable pub parents_at : Data → Result (List ℕ) Cause
+parents_at value = do
+  items ← items_at (codes "parents") value
+  fold_items with_parent [] items
 
 -- how many ports are numbered
 unfoldable pub port_count_at : Data → Result ℕ Cause
@@ -146,10 +130,11 @@ port_count_at value = do
 unfoldable pub comparison_in : Data → Result Comparison Cause
 comparison_in value = do
   files ← files_at value
+  parents ← parents_at value
   ports ← port_count_at value
   old ← layers_at (codes "old") (length files) ports value
   new ← layers_at (codes "new") (length files) ports value
-  Ok (record { files = files; old = old; new = new })
+  Ok (record { files = files; parents = parents; ports = ports; old = old; new = new })
 
 -- the comparison on a line
 unfoldable pub comparison_on : List ℕ → Result Comparison Cause
@@ -170,4 +155,10 @@ seen layer = record {
 }
 
 abbrev pub all_seen : Compared → Comparison
-all_seen comparison = record { files = comparison.files.items; old = map seen comparison.old.items; new = map seen comparison.new.items }
+all_seen comparison = record {
+  files = comparison.files.items;
+  parents = comparison.parents.items;
+  ports = comparison.ports;
+  old = map seen comparison.old.items;
+  new = map seen comparison.new.items;
+}

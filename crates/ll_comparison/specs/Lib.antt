@@ -2,4 +2,3 @@ pub mod Comparisons
 pub mod Findings
 pub mod Texts
 pub mod Answers
-pub mod Programs

@@ -1,14 +1,13 @@
 //! The answers to the comparisons on the lines of a file.
 
-ghost use Rattle.std.specs.Prelude.{◌≡◌, ◌≢◌, ◌++◌, ◌∷◌, [], ℕ, List, IfOk, IfErr, OnOk};
-ghost use Rattle.json.specs.Print.{print};
-ghost use Rattle.json.specs.Tree.{json_tokens};
+ghost use Rattle.std.specs.Prelude.{◌≡◌, ◌≢◌, ◌++◌, ℕ, List, IfOk, IfErr, OnOk};
 ghost use Rattle.ll_lines.specs.declared.fault.Cause.TheVariants.{Memory as NoMemoryLeft};
 ghost use Rattle.ll_lines.specs.Lines.{Line};
 ghost use Rattle.ll_lines.specs.LineByLine.{line_view};
 ghost use Rattle.ll_lines.specs.Readers.{Fails};
 ghost use Rattle.ll_lines.specs.Reading.{IsBad};
-ghost use Rattle.ll_comparison.specs.Answers.{AreAnswers, IsAnswer, IsAnswerBehind, comparison_format};
+ghost use Rattle.ll_values.specs.Texts.{line_of};
+ghost use Rattle.ll_comparison.specs.Answers.{AreAnswers, IsAnswer, comparison_format};
 ghost use Rattle.ll_comparison.specs.Comparisons.{comparison_on};
 ghost use Rattle.ll_comparison.specs.Texts.{found_json};
 
@@ -22,8 +21,7 @@ use std::alloc::{AllocError, Global};
 
 /// What is found, as a line of JSON.
 fn line_of(alloc: Global, found: &Found) -> Result<Vec<u8>, AllocError>
-    ensures { IfOk result (λ line. line.items
-        ≡ print (json_tokens (found_json found.now)) ++ 10 ∷ []) }
+    ensures { IfOk result (λ line. line.items ≡ line_of (found_json found.now)) }
 {
     let mut out = Writer::new(Vec::new(alloc));
     found.write(&mut out)?;
@@ -45,7 +43,8 @@ fn answer(alloc: Global, line: &FileLine<'_>) -> Result<Vec<u8>, Cause>
 /// Puts the answer to the comparison on a line behind those before it.
 fn take_answer(alloc: Global, line: &FileLine<'_>, text: &mut Vec<u8>) -> Result<(), Cause>
     ensures answer { OnOk result
-        (IsAnswerBehind (line_view line.now) text.old.items text.new.items) }
+        ((own : List ℕ) × (text.new.items ≡ text.old.items ++ own)
+        × IsAnswer (line_view line.now) own) }
     ensures fault { IfErr result (λ cause. Fails cause (comparison_on line.now.bytes.now)) }
 {
     let own = answer(alloc, line)?;
@@ -56,7 +55,7 @@ fn take_answer(alloc: Global, line: &FileLine<'_>, text: &mut Vec<u8>) -> Result
 /// Compares the two policies on each line that isn't blank, and answers each with a line. A file with a line that does
 /// not read gets no answers, but the number of the first such line and its first fault. If memory runs out, the line
 /// is the one that was at hand.
-#[tactic(auto, using(crate::proofs::Answering::answered_all))]
+#[tactic(auto, using(crate::proofs::Answered::answered_all))]
 pub fn compare_lines(alloc: Global, bytes: &[u8]) -> Result<Vec<u8>, ReadFault>
     ensures answers { IfOk result (λ text. AreAnswers bytes.now text.items) }
     ensures fault { IfErr result (λ fault. fault.cause ≢ NoMemoryLeft

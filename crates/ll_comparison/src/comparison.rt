@@ -4,12 +4,15 @@ ghost use Rattle.std.specs.Prelude.{◌≡◌, IfOk, length, map, false, []};
 ghost use Rattle.serde_json.specs.View.{view, items_view};
 ghost use Rattle.ll_lines.specs.Readers.{Gives, Reads};
 ghost use Rattle.ll_policy.specs.Places.{is_file_in};
-ghost use Rattle.ll_comparison.specs.Comparisons.{fold_items, one_more, truth_in, scopes_in, files_at, port_count_at, layer_in, layers_at, comparison_in, comparison_on, seen, all_seen};
+ghost use Rattle.ll_values.specs.Lists.{fold_items, one_more, truth_in};
+ghost use Rattle.ll_comparison.specs.Comparisons.{scopes_in, files_at, with_parent, parents_at, port_count_at, layer_in, layers_at, comparison_in, comparison_on, seen, all_seen};
 
-use crate::members::{flag_of, fs_of, items_of, net_of, number_of, truth_in_list, value_of};
 use crate::rules::{granted_on_objects, granted_on_ports};
 use ll_lines::Cause;
 use ll_policy::Layer;
+use ll_values::{
+    flag_of, fs_of, items_of, net_of, number_of, place_in_list, truth_in_list, value_of,
+};
 use serde_json::Value;
 use std::alloc::Global;
 
@@ -21,6 +24,10 @@ pub const MOST_PORTS: u64 = 65_536;
 pub struct Comparison {
     /// Which objects are files, by their numbers. Object 0 is the root.
     pub files: Vec<bool>,
+    /// What each object after the root is in, which comes before it.
+    pub parents: Vec<usize>,
+    /// How many ports are numbered.
+    pub ports: usize,
     /// The layers of the policy that is compared with.
     pub old: Vec<Layer>,
     /// The layers of the policy that may let more pass.
@@ -28,7 +35,7 @@ pub struct Comparison {
 }
 
 /// Takes in true or false.
-#[tactic(auto, unfolding(crate::specs::Comparisons::one_more))]
+#[tactic(auto, unfolding(ll_values::specs::Lists::one_more))]
 fn take_truth(truths: &mut Vec<bool>, value: &Value) -> Result<(), Cause>
     ensures { Gives (λ _. truths.new.items) result
         (one_more truth_in truths.old.items (view value.now)) }
@@ -39,7 +46,7 @@ fn take_truth(truths: &mut Vec<bool>, value: &Value) -> Result<(), Cause>
 }
 
 /// True or false, once for each value of a list.
-#[tactic(auto, using(crate::proofs::Folds::fold_fault, crate::proofs::Folds::fold_end))]
+#[tactic(auto, using(ll_values::proofs::Folds::fold_fault, ll_values::proofs::Folds::fold_end))]
 fn truths_in(alloc: Global, values: &[Value]) -> Result<Vec<bool>, Cause>
     ensures { Gives (λ truths. truths.items) result
         (fold_items (one_more truth_in) [] (items_view values.now)) }
@@ -63,6 +70,39 @@ fn files_of(alloc: Global, value: &Value) -> Result<Vec<bool>, Cause>
         return Err(Cause::Field);
     }
     Ok(files)
+}
+
+/// Takes in what one object more is in.
+#[tactic(auto, unfolding(crate::specs::Comparisons::with_parent))]
+fn take_parent(parents: &mut Vec<usize>, value: &Value) -> Result<(), Cause>
+    ensures { Gives (λ _. parents.new.items) result
+        (with_parent parents.old.items (view value.now)) }
+{
+    let parent = place_in_list(parents.len() + 1, value)?;
+    parents.push(parent)?;
+    Ok(())
+}
+
+/// What each object is in, of a list.
+#[tactic(auto, using(ll_values::proofs::Folds::fold_fault, ll_values::proofs::Folds::fold_end))]
+fn parents_in(alloc: Global, values: &[Value]) -> Result<Vec<usize>, Cause>
+    ensures { Gives (λ parents. parents.items) result
+        (fold_items with_parent [] (items_view values.now)) }
+{
+    let mut parents = Vec::new(alloc);
+    for value in values {
+        take_parent(&mut parents, value)?;
+    }
+    Ok(parents)
+}
+
+/// What each object after the root is in.
+#[tactic(auto, unfolding(crate::specs::Comparisons::parents_at))]
+fn parents_of(alloc: Global, value: &Value) -> Result<Vec<usize>, Cause>
+    ensures { Gives (λ parents. parents.items) result (parents_at (view value.now)) }
+{
+    let values = items_of(value, "parents")?;
+    parents_in(alloc, values)
 }
 
 /// How many ports are numbered.
@@ -108,7 +148,7 @@ fn layer_of(alloc: Global, objects: usize, ports: usize, value: &Value) -> Resul
 }
 
 /// Takes in a layer.
-#[tactic(auto, unfolding(crate::specs::Comparisons::one_more))]
+#[tactic(auto, unfolding(ll_values::specs::Lists::one_more))]
 fn take_layer(
     alloc: Global,
     layers: &mut Vec<Layer>,
@@ -125,7 +165,7 @@ fn take_layer(
 }
 
 /// A layer for each value of a list.
-#[tactic(auto, using(crate::proofs::Folds::fold_fault, crate::proofs::Folds::fold_end))]
+#[tactic(auto, using(ll_values::proofs::Folds::fold_fault, ll_values::proofs::Folds::fold_end))]
 fn layers_in(
     alloc: Global,
     objects: usize,
@@ -165,10 +205,17 @@ fn comparison_of(alloc: Global, value: &Value) -> Result<Comparison, Cause>
     ensures root { IfOk result (λ comparison. is_file_in comparison.files.items 0 ≡ false) }
 {
     let files = files_of(alloc, value)?;
+    let parents = parents_of(alloc, value)?;
     let ports = port_count_of(value)?;
     let old = layers_of(alloc, "old", files.len(), ports, value)?;
     let new = layers_of(alloc, "new", files.len(), ports, value)?;
-    Ok(Comparison { files, old, new })
+    Ok(Comparison {
+        files,
+        parents,
+        ports,
+        old,
+        new,
+    })
 }
 
 impl Comparison {

@@ -6,15 +6,17 @@ ghost use Rattle.ll_comparison.specs.Findings.{AreLost, IsFound};
 
 use crate::comparison::Comparison;
 use ll_policy::{
-    Gain, Layer, Restriction, lost, more_gains, more_on_objects, more_on_ports,
-    more_on_single_objects, spare_layers,
+    Gain, Layer, Passing, Restriction, lost, more_gains, more_on_objects, more_on_single_objects,
+    passing_on_objects, passing_on_ports, spare_layers,
 };
 use std::alloc::{AllocError, Global};
 
-/// What the new policy of a comparison lets pass and the old one doesn't. Layers are those of the old policy, by their
-/// indices.
+/// Where both policies of a comparison let what pass, and what the new one does and the old one doesn't wherever objects
+/// are moved. Layers are those of the old policy, by their indices.
 #[derive(Drop)]
 pub struct Found {
+    /// For each right for files, the regions in which it passes, by their objects.
+    pub regions: Vec<Passing>,
     /// For each right for files and each old layer, objects by which new layers let it pass, if there are such.
     pub objects: Vec<Vec<Option<Vec<usize>>>>,
     /// For each right for files and each old layer, the objects by each of which alone, and the root, new layers let it
@@ -22,8 +24,8 @@ pub struct Found {
     pub single: Vec<Vec<Vec<usize>>>,
     /// For each right for files and each old layer, what gains the right in it and in no new layer.
     pub gains: Vec<Vec<Option<Gain>>>,
-    /// For each right for ports and each old layer, a port that new layers let pass, or none for all without a rule.
-    pub ports: Vec<Vec<Option<Vec<usize>>>>,
+    /// For each right for ports, the ports on which it passes.
+    pub ports: Vec<Passing>,
     /// The restrictions that are lost.
     pub lost: Lost,
     /// How many layers more a process can stack.
@@ -49,17 +51,25 @@ fn all_lost(old: &[Layer], new: &[Layer]) -> Lost
     }
 }
 
-/// What the new policy of a comparison lets pass and the old one doesn't.
+/// What both policies of a comparison let pass.
 pub fn compare(alloc: Global, comparison: &Comparison) -> Result<Found, AllocError>
     requires { is_file_in comparison.now.files.items 0 ≡ false }
     ensures { IfOk result (IsFound comparison.now) }
 {
-    let Comparison { files, old, new } = comparison;
+    let Comparison {
+        files,
+        parents,
+        ports,
+        old,
+        new,
+    } = comparison;
+    let regions = passing_on_objects(alloc, parents, old, new)?;
     let objects = more_on_objects(alloc, files, old, new)?;
     let single = more_on_single_objects(alloc, files.len(), old, new)?;
     let gains = more_gains(alloc, files, old, new)?;
-    let ports = more_on_ports(alloc, old, new)?;
+    let ports = passing_on_ports(alloc, *ports, old, new)?;
     Ok(Found {
+        regions,
         objects,
         single,
         gains,

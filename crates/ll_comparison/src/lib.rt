@@ -4,7 +4,6 @@
 mod answers;
 mod comparison;
 mod found;
-mod members;
 mod program;
 mod rules;
 mod told;
@@ -12,4 +11,4 @@ mod told;
 pub use answers::compare_lines;
 pub use comparison::{Comparison, MOST_PORTS};
 pub use found::{Found, Lost, compare};
-pub use program::{Request, VERSION, request_of, write_answers};
+pub use program::write_answers;

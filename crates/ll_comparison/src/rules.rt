@@ -5,11 +5,12 @@ ghost use Rattle.serde_json.specs.View.{view, items_view};
 ghost use Rattle.ll_lines.specs.Readers.{Gives, Reads};
 ghost use Rattle.ll_rights.specs.Rights as for_files;
 ghost use Rattle.ll_rights.specs.NetRights as for_ports;
-ghost use Rattle.ll_comparison.specs.Comparisons.{fold_items, with_files_on, with_object_rule, on_objects_at, with_network_on, with_port_rule, on_ports_at};
+ghost use Rattle.ll_values.specs.Lists.{fold_items};
+ghost use Rattle.ll_comparison.specs.Comparisons.{with_files_on, with_object_rule, on_objects_at, with_network_on, with_port_rule, on_ports_at};
 
-use crate::members::{fs_of, items_of, net_of, place_in_list};
 use ll_lines::Cause;
 use ll_rights::{Fs, Net};
+use ll_values::{fs_of, items_of, net_of, place_in_list};
 use serde_json::Value;
 use std::alloc::Global;
 
@@ -24,7 +25,7 @@ fn grant_on_object(sets: &mut [Fs], rights: Fs, object: &Value) -> Result<(), Ca
 }
 
 /// Grants some rights more on each of some objects.
-#[tactic(auto, using(crate::proofs::Folds::fold_fault, crate::proofs::Folds::fold_end))]
+#[tactic(auto, using(ll_values::proofs::Folds::fold_fault, ll_values::proofs::Folds::fold_end))]
 fn grant_on_objects(sets: &mut [Fs], rights: Fs, objects: &[Value]) -> Result<(), Cause>
     ensures { Reads (λ _. sets.new) result
         (fold_items (with_files_on rights) sets.old (items_view objects.now)) }
@@ -46,7 +47,7 @@ fn take_object_rule(sets: &mut [Fs], rule: &Value) -> Result<(), Cause>
 }
 
 /// Grants what each of some rules grants.
-#[tactic(auto, using(crate::proofs::Folds::fold_fault, crate::proofs::Folds::fold_end))]
+#[tactic(auto, using(ll_values::proofs::Folds::fold_fault, ll_values::proofs::Folds::fold_end))]
 fn take_object_rules(sets: &mut [Fs], rules: &[Value]) -> Result<(), Cause>
     ensures { Reads (λ _. sets.new) result
         (fold_items with_object_rule sets.old (items_view rules.now)) }
@@ -83,7 +84,7 @@ fn grant_on_port(sets: &mut [Net], rights: Net, port: &Value) -> Result<(), Caus
 }
 
 /// Grants some rights more on each of some ports.
-#[tactic(auto, using(crate::proofs::Folds::fold_fault, crate::proofs::Folds::fold_end))]
+#[tactic(auto, using(ll_values::proofs::Folds::fold_fault, ll_values::proofs::Folds::fold_end))]
 fn grant_on_ports(sets: &mut [Net], rights: Net, ports: &[Value]) -> Result<(), Cause>
     ensures { Reads (λ _. sets.new) result
         (fold_items (with_network_on rights) sets.old (items_view ports.now)) }
@@ -105,7 +106,7 @@ fn take_port_rule(sets: &mut [Net], rule: &Value) -> Result<(), Cause>
 }
 
 /// Grants what each of some rules grants.
-#[tactic(auto, using(crate::proofs::Folds::fold_fault, crate::proofs::Folds::fold_end))]
+#[tactic(auto, using(ll_values::proofs::Folds::fold_fault, ll_values::proofs::Folds::fold_end))]
 fn take_port_rules(sets: &mut [Net], rules: &[Value]) -> Result<(), Cause>
     ensures { Reads (λ _. sets.new) result
         (fold_items with_port_rule sets.old (items_view rules.now)) }

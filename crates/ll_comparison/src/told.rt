@@ -3,11 +3,12 @@
 ghost use Rattle.std.specs.Prelude.{◌≡◌, ◌∷◌, ◌++◌, OnOk, map};
 ghost use Rattle.json.specs.Token as token;
 ghost use Rattle.json.specs.Tree.{json_tokens, items_tokens};
-ghost use Rattle.ll_comparison.specs.Texts.{items_of, whole_json, option_json, list_json, gain_json, lost_json, found_json};
+ghost use Rattle.ll_values.specs.Texts.{items_of, whole_json, option_json, list_json};
+ghost use Rattle.ll_comparison.specs.Texts.{gain_json, passing_json, lost_json, found_json};
 
 use crate::found::{Found, Lost};
 use json::Writer;
-use ll_policy::Gain;
+use ll_policy::{Gain, Passing};
 use std::alloc::AllocError;
 
 /// What is written as JSON.
@@ -87,6 +88,18 @@ impl Told for Gain {
     }
 }
 
+impl Told for Passing {
+    ghost json = { passing_json };
+
+    fn write(&self, out: &mut Writer) -> Result<(), AllocError> {
+        out.begin_object()?;
+        write_member(out, "both", &self.both)?;
+        write_member(out, "new", &self.new)?;
+        write_member(out, "old", &self.old)?;
+        out.end_object()
+    }
+}
+
 impl Told for Lost {
     ghost json = { lost_json };
 
@@ -104,6 +117,7 @@ impl Told for Found {
 
     fn write(&self, out: &mut Writer) -> Result<(), AllocError> {
         out.begin_object()?;
+        write_member(out, "regions", &self.regions)?;
         write_member(out, "objects", &self.objects)?;
         write_member(out, "single", &self.single)?;
         write_member(out, "gains", &self.gains)?;

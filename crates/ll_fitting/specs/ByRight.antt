@@ -1,5 +1,5 @@
 -- The rights of a rule, right by right.
--- Source: docs/FORMATS.md, "The policy file"; landlock(7), "Filesystem actions".
+-- Source: docs/POLICIES.md; landlock(7), "Filesystem actions".
 use Rattle.std.specs.Prelude.{Bool, ◌&&◌, ◌||◌}
 use Rattle.ll_rights.specs.declared.abi.Abi.{Abi}
 use Rattle.ll_rights.specs.Abis.{knows_fs, knows_net}

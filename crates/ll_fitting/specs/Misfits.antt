@@ -1,5 +1,5 @@
 -- What is wrong with the layers of a policy, so that the kernel could not make of them what they say.
--- Source: landlock_create_ruleset(2), landlock_add_rule(2), landlock_restrict_self(2), "ERRORS"; docs/FORMATS.md, "The policy file".
+-- Source: landlock_create_ruleset(2), landlock_add_rule(2), landlock_restrict_self(2), "ERRORS"; docs/POLICIES.md.
 use Rattle.std.specs.Prelude.{ℕ, Bool, not, ◌&&◌, ◌||◌, nat_lt, List, [], ◌∷◌, length, ◌==◌, Option, Some, None, option_map, if◌then◌else◌}
 use Rattle.std.specs.List.{enumerate_from}
 use Rattle.std.specs.Option.{option_or}

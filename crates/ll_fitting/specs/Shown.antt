@@ -1,5 +1,5 @@
 -- Layers that are left of a policy, as the program has them.
--- Source: docs/ARCHITECTURE.md, "ll_fitting".
+-- Source: the code's own.
 use Rattle.ll_fitting.specs.Fitting.{Fitted}
 use Rattle.ll_fitting.specs.declared.fitting.FittedLayer.{FittedLayer}
 

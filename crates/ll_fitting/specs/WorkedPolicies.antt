@@ -1,5 +1,5 @@
 -- Small policies, and what versions of the interface leave of them.
--- Source: docs/FORMATS.md, "The policy file", and the policy of README.md.
+-- Source: docs/POLICIES.md, and the policy of README.md.
 use Rattle.std.specs.Prelude.{ℕ, List, [], ◌∷◌, true, false}
 use Rattle.ll_rights.specs.declared.kind.Kind.TheVariants.{Dir, Reg}
 use Rattle.ll_rights.specs.Rights.{FsRight, execute, write_file, read_file, read_dir, remove_dir, remove_file, make_char, make_dir, make_reg, make_sock, make_fifo}

@@ -1,5 +1,5 @@
 -- A policy as its author writes it: layers, each with what it handles and its rules.
--- Source: landlock_create_ruleset(2), landlock_add_rule(2); docs/FORMATS.md, "The policy file".
+-- Source: landlock_create_ruleset(2), landlock_add_rule(2); docs/POLICIES.md.
 use Rattle.std.specs.Prelude.{List, bit_and, filter}
 use Rattle.ll_rights.specs.declared.fs.Fs.{Fs}
 use Rattle.ll_rights.specs.declared.net.Net.{Net}

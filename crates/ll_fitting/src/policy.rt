@@ -1,6 +1,6 @@
 //! Policies: layers of which the kernel can make what they say.
 
-ghost use Rattle.std.specs.Prelude.{◌≡◌, false, map, Some, None, Ok, Err, IfOk, MatchOption};
+ghost use Rattle.std.specs.Prelude.{◌≡◌, false, map, Some, None, IfOk, IfErr};
 ghost use Rattle.ll_rights.specs.Rights as files;
 ghost use Rattle.ll_rights.specs.NetRights as network;
 ghost use Rattle.ll_fitting.specs.Written.{written, listed, listed_on_ports};
@@ -222,9 +222,9 @@ impl Model for Policy {
 impl Policy {
     /// The policy of layers, or the first thing that is wrong with them.
     pub fn new(layers: Vec<Layer>) -> Result<Policy, Misfit>
-        ensures { MatchOption (misfits.misfit (map written layers.items))
-            (IfOk result (λ policy. policy ≡ map written layers.items))
-            (λ misfit. result ≡ Err misfit) }
+        ensures policy { IfOk result (λ policy. policy ≡ map written layers.items) }
+        ensures misfit { IfErr result (λ wrong.
+            misfits.misfit (map written layers.items) ≡ Some wrong) }
     {
         if let Some(misfit) = misfit_of(&layers) {
             return Err(misfit);

@@ -4,9 +4,10 @@ use Rattle.std.specs.Prelude.{Option, Some, None, All}
 use Rattle.std.specs.List.{Contains, filter, list_any, list_all, range_with_len}
 use Rattle.std.proofs.lemmas.Bool.{cases_Bool, and_parts, and_from, eqb-true, false≢true}
 use Rattle.std.proofs.lemmas.Option.{none-some}
-use Rattle.std.proofs.lemmas.List.Elements.{All-contains, Contains-append_cases, Contains-append_right}
+use Rattle.std.proofs.lemmas.List.Elements.{All-contains, Contains-append_cases, Contains-append_left, Contains-append_right}
 use Rattle.ll_policy.specs.Chains.{Granting, is_among, IsChain, lets, some_among, passes, NothingMoreThan, IsExcess, AreDirectories}
-use Rattle.ll_policy.specs.Choices.{are_within, is_narrow, narrow_ones, some_grants, all_grant, is_open, open_file, counts, is_extra, AreBelow, IsChainOfExtra}
+use Rattle.ll_policy.specs.Choices.{are_within, is_narrow, narrow_ones, some_grants, all_grant, is_open, open_file, counts, is_extra}
+use Rattle.ll_policy.specs.Choices.{is_further, AreBelow, IsChainOfExtra}
 use Rattle.ll_policy.proofs.Lists.{some_passes, that_passes, each_passes, passes_among, that_fails, filtered}
 use Rattle.ll_policy.proofs.Lists.{filter_test, kept_within, found_passes, none_passes, in_range, contains_first, here}
 
@@ -301,9 +302,9 @@ module _ (is_file : ℕ → Bool) where
 
   chain-missing : (always : List ℕ) (file : Option ℕ) (old : Granting) (new : List Granting) (chain : List ℕ) → AreDirectories is_file always
       → lets always old ≡ false → IsChainOfExtra is_file always file old new chain → (object : ℕ) → Contains chain object → Missing file old object
-  unfolding some_among is_extra
+  unfolding some_among is_extra is_further
   chain-missing always file old new chain directories stopped of object within =
-      elim (Contains-append_cases always (filter (is_extra is_file file old new) (range_with_len 0 of.bound)) object
+      elim (Contains-append_cases always (filter (is_further is_file always file old new) (range_with_len 0 of.bound)) object
       (subst (λ (objects : List ℕ). Contains objects object) of.objects within)) [
         | inl first ↦ record {
           counted = directory-counts file object (All-contains (λ (x : ℕ). is_file x ≡ false) always object directories first);
@@ -314,8 +315,9 @@ module _ (is_file : ℕ → Bool) where
           ];
         }
         | inr after ↦
-            let parts = and_parts (counts is_file file object) (not (is_among object old.grants) && some_grants new object)
-            (filter_test (is_extra is_file file old new) (range_with_len 0 of.bound) object after) in
+            let extra = and_parts (is_extra is_file file old new object) (not (is_among object always))
+            (filter_test (is_further is_file always file old new) (range_with_len 0 of.bound) object after) in
+            let parts = and_parts (counts is_file file object) (not (is_among object old.grants) && some_grants new object) extra.0 in
             let two = and_parts (not (is_among object old.grants)) (some_grants new object) parts.1 in
             record { counted = parts.0; ungranted = not_true (is_among object old.grants) two.0 }
       ]
@@ -323,17 +325,23 @@ module _ (is_file : ℕ → Bool) where
   chain-extra : (always : List ℕ) (file : Option ℕ) (old : Granting) (new : List Granting) (chain : List ℕ)
       → IsChainOfExtra is_file always file old new chain → (layer : Granting) → Contains new layer → (object : ℕ) → Contains layer.grants object
       → counts is_file file object ≡ true → is_among object old.grants ≡ false → Contains chain object
-  unfolding is_extra some_grants AreBelow
+  unfolding is_extra is_further some_grants AreBelow
   chain-extra always file old new chain of layer inside object within counted ungranted =
+      let further = is_further is_file always file old new in
       subst (λ (objects : List ℕ). Contains objects object) (sym of.objects)
-      (Contains-append_right always (filter (is_extra is_file file old new) (range_with_len 0 of.bound)) object
-      (filtered (is_extra is_file file old new) (range_with_len 0 of.bound) object
-      (in_range of.bound object
-      (All-contains (λ (own : ℕ). own < of.bound) layer.grants object
-      (All-contains (λ (own : Granting). All (λ (x : ℕ). x < of.bound) own.grants) new layer of.below inside) within))
-      (and_from (counts is_file file object) (not (is_among object old.grants) && some_grants new object) counted
-      (and_from (not (is_among object old.grants)) (some_grants new object) (not_false (is_among object old.grants) ungranted)
-      (some_passes (λ (own : Granting). is_among object own.grants) new layer inside (contains-among object layer.grants within))))))
+      (elim (cases_Bool (is_among object always)) [
+        | inl first ↦ Contains-append_left always (filter further (range_with_len 0 of.bound)) object (among-contains object always first)
+        | inr after ↦ Contains-append_right always (filter further (range_with_len 0 of.bound)) object
+            (filtered further (range_with_len 0 of.bound) object
+            (in_range of.bound object
+            (All-contains (λ (own : ℕ). own < of.bound) layer.grants object
+            (All-contains (λ (own : Granting). All (λ (x : ℕ). x < of.bound) own.grants) new layer of.below inside) within))
+            (and_from (is_extra is_file file old new object) (not (is_among object always))
+            (and_from (counts is_file file object) (not (is_among object old.grants) && some_grants new object) counted
+            (and_from (not (is_among object old.grants)) (some_grants new object) (not_false (is_among object old.grants) ungranted)
+            (some_passes (λ (own : Granting). is_among object own.grants) new layer inside (contains-among object layer.grants within))))
+            (not_false (is_among object always) after)))
+      ])
 
   extra-lets : (always : List ℕ) (file : Option ℕ) (old : Granting) (new : List Granting) (chain : List ℕ)
       → IsChainOfExtra is_file always file old new chain → IsChoice old new file → (layer : Granting) → Contains new layer → lets chain layer ≡ true
@@ -361,7 +369,7 @@ module _ (is_file : ℕ → Bool) where
       record {
         is_chain = λ one other first other_one holds too. missing-same file old one other (missing one first) (missing other other_one) holds too;
         begins = λ k d within. subst (λ (objects : List ℕ). Contains objects (get_or always k d)) (sym of.objects)
-            (contains_first always (filter (is_extra is_file file old new) (range_with_len 0 of.bound)) k d within);
+            (contains_first always (filter (is_further is_file always file old new) (range_with_len 0 of.bound)) k d within);
         passes_new = each_passes (lets chain) new (extra-lets always file old new chain of (choice old new file is empty));
         kept_by_old = elim (cases_Bool (lets chain old)) [
           | inr fails ↦ fails

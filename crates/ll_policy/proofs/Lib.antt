@@ -6,6 +6,12 @@ pub mod Bridge
 pub mod Everywhere
 pub mod LawLemmas
 pub mod PortByPort
+pub mod Alike
+pub mod Spread
+pub mod RuledAlike
+pub mod RightByRight
+pub mod MovesAlike
+pub mod PassingMoves
 pub mod GainLemmas
 pub mod Nothing
 pub mod Apart

@@ -1,18 +1,17 @@
 -- Nothing is found exactly if new layers let nothing more pass, with each right.
-use Rattle.std.proofs.Common.{◌≡◌, ℕ, Bool, true, List, [], ◌∷◌, map, refl, get_or, lit<, Global, Vec}
+use Rattle.std.proofs.Common.{◌≡◌, ℕ, Bool, true, List, [], ◌∷◌, map, refl, get_or, Global, Vec}
 use Rattle.std.specs.Prelude.{◌↔◌, All, Option, Some, None, MatchOption}
 use Rattle.std.specs.List.{AllZip, Contains, list_all}
 use Rattle.std.specs.Option.{is_none}
 use Rattle.std.proofs.lemmas.Bool.{and_parts, and_from, false≢true}
 use Rattle.std.proofs.lemmas.List.Elements.{All-contains, All-cons, All-head, All-tail, All-nil}
 use Rattle.ll_rights.specs.Rights as files
-use Rattle.ll_rights.specs.NetRights as network
 use Rattle.ll_rules.specs.Layers.{RulesOn}
 use Rattle.ll_policy.specs.declared.gaining.Gain.{Gain}
 use Rattle.ll_policy.specs.Chains.{Granting, IsExcess, NothingMoreThan, Tells}
-use Rattle.ll_policy.specs.Found.{TellsObjects, TellsGains, TellsPorts, is_nothing}
+use Rattle.ll_policy.specs.Found.{TellsObjects, TellsGains, is_nothing}
 use Rattle.ll_policy.specs.Gains.{IsGain, KeepsGains, AllKeepGains, TellsGain, granting_there}
-use Rattle.ll_policy.specs.Granted.{granting, granting_on_ports, root, is_port, NothingMoreOnObjects, NothingMoreOnPorts}
+use Rattle.ll_policy.specs.Granted.{granting, root, NothingMoreOnObjects}
 use Rattle.ll_policy.proofs.Everywhere.{each_there}
 use Rattle.ll_policy.proofs.LawLemmas.{by_layers, excess_is_more}
 
@@ -58,11 +57,6 @@ both_ways first second = (λ p. second.0 (first.0 p), λ r. first.1 (second.1 r)
 back : {P Q : Type 0} → P ↔ Q → Q ↔ P
 back both = (both.1, both.0)
 
-each_net : (right : network.NetRight) → Contains network.all_rights right
-unfolding network.all_rights
-each_net network.bind_tcp = (0, lit< tt, refl)
-each_net right = (network.bit_of right, lit< tt, refl)
-
 -- a fact holds of each right where it holds of all in the table
 of_all : {R : Type 0} (Q : R → Type 0) (rights : List R) → ((right : R) → Contains rights right) → All Q rights ↔ ((right : R) → Q right)
 of_all Q rights there_is = (λ each right. All-contains Q rights right each (there_is right), λ each k d within. each (get_or rights k d))
@@ -88,17 +82,3 @@ nothing_gained is_file old new found each =
     (λ right. All (KeepsGains is_file (map (granting right) new)) (map (granting right) old)) files.all_rights found
     (λ right layers tells. gains is_file root (map (granting right) new) (map (granting right) old) layers.items tells) each)
     (of_all (λ right. All (KeepsGains is_file (map (granting right) new)) (map (granting right) old)) files.all_rights each_there)
-
-pub nothing_on_ports : (old new : List (RulesOn ℕ)) (found : List (Vec (Option (Vec ℕ Global)) Global))
-    → AllZip (TellsPorts old new) network.all_rights found → (is_nothing found ≡ true) ↔ NothingMoreOnPorts old new
-nothing_on_ports old new found each =
-    both_ways
-    (all_by (TellsPorts old new) (λ (layers : Vec (Option (Vec ℕ Global)) Global). list_all is_none layers.items)
-    (λ right. All (λ layer. NothingMoreThan is_port [] layer (map (granting_on_ports right) new)) (map (granting_on_ports right) old)) network.all_rights found
-    (λ right layers tells. chains is_port [] (map (granting_on_ports right) new) (map (granting_on_ports right) old) layers.items tells) each)
-    (both_ways
-    (of_all (λ right. All (λ layer. NothingMoreThan is_port [] layer (map (granting_on_ports right) new)) (map (granting_on_ports right) old))
-    network.all_rights each_net) (
-      λ all right. (by_layers is_port [] (map (granting_on_ports right) old) (map (granting_on_ports right) new)).1 (all right),
-      λ all right. (by_layers is_port [] (map (granting_on_ports right) old) (map (granting_on_ports right) new)).0 (all right),
-    ))

@@ -1,20 +1,19 @@
--- Chains of ports are single ports, and the empty chain is a port without a rule.
-use Rattle.std.proofs.Common.{◌≡◌, ℕ, zero, suc, ◌+◌, ◌<◌, Bool, true, false, not, ◌&&◌, ◌||◌, ◌==◌, List}
-use Rattle.std.proofs.Common.{[], ◌∷◌, ◌++◌, map, length, get_or, refl, sym, ap, ◌∙◌, subst, inl, inr, ◌⊎◌, arith}
-use Rattle.std.specs.Prelude.{◌↔◌, All, if◌then◌else◌}
-use Rattle.std.specs.List.{Contains, filter, flat_map}
-use Rattle.std.proofs.lemmas.Bool.{cases_Bool, and_parts, and_from, eqb-true}
-use Rattle.std.proofs.lemmas.List.Elements.{All-cons, All-nil, Contains-get_or}
+-- A right passes on a port where no layer refuses it.
+use Rattle.std.proofs.Common.{◌≡◌, ℕ, ◌+◌, Bool, true, false, not, ◌&&◌, ◌||◌, ◌==◌, List}
+use Rattle.std.proofs.Common.{[], ◌∷◌, ◌++◌, map, refl, sym, ap, ◌∙◌, subst, arith}
+use Rattle.std.specs.Prelude.{◌↔◌, if◌then◌else◌}
+use Rattle.std.specs.List.{filter}
+use Rattle.std.proofs.lemmas.Bool.{and_parts, and_from, eqb-true}
 use Rattle.ll_rights.specs.declared.net.Net.{Net}
 use Rattle.ll_rights.specs.NetRights.{NetRight, has, only, is_right, some_right, all_rights, bind_tcp}
 use Rattle.ll_rights.proofs.Sets.{net_has-only}
 use Rattle.ll_rules.specs.Layers.{RulesOn, granted_on_port}
 use Rattle.ll_rules.specs.Checks.{numbers_from, lacks_on_port, refusing_port}
 use Rattle.ll_rules.proofs.Booleans.{or_false, list_any-agree}
-use Rattle.ll_policy.specs.Chains.{Granting, is_among, IsChain, lets, some_among, passes}
-use Rattle.ll_policy.specs.Granted.{granting_on_ports, is_port, NothingMoreOnPorts}
-use Rattle.ll_policy.proofs.Lists.{here, some_passes, that_passes, each_passes, passes_among, filtered, filter_test, kept_within, in_flat_map}
-use Rattle.ll_policy.proofs.Exactly.{among-contains, contains-among, not_true, not_false, more_lets}
+use Rattle.ll_policy.specs.Chains.{is_among, lets, some_among, passes}
+use Rattle.ll_policy.specs.Granted.{granting_on_ports}
+use Rattle.ll_policy.proofs.Lists.{some_passes, that_passes, filtered, filter_test, kept_within}
+use Rattle.ll_policy.proofs.Exactly.{among-contains, contains-among, not_true, not_false}
 use Rattle.ll_policy.proofs.Bridge.{mapped_from, mapped_to, equal_tests, lets_or_lacks, and_assoc}
 use Rattle.ll_policy.proofs.Everywhere.{no_numbers}
 
@@ -89,83 +88,6 @@ refuses_none port right number (layer ∷ layers) =
           (first ∙ not_false (lacks_on_port layer port (only right)) parts.0) (rest.1 parts.1),
     )
 
--- ---- chains of ports
-
-first_at : (first : ℕ) (numbers : List ℕ) (number : ℕ) (k : ℕ) → k < length (first ∷ numbers) → get_or (first ∷ numbers) k number ≡ number
-    → (first ≡ number) ⊎ Contains numbers number
-first_at first numbers number zero within is = inl is
-first_at first numbers number (suc k) within is = inr (k, omega (arith, within), is)
-
-first_or : (first : ℕ) (numbers : List ℕ) (number : ℕ) → Contains (first ∷ numbers) number → (first ≡ number) ⊎ Contains numbers number
-first_or first numbers number within = first_at first numbers number within.0 within.1 within.2
-
-the_one : (port number : ℕ) → Contains (port ∷ []) number → number ≡ port
-the_one port number within = elim (first_or port [] number within) [ inl is ↦ sym is | inr none ↦ absurd (omega (arith, none.1)) ]
-
--- a number above all of a list
-above : (numbers : List ℕ) → (bound : ℕ) × ((number : ℕ) → Contains numbers number → number < bound)
-above [] = (0, λ number within. absurd (omega (arith, within.1)))
-above (first ∷ numbers) =
-    let rest = above numbers in (
-      suc (first + rest.0),
-      λ number within. elim (first_or first numbers number within) [
-        | inl is ↦ omega (arith, is)
-        | inr later ↦ let below = rest.1 number later in omega (arith, below)
-      ],
-    )
-
-more_passes : (part chain : List ℕ) (layers : List Granting) → All (Contains chain) part → passes layers part ≡ true → passes layers chain ≡ true
-unfolding passes
-more_passes part chain layers within passing =
-    each_passes (lets chain) layers
-    (λ layer inside. more_lets part chain layer within (passes_among (lets part) layers layer passing inside))
-
--- what lets a port without a rule pass lets the empty chain pass
-without_rule : (port : ℕ) (layers : List Granting) → ((layer : Granting) → Contains layers layer → is_among port layer.grants ≡ false)
-    → passes layers (port ∷ []) ≡ true → passes layers [] ≡ true
-unfolding passes lets some_among
-without_rule port layers none passing =
-    each_passes (lets []) layers
-    (λ layer inside.
-    ap (λ (b : Bool). not layer.handles || b) (sym (or_false (is_among port layer.grants) ∙ none layer inside))
-    ∙ passes_among (lets (port ∷ [])) layers layer passing inside)
-
-fresh : (layers : List Granting) → (port : ℕ) × ((layer : Granting) → Contains layers layer → is_among port layer.grants ≡ false)
-fresh layers =
-    let numbers = flat_map (λ (layer : Granting). layer.grants) layers in
-    let bound = above numbers in (
-      bound.0,
-      λ layer inside. elim (cases_Bool (is_among bound.0 layer.grants)) [
-        | inr gone ↦ gone
-        | inl among ↦
-            let below = bound.1 bound.0
-            (in_flat_map (λ (own : Granting). own.grants) layers layer bound.0 inside (among-contains bound.0 layer.grants among)) in
-            absurd (omega (arith, below))
-      ],
-    )
-
-on_each_chain : (old new : List Granting) → ((port : ℕ) → passes new (port ∷ []) ≡ true → passes old (port ∷ []) ≡ true)
-    → (chain : List ℕ) → IsChain is_port chain → passes new chain ≡ true → passes old chain ≡ true
-on_each_chain old new each [] is passing =
-    let port = fresh old in
-    without_rule port.0 old port.1 (each port.0 (more_passes [] (port.0 ∷ []) new (All-nil (Contains (port.0 ∷ []))) passing))
-on_each_chain old new each (first ∷ others) is passing =
-    let only_first : All (Contains (first ∷ [])) (first ∷ others) = λ k d within.
-    subst (λ (n : ℕ). Contains (first ∷ []) n)
-    (is first (get_or (first ∷ others) k d) (here first others) (Contains-get_or (first ∷ others) k d within) refl refl) (here first []) in
-    more_passes (first ∷ []) (first ∷ others) old (All-cons (Contains (first ∷ others)) first [] (here first others) (All-nil (Contains (first ∷ others))))
-    (each first (more_passes (first ∷ others) (first ∷ []) new only_first passing))
-
-single-is_chain : (port : ℕ) → IsChain is_port (port ∷ [])
-single-is_chain port one other first second is too = the_one port one first ∙ sym (the_one port other second)
-
-pub ports_one_by_one : (old new : List (RulesOn ℕ)) → NothingMoreOnPorts old new
-    ↔ ((right : NetRight) (port : ℕ) → refusing_port new port (only right) ≡ [] → refusing_port old port (only right) ≡ [])
-ports_one_by_one old new = (
-  λ nothing right port none.
-      (refuses_none port right 1 old).0
-      (nothing right (port ∷ []) (single-is_chain port) (All-nil (Contains (port ∷ []))) ((refuses_none port right 1 new).1 none)),
-  λ each right chain is begins passing.
-      on_each_chain (map (granting_on_ports right) old) (map (granting_on_ports right) new)
-      (λ port passing_new. (refuses_none port right 1 old).1 (each right port ((refuses_none port right 1 new).0 passing_new))) chain is passing,
-)
+pub refused_on_port : (layers : List (RulesOn ℕ)) (right : NetRight) (port : ℕ)
+    → (passes (map (granting_on_ports right) layers) (port ∷ []) ≡ true) ↔ (refusing_port layers port (only right) ≡ [])
+refused_on_port layers right port = refuses_none port right 1 layers

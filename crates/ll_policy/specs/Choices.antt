@@ -49,11 +49,15 @@ is_extra is_file file old new object = counts is_file file object && (not (is_am
 unfoldable pub AreBelow : ℕ → List Granting → Type 0
 AreBelow bound layers = All (λ layer. All (λ object. object < bound) layer.grants) layers
 
--- a chain of some objects and of all that is extra, by their rising numbers
+-- what is extra and none of some objects
+unfoldable pub is_further : (ℕ → Bool) → List ℕ → Option ℕ → Granting → List Granting → ℕ → Bool
+is_further is_file always file old new object = is_extra is_file file old new object && not (is_among object always)
+
+-- a chain of some objects and of all else that is extra, by their rising numbers
 pub record IsChainOfExtra (is_file : ℕ → Bool) (always : List ℕ) (file : Option ℕ) (old : Granting) (new : List Granting) (chain : List ℕ) : Type 0 where
   pub bound : ℕ
   pub below : AreBelow bound new
-  pub objects : chain ≡ always ++ filter (is_extra is_file file old new) (range_with_len 0 bound)
+  pub objects : chain ≡ always ++ filter (is_further is_file always file old new) (range_with_len 0 bound)
 
 -- ---- single objects
 

@@ -1,17 +1,16 @@
 -- What is found of two policies, for each right and each old layer.
--- Source: landlock(7), "Filesystem actions" and "Network flags".
-use Rattle.std.specs.Prelude.{◌≡◌, ℕ, Bool, List, [], map, Option, Vec}
+-- Source: landlock(7), "Filesystem actions".
+use Rattle.std.specs.Prelude.{◌≡◌, ℕ, Bool, List, map, Option, Vec}
 use Rattle.std.specs.List.{AllZip, list_all}
 use Rattle.std.specs.Option.{is_none}
 use Rattle.std.specs.Global.{Global}
 use Rattle.ll_rights.specs.Rights.{FsRight}
-use Rattle.ll_rights.specs.NetRights.{NetRight}
 use Rattle.ll_rules.specs.Layers.{RulesOn}
 use Rattle.ll_policy.specs.declared.gaining.Gain.{Gain}
 use Rattle.ll_policy.specs.Chains.{Granting, Tells}
 use Rattle.ll_policy.specs.Choices.{enough_of}
 use Rattle.ll_policy.specs.Gains.{TellsGain}
-use Rattle.ll_policy.specs.Granted.{granting, granting_on_ports, root, is_port}
+use Rattle.ll_policy.specs.Granted.{granting, root}
 
 -- what is found of a right for files: for each old layer nothing, or a chain
 abbrev pub TellsObjects : (ℕ → Bool) → List (RulesOn ℕ) → List (RulesOn ℕ) → FsRight → Vec (Option (Vec ℕ Global)) Global → Type 0
@@ -28,10 +27,6 @@ TellsSingleObjects count old new right found = AllZip (TellsSingle count (map (g
 -- what is found of a right for files when objects are moved: for each old layer nothing, or a gain
 abbrev pub TellsGains : (ℕ → Bool) → List (RulesOn ℕ) → List (RulesOn ℕ) → FsRight → Vec (Option Gain) Global → Type 0
 TellsGains is_file old new right found = AllZip (TellsGain is_file (map (granting right) new)) (map (granting right) old) found.items
-
--- what is found of a right for ports: for each old layer nothing, or a port, or no port, which stands for those without a rule
-abbrev pub TellsPorts : List (RulesOn ℕ) → List (RulesOn ℕ) → NetRight → Vec (Option (Vec ℕ Global)) Global → Type 0
-TellsPorts old new right found = AllZip (Tells is_port [] (map (granting_on_ports right) new)) (map (granting_on_ports right) old) found.items
 
 -- nothing is found of any right and any layer
 abbrev pub is_nothing : {X : Type 0} → List (Vec (Option X) Global) → Bool

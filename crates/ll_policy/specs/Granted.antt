@@ -7,7 +7,6 @@ use Rattle.ll_rights.specs.NetRights.{NetRight}
 use Rattle.ll_rights.specs.NetRights as network
 use Rattle.ll_rules.specs.Layers.{RulesOn, handles}
 use Rattle.ll_policy.specs.Chains.{Granting, NothingMore}
-use Rattle.ll_policy.specs.Places.{is_file_in}
 
 -- what a layer with rules on objects says of a right for files
 abbrev pub granting : FsRight → RulesOn ℕ → Granting
@@ -23,15 +22,6 @@ granting_on_ports right rules =
 abbrev pub root : List ℕ
 root = 0 ∷ []
 
--- a call names one port, as it names one file: each port counts as a file
-abbrev pub is_port : ℕ → Bool
-is_port = is_file_in []
-
 -- with each right for files, new layers let no more pass than old ones
 abbrev pub NothingMoreOnObjects : (ℕ → Bool) → List (RulesOn ℕ) → List (RulesOn ℕ) → Type 0
 NothingMoreOnObjects is_file old new = (right : FsRight) → NothingMore is_file root (map (granting right) old) (map (granting right) new)
-
--- the same of ports
-abbrev pub NothingMoreOnPorts : List (RulesOn ℕ) → List (RulesOn ℕ) → Type 0
-NothingMoreOnPorts old new =
-    (right : NetRight) → NothingMore is_port [] (map (granting_on_ports right) old) (map (granting_on_ports right) new)

@@ -6,4 +6,7 @@ pub mod Policies
 pub mod WaysUp
 pub mod Gains
 pub mod Found
+pub mod Regions
+pub mod AlikeMoves
+pub mod PassingMoves
 pub mod WorkedPolicies

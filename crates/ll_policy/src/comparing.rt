@@ -2,21 +2,20 @@
 
 ghost use Rattle.std.specs.Prelude.{◌≡◌, ◌↔◌, IfOk, IsTrue, map};
 ghost use Rattle.std.specs.List.{AllZip};
-ghost use Rattle.ll_rights.specs.CodeRights.{fs_right, net_right};
+ghost use Rattle.ll_rights.specs.CodeRights.{fs_right};
 ghost use Rattle.ll_rights.specs.Rights as for_files;
-ghost use Rattle.ll_rights.specs.NetRights as for_ports;
 ghost use Rattle.ll_policy.specs.Chains.{AreDirectories};
-ghost use Rattle.ll_policy.specs.Found.{TellsObjects, TellsGains, TellsPorts, TellsSingleObjects, is_nothing};
+ghost use Rattle.ll_policy.specs.Found.{TellsObjects, TellsGains, TellsSingleObjects, is_nothing};
 ghost use Rattle.ll_policy.specs.Gains.{AllKeepGains};
-ghost use Rattle.ll_policy.specs.Granted.{root, NothingMoreOnObjects, NothingMoreOnPorts};
+ghost use Rattle.ll_policy.specs.Granted.{root, NothingMoreOnObjects};
 ghost use Rattle.ll_policy.specs.Places.{is_file_in};
 ghost use Rattle.ll_policy.specs.Policies.{rules_of};
 
 use crate::deciding::{ROOT, each_enough, excesses};
 use crate::gaining::{Gain, gains};
-use crate::granting::{all_on_objects, all_on_ports};
+use crate::granting::all_on_objects;
 use crate::layer::Layer;
-use ll_rights::{FsRight, NetRight};
+use ll_rights::FsRight;
 use std::alloc::{AllocError, Global};
 
 /// For each old layer, a chain of objects that new layers let pass with a right and it doesn't, if there is one.
@@ -122,39 +121,6 @@ pub fn more_gains(
     let mut found = Vec::new(alloc);
     for right in FsRight::all() {
         found.push(gains_with(alloc, files, old, new, *right)?)?;
-    }
-    Ok(found)
-}
-
-/// For each old layer, a port that new layers let pass with a right and it doesn't, if there is one.
-fn ports_with(
-    alloc: Global,
-    old: &[Layer],
-    new: &[Layer],
-    right: NetRight,
-) -> Result<Vec<Option<Vec<usize>>>, AllocError>
-    ensures { IfOk result
-        (TellsPorts (map rules_of old.now) (map rules_of new.now) (net_right right)) }
-{
-    let old = all_on_ports(alloc, old, right)?;
-    let new = all_on_ports(alloc, new, right)?;
-    excesses(alloc, &[], &[], &old, &new)
-}
-
-/// What new layers let pass on ports and old ones don't: for each right for ports and each old layer. It is a port, or
-/// the empty list, which stands for each port without a rule.
-pub fn more_on_ports(
-    alloc: Global,
-    old: &[Layer],
-    new: &[Layer],
-) -> Result<Vec<Vec<Option<Vec<usize>>>>, AllocError>
-    ensures { IfOk result (λ found. AllZip
-        (TellsPorts (map rules_of old.now) (map rules_of new.now))
-        for_ports.all_rights found.items) }
-{
-    let mut found = Vec::new(alloc);
-    for right in NetRight::all() {
-        found.push(ports_with(alloc, old, new, *right)?)?;
     }
     Ok(found)
 }

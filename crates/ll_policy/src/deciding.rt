@@ -4,7 +4,7 @@ ghost use Rattle.std.specs.Prelude.{◌≡◌, ◌≢◌, ◌||◌, [], not, tru
 ghost use Rattle.ll_policy.specs.Chains.{is_among, lets, some_among, passes, AreDirectories, Tells};
 ghost use Rattle.std.specs.List.{AllZip};
 ghost use Rattle.ll_policy.specs.Places.{is_file_in, places_of};
-ghost use Rattle.ll_policy.specs.Choices.{are_within, is_narrow, narrow_ones, some_grants, all_grant, is_open, open_file, counts, is_extra, AreBelow, IsChainOfExtra, is_enough, enough_of};
+ghost use Rattle.ll_policy.specs.Choices.{are_within, is_narrow, narrow_ones, some_grants, all_grant, is_open, open_file, counts, is_extra, is_further, AreBelow, IsChainOfExtra, is_enough, enough_of};
 ghost use Rattle.ll_policy.specs.Found.{TellsSingle};
 
 use crate::granting::Granting;
@@ -135,6 +135,30 @@ fn is_extra(
     counts(files, file, object) && !old.grants_on(object) && some_grants(new, object)
 }
 
+/// Whether an object is one of some.
+#[tactic(auto, unfolding(crate::specs::Chains::is_among))]
+fn is_among(object: usize, objects: &[usize]) -> bool
+    ensures { result ≡ is_among object objects.now }
+{
+    objects.iter().any(|own| object == *own)
+}
+
+/// Whether an object is extra and none of some objects.
+#[tactic(auto, unfolding(crate::specs::Choices::is_further))]
+fn is_further(
+    files: &[bool],
+    always: &[usize],
+    file: Option<usize>,
+    old: &Granting,
+    new: &[Granting],
+    object: usize,
+) -> bool
+    ensures { result
+        ≡ is_further (is_file_in files.now) always.now file old.now new.now object }
+{
+    is_extra(files, file, old, new, object) && !is_among(object, always)
+}
+
 /// A number above those of all objects that some layers grant on.
 fn bound_of(layers: &[Granting]) -> usize
     ensures { AreBelow result layers.now }
@@ -146,7 +170,7 @@ fn bound_of(layers: &[Granting]) -> usize
     bound
 }
 
-/// Some objects, and all that is extra.
+/// Some objects, and all else that is extra.
 fn chain_of(
     alloc: Global,
     files: &[bool],
@@ -161,7 +185,7 @@ fn chain_of(
     let bound = bound_of(new);
     let mut chain = always.to_vec(alloc)?;
     for object in 0..bound {
-        if is_extra(files, file, old, new, object) {
+        if is_further(files, always, file, old, new, object) {
             chain.push(object)?;
         }
     }
@@ -238,7 +262,7 @@ pub fn excesses(
 
 /// Whether each layer lets a chain pass.
 #[tactic(auto, unfolding(crate::specs::Chains::passes))]
-fn passes(chain: &[usize], layers: &[Granting]) -> bool
+pub(crate) fn passes(chain: &[usize], layers: &[Granting]) -> bool
     ensures { result ≡ passes layers.now chain.now }
 {
     layers.iter().all(|layer| lets(chain, layer))

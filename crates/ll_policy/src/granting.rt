@@ -1,7 +1,7 @@
 //! What a layer says of one right.
 
 ghost use Rattle.std.specs.Prelude.{◌≡◌, ◌<◌, All, IfOk, map};
-ghost use Rattle.ll_policy.specs.Chains.{is_among};
+ghost use Rattle.ll_policy.specs.Chains.{is_among, some_among};
 ghost use Rattle.ll_policy.specs.Places.{places_of};
 ghost use Rattle.ll_rights.specs.CodeRights.{fs_right, net_right};
 ghost use Rattle.ll_rights.specs.Rights as files;
@@ -9,6 +9,7 @@ ghost use Rattle.ll_rights.specs.NetRights as network;
 ghost use Rattle.ll_rules.specs.Layers.{handles};
 ghost use Rattle.ll_policy.specs.Granted.{granting, granting_on_ports};
 ghost use Rattle.ll_policy.specs.Policies.{rules_of};
+ghost use Rattle.ll_policy.specs.Regions.{chains_of, spread};
 
 use crate::layer::Layer;
 use ll_rights::{Fs, FsRight, Net, NetRight};
@@ -113,6 +114,33 @@ impl Granting {
         ensures { All (λ object. object < result) self.now.grants }
     {
         self.on.len()
+    }
+
+    /// For each object, whether the layer grants the right on it or on one that it is in.
+    fn reached(&self, alloc: Global, parents: &[usize]) -> Result<Vec<bool>, AllocError>
+        ensures { IfOk result (λ on. on.items
+            ≡ map (λ chain. some_among chain self.now.grants) (chains_of parents.now)) }
+    {
+        let mut on = Vec::new(alloc);
+        on.push(self.grants_on(0))?;
+        for index in 0..parents.len() {
+            let own = self.grants_on(on.len());
+            let above = on.get(parents[index]).copied().unwrap_or(false);
+            on.push(own | above)?;
+        }
+        Ok(on)
+    }
+
+    /// The layer with what it grants on each object or on one that this is in.
+    #[tactic(auto, unfolding(crate::specs::Regions::spread))]
+    pub(crate) fn spread(&self, alloc: Global, parents: &[usize]) -> Result<Granting, AllocError>
+        ensures { IfOk result (λ made. made ≡ spread parents.now self.now) }
+    {
+        let on = self.reached(alloc, parents)?;
+        Ok(Granting {
+            handles: self.handles,
+            on,
+        })
     }
 
     /// The same again.

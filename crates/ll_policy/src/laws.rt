@@ -18,10 +18,11 @@ ghost use Rattle.ll_rules.specs.InTree.{all_in_tree, IsTargetIn};
 ghost use Rattle.ll_rules.specs.{Checks.refusing, Checks.refusing_port, Moves.move_verdict};
 ghost use Rattle.ll_policy.specs.Chains.{Granting, IsChain, IsExcess, NothingMore, NothingMoreThan, passes};
 ghost use Rattle.ll_policy.specs.Choices.{enough_of};
-ghost use Rattle.ll_policy.specs.Granted.{granting, root, NothingMoreOnObjects, NothingMoreOnPorts};
+ghost use Rattle.ll_policy.specs.Granted.{granting, granting_on_ports, root, NothingMoreOnObjects};
+ghost use Rattle.ll_policy.specs.Regions.{single};
 ghost use Rattle.ll_policy.specs.Gains.{AllKeepGains};
 ghost use Rattle.ll_policy.specs.{declared.gaining.Gain.Gain as Gained};
-ghost use Rattle.ll_policy.specs.Found.{TellsObjects, TellsGains, TellsPorts, is_nothing};
+ghost use Rattle.ll_policy.specs.Found.{TellsObjects, TellsGains, is_nothing};
 ghost use Rattle.ll_policy.specs.WaysUp.{AreRuledIn, IsTargetOf, all_ruled, is_file_at, way_up};
 
 /// Old layers are compared one by one, and there is an excess of none of which new layers let nothing more pass.
@@ -81,19 +82,28 @@ pub fn no_move_passes_more()
         → move_verdict tree (all_in_tree tree old) attempt ≡ Passed }
 {}
 
-/// New layers let nothing more pass on ports exactly if no old layer refuses, on any port, a right that no new one
-/// refuses.
-#[tactic(auto, using(crate::proofs::PortByPort::ports_one_by_one))]
-pub fn ports_are_compared_one_by_one()
-    ensures { (old new : List (RulesOn ℕ)) → NothingMoreOnPorts old new
-        ↔ ((right : network.NetRight) (port : ℕ)
-        → refusing_port new port (network.only right) ≡ []
-        → refusing_port old port (network.only right) ≡ []) }
+/// In any tree a right passes in a region exactly if no layer refuses it on an object of the region: one with the same
+/// objects with rules on its way up.
+#[tactic(auto, using(crate::proofs::Alike::refused_in_region))]
+pub fn regions_stand_for_their_objects()
+    ensures { (tree : List Entry) (layers : List (RulesOn ℕ)) (nodes chain : List ℕ) (path : Path)
+        (right : FsRight) → All (Contains nodes) (all_ruled layers)
+        → All (Contains chain) (way_up tree nodes path)
+        → All (Contains (way_up tree nodes path)) chain
+        → (passes (map (granting right) layers) chain ≡ true)
+        ↔ (refusing (all_in_tree tree layers) path (only right) ≡ []) }
 {}
 
-/// Nothing is found with any right exactly if new layers let nothing more pass on objects, if they keep all gains, and if
-/// they let nothing more pass on ports.
-#[tactic(auto, using(crate::proofs::Nothing::nothing_on_objects, crate::proofs::Nothing::nothing_gained, crate::proofs::Nothing::nothing_on_ports))]
+/// A right passes on a port exactly if no layer refuses it there; ports on which no layer has a rule are alike.
+#[tactic(auto, using(crate::proofs::PortByPort::refused_on_port))]
+pub fn ports_are_refused_one_by_one()
+    ensures { (layers : List (RulesOn ℕ)) (right : network.NetRight) (port : ℕ)
+        → (passes (map (granting_on_ports right) layers) (single port) ≡ true)
+        ↔ (refusing_port layers port (network.only right) ≡ []) }
+{}
+
+/// Nothing is found with any right exactly if new layers let nothing more pass on objects, and if they keep all gains.
+#[tactic(auto, using(crate::proofs::Nothing::nothing_on_objects, crate::proofs::Nothing::nothing_gained))]
 pub fn nothing_is_found_where_there_is_nothing_more()
     ensures objects { (is_file : ℕ → Bool) (old new : List (RulesOn ℕ))
         (found : List (Vec (Option (Vec ℕ Global)) Global))
@@ -103,10 +113,6 @@ pub fn nothing_is_found_where_there_is_nothing_more()
         (found : List (Vec (Option Gained) Global))
         → AllZip (TellsGains is_file old new) files.all_rights found
         → (is_nothing found ≡ true) ↔ AllKeepGains is_file old new }
-    ensures ports { (old new : List (RulesOn ℕ))
-        (found : List (Vec (Option (Vec ℕ Global)) Global))
-        → AllZip (TellsPorts old new) network.all_rights found
-        → (is_nothing found ≡ true) ↔ NothingMoreOnPorts old new }
 {}
 
 /// Policies that let the same chains pass, each way, may answer a move differently. One layer more that grants execution

@@ -1,5 +1,8 @@
 use Rattle.ll_lines.specs.LineByLine.{line_view}
-use Rattle.ll_comparison.proofs.Answering.{answered_none, answered_next, fault_met}
+use Rattle.ll_values.proofs.Answering.{fault_met}
+use Rattle.ll_comparison.specs.Answers.{IsAnswer}
+use Rattle.ll_comparison.specs.Comparisons.{comparison_on}
+use Rattle.ll_comparison.proofs.Answered.{answered_none, answered_next}
 use Rattle.ll_comparison.proofs.answers.compare_lines.Goals as goal
 
 pub loop-line-init : goal.loop-line-init
@@ -8,11 +11,12 @@ loop-line-init c =
 
 pub loop-line-preserved : goal.loop-line-preserved
 loop-line-preserved c =
+    let next = c.in_default.ensures.answer in
     answered_next c.args.bytes.now c.loop-line.line-iterator (line_view c.in-Some.line) c.next.new.self c.loop-line.text.items c.take_answer.new.text.items
-    c.in-Some.ensures.steps c.loop-line.invariant c.in_default.ensures.answer
+    next.0 c.in-Some.ensures.steps c.loop-line.invariant next.1 next.2
 
 pub returns-in-Err-clause-fault : goal.returns-in-Err-clause-fault
 returns-in-Err-clause-fault c =
     rw c.fault.ensures
-    (fault_met c.args.bytes.now c.loop-line.line-iterator (line_view c.in-Some.line) c.next.new.self c.loop-line.text.items c.in-Err.cause
-    c.in-Some.ensures.steps c.loop-line.invariant c.in-Err.ensures.fault)
+    (fault_met comparison_on IsAnswer c.args.bytes.now c.loop-line.line-iterator (line_view c.in-Some.line) c.next.new.self c.loop-line.invariant.texts
+    c.in-Err.cause c.in-Some.ensures.steps c.loop-line.invariant.so_far c.in-Err.ensures.fault)

@@ -1,6 +1,7 @@
 use Rattle.std.proofs.Common.{◌≡◌, [], drop, map}
 use Rattle.serde_json.specs.View.{items_view}
-use Rattle.ll_comparison.specs.Comparisons.{fold_items, one_more, layer_in, seen}
+use Rattle.ll_values.specs.Lists.{fold_items, one_more}
+use Rattle.ll_comparison.specs.Comparisons.{layer_in, seen}
 use Rattle.ll_comparison.proofs.comparison.layers_in.Given as goal
 
 abbrev pub invariant-loop-value : goal.invariant-loop-value

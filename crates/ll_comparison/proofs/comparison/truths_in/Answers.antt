@@ -1,8 +1,8 @@
 use Rattle.std.proofs.Common.{rules, drop, sym, subst, ◌∙◌}
 use Rattle.serde_json.specs.View.{items_view}
 use Rattle.ll_lines.specs.Readers.{Fails}
-use Rattle.ll_comparison.specs.Comparisons.{fold_items, one_more, truth_in}
-use Rattle.ll_comparison.proofs.Folds.{fold_next, fold_fails}
+use Rattle.ll_values.specs.Lists.{fold_items, one_more, truth_in}
+use Rattle.ll_values.proofs.Folds.{fold_next, fold_fails}
 use Rattle.ll_comparison.proofs.comparison.truths_in.Goals as goal
 
 pub loop-value-preserved : goal.loop-value-preserved

@@ -1,6 +1,6 @@
 use Rattle.std.proofs.Common.{◌≡◌, [], drop}
 use Rattle.serde_json.specs.View.{items_view}
-use Rattle.ll_comparison.specs.Comparisons.{fold_items, one_more, truth_in}
+use Rattle.ll_values.specs.Lists.{fold_items, one_more, truth_in}
 use Rattle.ll_comparison.proofs.comparison.truths_in.Given as goal
 
 abbrev pub invariant-loop-value : goal.invariant-loop-value

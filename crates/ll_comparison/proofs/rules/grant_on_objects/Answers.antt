@@ -1,6 +1,6 @@
 use Rattle.std.proofs.Common.{sym, ◌∙◌}
 use Rattle.ll_comparison.specs.Comparisons.{with_files_on}
-use Rattle.ll_comparison.proofs.Folds.{fold_next}
+use Rattle.ll_values.proofs.Folds.{fold_next}
 use Rattle.ll_comparison.proofs.rules.grant_on_objects.Goals as goal
 
 pub loop-object-preserved : goal.loop-object-preserved

@@ -1,6 +1,7 @@
 use Rattle.std.proofs.Common.{◌≡◌, drop}
 use Rattle.serde_json.specs.View.{items_view}
-use Rattle.ll_comparison.specs.Comparisons.{fold_items, with_files_on}
+use Rattle.ll_values.specs.Lists.{fold_items}
+use Rattle.ll_comparison.specs.Comparisons.{with_files_on}
 use Rattle.ll_comparison.proofs.rules.grant_on_objects.Given as goal
 
 abbrev pub invariant-loop-object : goal.invariant-loop-object

@@ -1,6 +1,6 @@
 use Rattle.std.proofs.Common.{sym, ◌∙◌}
 use Rattle.ll_comparison.specs.Comparisons.{with_port_rule}
-use Rattle.ll_comparison.proofs.Folds.{fold_next}
+use Rattle.ll_values.proofs.Folds.{fold_next}
 use Rattle.ll_comparison.proofs.rules.take_port_rules.Goals as goal
 
 pub loop-rule-preserved : goal.loop-rule-preserved

@@ -1,6 +1,6 @@
 use Rattle.std.proofs.Common.{◌≡◌, ◌++◌, drop, map}
 use Rattle.json.specs.Tree.{items_tokens}
-use Rattle.ll_comparison.specs.Texts.{items_of}
+use Rattle.ll_values.specs.Texts.{items_of}
 use Rattle.ll_comparison.proofs.told.write_values.Given as goal
 
 -- what is written, and what is left to write

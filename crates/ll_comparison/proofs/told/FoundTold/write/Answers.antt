@@ -1,5 +1,5 @@
 use Rattle.std.proofs.lemmas.Result.{on_ok_weaker}
-use Rattle.ll_comparison.proofs.Writing.{behind}
+use Rattle.ll_values.proofs.Writing.{behind}
 use Rattle.ll_comparison.proofs.told.FoundTold.write.Goals as goal
 
 pub returns-clause-tokens : goal.returns-clause-tokens
@@ -13,4 +13,5 @@ returns-clause-tokens c =
     (behind c.write_member-3.new.out.tokens c.write_member-4.new.out.tokens last _ _ c.in_ok-write_member-4.ensures.tokens
     (behind c.write_member-4.new.out.tokens c.write_member-5.new.out.tokens last _ _ c.in_ok-write_member-5.ensures.tokens
     (behind c.write_member-5.new.out.tokens c.write_member-6.new.out.tokens last _ _ c.in_ok-write_member-6.ensures.tokens
-    written))))))) c.end_object.ensures.ok
+    (behind c.write_member-6.new.out.tokens c.write_member-7.new.out.tokens last _ _ c.in_ok-write_member-7.ensures.tokens
+    written)))))))) c.end_object.ensures.ok

@@ -1,5 +1,5 @@
 use Rattle.std.proofs.lemmas.Result.{on_ok_weaker}
-use Rattle.ll_comparison.proofs.Writing.{behind}
+use Rattle.ll_values.proofs.Writing.{behind}
 use Rattle.ll_comparison.proofs.told.GainTold.write.Goals as goal
 
 pub returns-clause-tokens : goal.returns-clause-tokens

@@ -1,0 +1,11 @@
+use Rattle.std.proofs.Common.{◌≡◌, [], drop, map}
+use Rattle.serde_json.specs.View.{items_view}
+use Rattle.ll_values.specs.Lists.{fold_items, one_more}
+use Rattle.ll_calling.specs.PolicyLines.{layer_in}
+use Rattle.ll_calling.specs.Seen.{layer_seen}
+use Rattle.ll_calling.proofs.policy.layers_in.Given as goal
+
+abbrev pub invariant-loop-value : goal.invariant-loop-value
+invariant-loop-value l =
+    fold_items (one_more layer_in) (map layer_seen l.layers.items) (items_view (drop l.value-index l.values))
+    ≡ fold_items (one_more layer_in) [] (items_view l.values)

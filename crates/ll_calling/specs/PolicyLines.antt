@@ -1,0 +1,189 @@
+-- A policy, as a line of JSON says it.
+-- Source: docs/FORMATS.md, "A policy as JSON"; landlock_create_ruleset(2), landlock_add_rule(2).
+use Rattle.std.specs.Prelude.{ℕ, Bool, true, false, List, map, codes, Option, Some, None, ok_or, Result, Ok, Err, if◌then◌else◌}
+use Rattle.std.specs.Option.{is_some}
+use Rattle.std.specs.Str.{bytes_eq}
+use Rattle.serde_json.specs.Data.{Data}
+use Rattle.serde_json.specs.Find.{get}
+use Rattle.ll_rights.specs.declared.fs.Fs.{Fs}
+use Rattle.ll_rights.specs.declared.net.Net.{Net}
+use Rattle.ll_rights.specs.Rights as files
+use Rattle.ll_rights.specs.NetRights as network
+use Rattle.ll_lines.specs.declared.fault.Cause.{Cause}
+use Rattle.ll_lines.specs.declared.fault.Cause.TheVariants.{Field}
+use Rattle.ll_lines.specs.Members.{value_at, text_at, text_in, number_at, items_at, ◌>>=◌}
+use Rattle.ll_lines.specs.Reading.{Format}
+use Rattle.ll_tree.specs.TreeReading.{kind_named}
+use Rattle.ll_values.specs.Lists.{fold_items, list_at}
+use Rattle.ll_values.specs.Answers.{by_line}
+use Rattle.ll_fitting.specs.declared.written.FileAccess.{FileAccess}
+use Rattle.ll_fitting.specs.declared.written.PortAccess.{PortAccess}
+use Rattle.ll_fitting.specs.declared.written.Parent.{Parent}
+use Rattle.ll_fitting.specs.declared.written.Parent.TheVariants.{There, Missing}
+use Rattle.ll_fitting.specs.declared.written.PathRule.{PathRule}
+use Rattle.ll_fitting.specs.declared.written.PortRule.{PortRule}
+use Rattle.ll_fitting.specs.declared.written.Scopes.{Scopes}
+use Rattle.ll_fitting.specs.Written.{Layer}
+use Rattle.ll_fitting.specs.Misfits.{misfit}
+use Rattle.ll_calling.specs.Groups.{set_of, set_on_ports, group_named, group_on_ports}
+
+-- ---- lists of rights: a word is a group, or the name of a right
+
+abbrev pub with_name : FileAccess → Fs → Result FileAccess Cause
+with_name access right = if files.has right files.other then Err Field else Ok (record { named = files.united access.named right; grouped = access.grouped })
+
+abbrev pub with_group : FileAccess → List ℕ → Option (List files.FsRight) → Result FileAccess Cause
+with_group access word (Some rights) = Ok (record { named = access.named; grouped = files.united access.grouped (set_of rights) })
+with_group access word None = with_name access (files.only (files.right_named word))
+
+unfoldable pub with_word : FileAccess → Data → Result FileAccess Cause
+with_word access value = do
+  word ← text_in value
+  with_group access word (group_named word)
+
+unfoldable pub access_at : List ℕ → Data → Result FileAccess Cause
+access_at name value = do
+  words ← items_at name value
+  fold_items with_word (record { named = files.no_right; grouped = files.no_right }) words
+
+abbrev pub with_name_on_ports : PortAccess → Net → Result PortAccess Cause
+with_name_on_ports access right =
+    if network.has right network.other then Err Field else Ok (record { named = network.united access.named right; grouped = access.grouped })
+
+abbrev pub with_group_on_ports : PortAccess → List ℕ → Option (List network.NetRight) → Result PortAccess Cause
+with_group_on_ports access word (Some rights) = Ok (record { named = access.named; grouped = network.united access.grouped (set_on_ports rights) })
+with_group_on_ports access word None = with_name_on_ports access (network.only (network.right_named word))
+
+unfoldable pub with_word_on_ports : PortAccess → Data → Result PortAccess Cause
+with_word_on_ports access value = do
+  word ← text_in value
+  with_group_on_ports access word (group_on_ports word)
+
+unfoldable pub port_access_at : List ℕ → Data → Result PortAccess Cause
+port_access_at name value = do
+  words ← items_at name value
+  fold_items with_word_on_ports (record { named = network.no_right; grouped = network.no_right }) words
+
+-- ---- scopes
+
+abbrev pub with_scope_named : Scopes → List ℕ → Result Scopes Cause
+with_scope_named scopes word =
+    if bytes_eq word (codes "abstract_unix_socket") then Ok (record { abstract_unix_socket = true; signal = scopes.signal })
+    else if bytes_eq word (codes "signal") then Ok (record { abstract_unix_socket = scopes.abstract_unix_socket; signal = true })
+    else Err Field
+
+unfoldable pub with_scope : Scopes → Data → Result Scopes Cause
+with_scope scopes value = do
+  word ← text_in value
+  with_scope_named scopes word
+
+unfoldable pub scopes_at : Data → Result Scopes Cause
+scopes_at value = do
+  words ← items_at (codes "scoped") value
+  fold_items with_scope (record { abstract_unix_socket = false; signal = false }) words
+
+-- ---- rules
+
+-- a rule on a path
+pub record RuleSeen : Type 0 where
+  pub rule : PathRule
+  pub path : List ℕ
+
+-- what is at the path, if something is
+abbrev pub parent_in : Option Data → Result Parent Cause
+parent_in None = Ok Missing
+parent_in (Some value) = do
+  name ← text_in value
+  kind ← ok_or (kind_named name) Field
+  Ok (There 0 kind)
+
+unfoldable pub parent_at : Data → Result Parent Cause
+parent_at value = parent_in (get (codes "kind") value)
+
+-- a rule of an included group names the group
+abbrev pub included_in : Option Data → Result Bool Cause
+included_in None = Ok false
+included_in (Some value) = do
+  name ← text_in value
+  Ok true
+
+unfoldable pub included_at : Data → Result Bool Cause
+included_at value = included_in (get (codes "group") value)
+
+-- all rights of such a rule count as those of a group of rights
+unfoldable pub allowed_by : Bool → FileAccess → FileAccess
+allowed_by included access = if included then record { named = files.no_right; grouped = files.united access.named access.grouped } else access
+
+unfoldable pub rule_in : Data → Result RuleSeen Cause
+rule_in value = do
+  access ← access_at (codes "allowed_access") value
+  path ← text_at (codes "parent") value
+  parent ← parent_at value
+  included ← included_at value
+  Ok (record { rule = record { allowed = allowed_by included access; parent = parent; included = included }; path = path })
+
+unfoldable pub port_rule_in : Data → Result PortRule Cause
+port_rule_in value = do
+  access ← port_access_at (codes "allowed_access") value
+  port ← number_at (codes "port") value
+  Ok (record { allowed = access; port = port })
+
+abbrev pub rules_at : Data → Result (List RuleSeen) Cause
+rules_at value = list_at (codes "path_beneath") rule_in value
+
+abbrev pub port_rules_at : Data → Result (List PortRule) Cause
+port_rules_at value = list_at (codes "net_port") port_rule_in value
+
+-- ---- layers
+
+pub record LayerSeen : Type 0 where
+  pub handled_files : FileAccess
+  pub handled_network : PortAccess
+  pub rules : List RuleSeen
+  pub port_rules : List PortRule
+  pub scopes : Scopes
+
+unfoldable pub layer_in : Data → Result LayerSeen Cause
+layer_in value = do
+  handled_files ← access_at (codes "handled_access_fs") value
+  handled_network ← port_access_at (codes "handled_access_net") value
+  rules ← rules_at value
+  port_rules ← port_rules_at value
+  scopes ← scopes_at value
+  Ok (record { handled_files = handled_files; handled_network = handled_network; rules = rules; port_rules = port_rules; scopes = scopes })
+
+-- a rule, and a layer, without the texts of the paths
+abbrev pub bare_rule : RuleSeen → PathRule
+bare_rule seen = seen.rule
+
+abbrev pub written_in : LayerSeen → Layer
+written_in layer = record {
+  handled_files = layer.handled_files;
+  handled_network = layer.handled_network;
+  path_rules = map bare_rule layer.rules;
+  port_rules = layer.port_rules;
+  scopes = layer.scopes;
+}
+
+-- ---- the policy: the kernel can make of its layers what they say
+
+unfoldable pub if_fit : List LayerSeen → Result (List LayerSeen) Cause
+if_fit layers = if is_some (misfit (map written_in layers)) then Err Field else Ok layers
+
+abbrev pub layers_at : Data → Result (List LayerSeen) Cause
+layers_at value = list_at (codes "layer") layer_in value
+
+unfoldable pub policy_in : Data → Result (List LayerSeen) Cause
+policy_in value = do
+  layers ← layers_at value
+  if_fit layers
+
+-- the policy on a line
+unfoldable pub policy_on : List ℕ → Result (List LayerSeen) Cause
+policy_on line = do
+  value ← value_at line
+  policy_in value
+
+-- a policy on each line
+abbrev pub policy_format : Format (List LayerSeen)
+policy_format = by_line policy_on

@@ -1,0 +1,158 @@
+-- Calls, and the tables of rights, as lines of JSON.
+-- Source: docs/RULES.md, "Calls" and "Rights"; docs/FORMATS.md, "The trace file".
+use Rattle.std.specs.Prelude.{◌≡◌, ℕ, Bool, false, List, [], ◌∷◌, ◌++◌, map, codes, flat_map, slice_get, Option, Some, None, if◌then◌else◌}
+use Rattle.std.specs.List.{list_any}
+use Rattle.std.specs.Option.{is_some}
+use Rattle.json.specs.Json.{Json, string, array, Items, no_items, item}
+use Rattle.ll_rights.specs.declared.abi.Abi.{Abi}
+use Rattle.ll_rights.specs.declared.fs.Fs.{Fs}
+use Rattle.ll_rights.specs.declared.net.Net.{Net}
+use Rattle.ll_rights.specs.Abis.{all_versions, number_of, knows_fs, knows_net}
+use Rattle.ll_rights.specs.Rights as files
+use Rattle.ll_rights.specs.NetRights as network
+use Rattle.ll_lines.specs.Reading.{IsGood}
+use Rattle.ll_values.specs.Texts.{object_of, whole_json, line_of}
+use Rattle.ll_fitting.specs.declared.fitting.FittedPathRule.{FittedPathRule}
+use Rattle.ll_fitting.specs.declared.fitting.FittedPortRule.{FittedPortRule}
+use Rattle.ll_fitting.specs.declared.refusing.RefusedRule.{RefusedRule}
+use Rattle.ll_fitting.specs.Fitting.{Fitted, fitted}
+use Rattle.ll_fitting.specs.Taken.{first_refused}
+use Rattle.ll_fitting.specs.Written.{file_rights}
+use Rattle.ll_enforcing.specs.declared.calls.Call.{Call}
+use Rattle.ll_enforcing.specs.declared.calls.Call.TheVariants as calls
+use Rattle.ll_enforcing.specs.Calls.{calls_of}
+use Rattle.ll_calling.specs.declared.objects.Shown.{Shown}
+use Rattle.ll_calling.specs.declared.objects.Shown.TheVariants as shown
+use Rattle.ll_calling.specs.declared.objects.Member.{Member}
+use Rattle.ll_calling.specs.Groups.{set_of, set_on_ports, group_named, group_on_ports}
+use Rattle.ll_calling.specs.PolicyLines.{RuleSeen, LayerSeen, written_in, policy_format}
+
+-- the names of the rights that pass a test
+unfoldable pub name_items : (files.FsRight → Bool) → List files.FsRight → Items
+name_items test [] = no_items
+name_items test (right ∷ others) = if test right then item (string (files.name_of right)) (name_items test others) else name_items test others
+
+unfoldable pub port_name_items : (network.NetRight → Bool) → List network.NetRight → Items
+port_name_items test [] = no_items
+port_name_items test (right ∷ others) = if test right then item (string (network.name_of right)) (port_name_items test others) else port_name_items test others
+
+-- in the order of the table
+abbrev pub names_json : (files.FsRight → Bool) → Json
+names_json test = array (name_items test files.all_rights)
+
+abbrev pub port_names_json : (network.NetRight → Bool) → Json
+port_names_json test = array (port_name_items test network.all_rights)
+
+-- ---- objects of flat members
+
+abbrev pub shown_json : Shown → Json
+shown_json (shown.Word text) = string text.now
+shown_json (shown.Whole n) = whole_json n
+shown_json (shown.Number n) = whole_json n
+shown_json (shown.Files set) = names_json (files.has set)
+shown_json (shown.Network set) = port_names_json (network.has set)
+
+abbrev pub named : Member → List ℕ × Json
+named member = (member.name.now, shown_json member.value)
+
+-- ---- calls: no process is named, and the ruleset is always number 0
+
+abbrev pub path_of_rule : Option RuleSeen → List ℕ
+path_of_rule None = []
+path_of_rule (Some seen) = seen.path
+
+abbrev pub path_in_layer : Option LayerSeen → ℕ → List ℕ
+path_in_layer None rule = []
+path_in_layer (Some layer) rule = path_of_rule (slice_get layer.rules rule)
+
+-- the path of a rule, by its layer's index and its own
+unfoldable pub path_in : List LayerSeen → ℕ → ℕ → List ℕ
+path_in layers layer rule = path_in_layer (slice_get layers layer) rule
+
+abbrev pub op : List ℕ → List ℕ × Json
+op name = (codes "op", string name)
+
+abbrev pub of_ruleset : List ℕ × Json
+of_ruleset = (codes "rs", whole_json 0)
+
+abbrev pub of_layer : ℕ → List ℕ × Json
+of_layer layer = (codes "layer", whole_json layer)
+
+abbrev pub of_rule : ℕ → List ℕ × Json
+of_rule rule = (codes "rule", whole_json rule)
+
+abbrev pub create_json : ℕ → Fs → Net → Json
+create_json layer handled ports =
+    object_of (op (codes "create") ∷ of_ruleset ∷ (codes "fs", names_json (files.has handled)) ∷ (codes "net", port_names_json (network.has ports)) ∷ of_layer layer ∷ [])
+
+abbrev pub path_json : ℕ → FittedPathRule → List ℕ → Json
+path_json layer rule path =
+    object_of (op (codes "add_path") ∷ of_ruleset ∷ (codes "path", string path) ∷ (codes "fs", names_json (files.has rule.rights)) ∷ of_layer layer ∷ of_rule rule.rule ∷ [])
+
+abbrev pub port_json : ℕ → FittedPortRule → Json
+port_json layer rule =
+    object_of (op (codes "add_port") ∷ of_ruleset ∷ (codes "port", whole_json rule.port) ∷ (codes "net", port_names_json (network.has rule.rights)) ∷ of_layer layer ∷ of_rule rule.rule ∷ [])
+
+abbrev pub ruleset_json : List ℕ → ℕ → Json
+ruleset_json name layer = object_of (op name ∷ of_ruleset ∷ of_layer layer ∷ [])
+
+unfoldable pub call_json : List LayerSeen → Call → Json
+call_json layers calls.NoNewPrivs = object_of (op (codes "nnp") ∷ [])
+call_json layers (calls.CreateRuleset layer handled ports) = create_json layer handled ports
+call_json layers (calls.AddPath layer rule) = path_json layer rule (path_in layers layer rule.rule)
+call_json layers (calls.AddPort layer rule) = port_json layer rule
+call_json layers (calls.RestrictSelf layer) = ruleset_json (codes "restrict") layer
+call_json layers (calls.CloseRuleset layer) = ruleset_json (codes "close_rs") layer
+
+-- the first rule that the kernel refuses, if it refuses one
+abbrev pub refusal_line : Option RefusedRule → List ℕ
+refusal_line None = []
+refusal_line (Some refused) = line_of (object_of ((codes "refused", string (codes "EINVAL")) ∷ of_layer refused.layer ∷ of_rule refused.rule ∷ []))
+
+-- ---- a policy at a version
+
+abbrev pub left_at : Abi → List LayerSeen → List Fitted
+left_at abi layers = fitted abi (map written_in layers)
+
+unfoldable pub lines_at : Abi → List LayerSeen → List ℕ
+lines_at abi layers =
+    flat_map (λ call. line_of (call_json layers call)) (calls_of (left_at abi layers)) ++ refusal_line (first_refused (left_at abi layers))
+
+abbrev pub is_refused_at : Abi → List LayerSeen → Bool
+is_refused_at abi layers = is_some (first_refused (left_at abi layers))
+
+-- The file reads as policies; the text has the calls of each, one policy after another.
+pub record AreCalls (abi : Abi) (bytes : List ℕ) (text : List ℕ) (refused : Bool) : Type 0 where
+  pub policies : List (List LayerSeen)
+  pub good : IsGood policy_format bytes policies
+  pub is_text : text ≡ flat_map (lines_at abi) policies
+  pub is_refused : refused ≡ list_any (is_refused_at abi) policies
+
+-- ---- the tables of rights: what each version knows, what each group stands for, and what applies to what is no directory
+
+abbrev pub abi_line : Abi → List ℕ
+abi_line abi = line_of (object_of ((codes "abi", whole_json (number_of abi)) ∷ (codes "fs", names_json (knows_fs abi)) ∷ (codes "net", port_names_json (knows_net abi)) ∷ []))
+
+abbrev pub rights_in : Option (List files.FsRight) → files.FsRight → Bool
+rights_in None right = false
+rights_in (Some rights) right = files.has (set_of rights) right
+
+abbrev pub port_rights_in : Option (List network.NetRight) → network.NetRight → Bool
+port_rights_in None right = false
+port_rights_in (Some rights) right = network.has (set_on_ports rights) right
+
+abbrev pub group_line : List ℕ → List ℕ
+group_line name =
+    line_of (object_of ((codes "group", string name)
+    ∷ (codes "fs", names_json (rights_in (group_named name)))
+    ∷ (codes "net", port_names_json (port_rights_in (group_on_ports name)))
+    ∷ []))
+
+abbrev pub file_line : List ℕ
+file_line = line_of (object_of ((codes "of", string (codes "file")) ∷ (codes "fs", names_json (files.has file_rights)) ∷ []))
+
+abbrev pub group_lines : List ℕ
+group_lines = flat_map group_line (codes "all" ∷ codes "read" ∷ codes "write" ∷ codes "execute" ∷ [])
+
+unfoldable pub tables : List ℕ
+tables = flat_map abi_line all_versions ++ group_lines ++ file_line

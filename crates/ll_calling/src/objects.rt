@@ -1,0 +1,130 @@
+//! Objects of JSON whose members are words, numbers and sets of rights.
+
+ghost use Rattle.std.specs.Prelude.{◌≡◌, ◌++◌, IfOk, OnOk, map};
+ghost use Rattle.json.specs.Tree.{json_tokens, items_tokens, members_tokens};
+ghost use Rattle.ll_rights.specs.CodeRights.{fs_right, net_right};
+ghost use Rattle.ll_rights.specs.Rights as files;
+ghost use Rattle.ll_rights.specs.NetRights as network;
+ghost use Rattle.ll_values.specs.Texts.{members_of, object_of, line_of};
+ghost use Rattle.ll_calling.specs.Texts.{name_items, port_name_items, shown_json, named};
+ghost use Rattle.ll_calling.specs.declared.objects.Shown.TheVariants as shown;
+
+use json::Writer;
+use ll_rights::{Fs, FsRight, Net, NetRight};
+use std::alloc::{AllocError, Global};
+
+/// A value of an object.
+#[derive(Clone, Copy)]
+pub(crate) enum Shown<'a> {
+    Word(&'a str),
+    Whole(usize),
+    Number(u64),
+    Files(Fs),
+    Network(Net),
+}
+
+/// A member of an object.
+#[derive(Clone, Copy)]
+pub(crate) struct Member<'a> {
+    pub name: &'a str,
+    pub value: Shown<'a>,
+}
+
+/// Writes the names of those rights that a set has, and the end of their array.
+#[tactic(auto, unfolding(crate::specs::Texts::name_items))]
+fn write_names(out: &mut Writer, all: &[FsRight], set: Fs) -> Result<(), AllocError>
+    ensures tokens { OnOk result (out.new.tokens ≡ out.old.tokens
+        ++ items_tokens (name_items (files.has set) (map fs_right all.now))) }
+    ensures before { out.new.before ≡ out.old.before }
+{
+    for right in all {
+        if set.has(*right) {
+            out.string(right.name())?;
+        }
+    }
+    out.end_array()
+}
+
+/// Writes the names of those rights for ports that a set has, and the end of their array.
+#[tactic(auto, unfolding(crate::specs::Texts::port_name_items))]
+fn write_port_names(out: &mut Writer, all: &[NetRight], set: Net) -> Result<(), AllocError>
+    ensures tokens { OnOk result (out.new.tokens ≡ out.old.tokens
+        ++ items_tokens (port_name_items (network.has set) (map net_right all.now))) }
+    ensures before { out.new.before ≡ out.old.before }
+{
+    for right in all {
+        if set.has(*right) {
+            out.string(right.name())?;
+        }
+    }
+    out.end_array()
+}
+
+/// Writes a set of rights.
+fn write_files(out: &mut Writer, set: Fs) -> Result<(), AllocError>
+    ensures tokens { OnOk result (out.new.tokens ≡ out.old.tokens
+        ++ json_tokens (shown_json (shown.Files set))) }
+    ensures before { out.new.before ≡ out.old.before }
+{
+    out.begin_array()?;
+    write_names(out, FsRight::all(), set)
+}
+
+/// Writes a set of rights for ports.
+fn write_network(out: &mut Writer, set: Net) -> Result<(), AllocError>
+    ensures tokens { OnOk result (out.new.tokens ≡ out.old.tokens
+        ++ json_tokens (shown_json (shown.Network set))) }
+    ensures before { out.new.before ≡ out.old.before }
+{
+    out.begin_array()?;
+    write_port_names(out, NetRight::all(), set)
+}
+
+/// Writes a value.
+fn write_value(out: &mut Writer, value: Shown<'_>) -> Result<(), AllocError>
+    ensures tokens { OnOk result (out.new.tokens ≡ out.old.tokens
+        ++ json_tokens (shown_json value.entry)) }
+    ensures before { out.new.before ≡ out.old.before }
+{
+    match value {
+        Shown::Word(text) => out.string(text),
+        Shown::Whole(number) => out.u64(number as u64),
+        Shown::Number(number) => out.u64(number),
+        Shown::Files(set) => write_files(out, set),
+        Shown::Network(set) => write_network(out, set),
+    }
+}
+
+/// Writes members, and the end of their object.
+fn write_members(out: &mut Writer, members: &[Member<'_>]) -> Result<(), AllocError>
+    ensures tokens { OnOk result (out.new.tokens ≡ out.old.tokens
+        ++ members_tokens (members_of (map named members.now))) }
+    ensures before { out.new.before ≡ out.old.before }
+{
+    for member in members {
+        out.key(member.name)?;
+        write_value(out, member.value)?;
+    }
+    out.end_object()
+}
+
+/// Writes an object.
+pub(crate) fn write_object(out: &mut Writer, members: &[Member<'_>]) -> Result<(), AllocError>
+    ensures tokens { OnOk result (out.new.tokens ≡ out.old.tokens
+        ++ json_tokens (object_of (map named members.now))) }
+    ensures before { out.new.before ≡ out.old.before }
+{
+    out.begin_object()?;
+    write_members(out, members)
+}
+
+/// A line with an object.
+pub(crate) fn object_line(alloc: Global, members: &[Member<'_>]) -> Result<Vec<u8>, AllocError>
+    ensures { IfOk result (λ line. line.items ≡ line_of (object_of (map named members.now))) }
+{
+    let mut out = Writer::new(Vec::new(alloc));
+    write_object(&mut out, members)?;
+    let mut line = out.into_inner();
+    line.push(b'\n')?;
+    Ok(line)
+}

@@ -1,0 +1,163 @@
+//! A policy, as a line says it.
+
+ghost use Rattle.std.specs.Prelude.{◌≡◌, [], IfOk, map};
+ghost use Rattle.serde_json.specs.View.{view, items_view};
+ghost use Rattle.ll_lines.specs.Readers.{Gives};
+ghost use Rattle.ll_values.specs.Lists.{fold_items, one_more};
+ghost use Rattle.ll_fitting.specs.Written.{written};
+ghost use Rattle.ll_calling.specs.PolicyLines as lines;
+ghost use Rattle.ll_calling.specs.Seen.{rule_seen, layer_seen};
+
+use crate::access::{access_of, port_access_of, scopes_of};
+use crate::rules::{RuleRead, port_rules_of, rules_of};
+use ll_fitting::{FileAccess, Layer, PathRule, Policy, PortAccess, PortRule, Scopes};
+use ll_lines::Cause;
+use ll_values::{items_of, value_of};
+use serde_json::Value;
+use std::alloc::{AllocError, Global};
+
+/// A layer with the paths of its rules.
+#[derive(Drop)]
+pub struct LayerRead {
+    pub handled_files: FileAccess,
+    pub handled_network: PortAccess,
+    pub rules: Vec<RuleRead>,
+    pub port_rules: Vec<PortRule>,
+    pub scopes: Scopes,
+}
+
+/// A policy, and its layers with the paths of their rules.
+#[derive(Drop)]
+pub struct PolicyRead {
+    pub layers: Vec<LayerRead>,
+    pub policy: Policy,
+}
+
+/// A layer.
+#[tactic(auto, unfolding(crate::specs::PolicyLines::layer_in))]
+fn layer_of(alloc: Global, value: &Value) -> Result<LayerRead, Cause>
+    ensures { Gives layer_seen result (lines.layer_in (view value.now)) }
+{
+    let handled_files = access_of(value, "handled_access_fs")?;
+    let handled_network = port_access_of(value, "handled_access_net")?;
+    let rules = rules_of(alloc, value)?;
+    let port_rules = port_rules_of(alloc, value)?;
+    let scopes = scopes_of(value)?;
+    Ok(LayerRead {
+        handled_files,
+        handled_network,
+        rules,
+        port_rules,
+        scopes,
+    })
+}
+
+/// Takes in a layer.
+#[tactic(auto, unfolding(ll_values::specs::Lists::one_more))]
+fn take_layer(alloc: Global, layers: &mut Vec<LayerRead>, value: &Value) -> Result<(), Cause>
+    ensures { Gives (λ _. map layer_seen layers.new.items) result
+        (one_more lines.layer_in (map layer_seen layers.old.items) (view value.now)) }
+{
+    let layer = layer_of(alloc, value)?;
+    layers.push(layer)?;
+    Ok(())
+}
+
+/// The layers of a list.
+#[tactic(auto, using(ll_values::proofs::Folds::fold_fault, ll_values::proofs::Folds::fold_end))]
+fn layers_in(alloc: Global, values: &[Value]) -> Result<Vec<LayerRead>, Cause>
+    ensures { Gives (λ layers. map layer_seen layers.items) result
+        (fold_items (one_more lines.layer_in) [] (items_view values.now)) }
+{
+    let mut layers = Vec::new(alloc);
+    for value in values {
+        take_layer(alloc, &mut layers, value)?;
+    }
+    Ok(layers)
+}
+
+/// The layers of a policy.
+fn layers_of(alloc: Global, value: &Value) -> Result<Vec<LayerRead>, Cause>
+    ensures { Gives (λ layers. map layer_seen layers.items) result
+        (lines.layers_at (view value.now)) }
+{
+    let values = items_of(value, "layer")?;
+    layers_in(alloc, values)
+}
+
+/// Rules without the texts of their paths.
+fn path_rules_of(alloc: Global, rules: &[RuleRead]) -> Result<Vec<PathRule>, AllocError>
+    ensures { IfOk result (λ bare. bare.items ≡ map lines.bare_rule (map rule_seen rules.now)) }
+{
+    let mut bare = Vec::new(alloc);
+    for rule in rules {
+        bare.push(rule.rule)?;
+    }
+    Ok(bare)
+}
+
+/// A layer without the texts of its paths.
+fn written_of(alloc: Global, layer: &LayerRead) -> Result<Layer, AllocError>
+    ensures { IfOk result (λ bare. written bare ≡ lines.written_in (layer_seen layer.now)) }
+{
+    Ok(Layer {
+        handled_files: layer.handled_files,
+        handled_network: layer.handled_network,
+        path_rules: path_rules_of(alloc, &layer.rules)?,
+        port_rules: layer.port_rules.clone()?,
+        scopes: layer.scopes,
+    })
+}
+
+/// Layers without the texts of their paths.
+fn all_written(alloc: Global, layers: &[LayerRead]) -> Result<Vec<Layer>, AllocError>
+    ensures { IfOk result (λ bare. map written bare.items
+        ≡ map lines.written_in (map layer_seen layers.now)) }
+{
+    let mut bare = Vec::new(alloc);
+    for layer in layers {
+        bare.push(written_of(alloc, layer)?)?;
+    }
+    Ok(bare)
+}
+
+/// The policy of layers.
+#[tactic(auto, unfolding(crate::specs::PolicyLines::if_fit))]
+fn policy_with(alloc: Global, layers: Vec<LayerRead>) -> Result<PolicyRead, Cause>
+    ensures layers { Gives (λ read. map layer_seen read.layers.items) result
+        (lines.if_fit (map layer_seen layers.items)) }
+    ensures policy { IfOk result (λ read. read.policy
+        ≡ map lines.written_in (map layer_seen read.layers.items)) }
+{
+    let bare = all_written(alloc, &layers)?;
+    match Policy::new(bare) {
+        Ok(policy) => Ok(PolicyRead { layers, policy }),
+        Err(_) => Err(Cause::Field),
+    }
+}
+
+/// The policy that a value describes.
+#[tactic(auto, unfolding(crate::specs::PolicyLines::policy_in))]
+fn policy_of(alloc: Global, value: &Value) -> Result<PolicyRead, Cause>
+    ensures layers { Gives (λ read. map layer_seen read.layers.items) result
+        (lines.policy_in (view value.now)) }
+    ensures policy { IfOk result (λ read. read.policy
+        ≡ map lines.written_in (map layer_seen read.layers.items)) }
+{
+    let layers = layers_of(alloc, value)?;
+    policy_with(alloc, layers)
+}
+
+impl PolicyRead {
+    /// Reads the policy on a line: one JSON object.
+    #[tactic(auto, unfolding(crate::specs::PolicyLines::policy_on))]
+    pub fn read(alloc: Global, line: &[u8]) -> Result<PolicyRead, Cause>
+        ensures layers { Gives (λ read. map layer_seen read.layers.items) result
+            (lines.policy_on line.now) }
+        ensures policy { IfOk result (λ read. read.policy
+            ≡ map lines.written_in (map layer_seen read.layers.items)) }
+    {
+        let value = value_of(alloc, line)?;
+        policy_of(alloc, &value)
+    }
+}

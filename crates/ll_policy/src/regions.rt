@@ -1,0 +1,189 @@
+//! Where rights pass under two policies: in which regions of objects, and on which ports.
+
+ghost use Rattle.std.specs.Prelude.{◌≡◌, ℕ, List, [], filter, length, map, IfOk};
+ghost use Rattle.std.specs.List.{AllZip, range_with_len};
+ghost use Rattle.ll_rights.specs.CodeRights.{fs_right, net_right};
+ghost use Rattle.ll_rights.specs.Rights as for_files;
+ghost use Rattle.ll_rights.specs.NetRights as for_ports;
+ghost use Rattle.ll_policy.specs.Chains.{passes};
+ghost use Rattle.ll_policy.specs.Granted.{granting, granting_on_ports};
+ghost use Rattle.ll_policy.specs.Policies.{rules_of};
+ghost use Rattle.ll_policy.specs.Regions.{region, single, spread, passes_both, passes_alone, numbers_of, TellsPassing, TellsRegions, TellsPorts};
+
+use crate::deciding::passes;
+use crate::granting::{Granting, all_on_objects, all_on_ports};
+use crate::layer::Layer;
+use ll_rights::{FsRight, NetRight};
+use std::alloc::{AllocError, Global};
+
+/// Where a right passes under an old policy and a new one: regions of objects, or ports, by their numbers.
+#[derive(Drop)]
+pub struct Passing {
+    /// Where under both.
+    pub both: Vec<usize>,
+    /// Where under the new one alone.
+    pub new: Vec<usize>,
+    /// Where under the old one alone.
+    pub old: Vec<usize>,
+}
+
+/// What each layer grants on the objects, each with those that it is in.
+fn all_spread(
+    alloc: Global,
+    parents: &[usize],
+    layers: &[Granting],
+) -> Result<Vec<Granting>, AllocError>
+    ensures { IfOk result (λ made. made.items ≡ map (spread parents.now) layers.now) }
+{
+    let mut made = Vec::new(alloc);
+    for layer in layers {
+        made.push(layer.spread(alloc, parents)?)?;
+    }
+    Ok(made)
+}
+
+/// Whether each layer of both policies lets a number pass.
+#[tactic(auto, unfolding(crate::specs::Regions::passes_both))]
+fn passes_both(one: &[Granting], other: &[Granting], number: usize) -> bool
+    ensures { result ≡ passes_both one.now other.now (single number) }
+{
+    let chain = [number];
+    passes(&chain, one) && passes(&chain, other)
+}
+
+/// Whether each layer of one policy lets a number pass, and not each of the other.
+#[tactic(auto, unfolding(crate::specs::Regions::passes_alone))]
+fn passes_alone(one: &[Granting], other: &[Granting], number: usize) -> bool
+    ensures { result ≡ passes_alone one.now other.now (single number) }
+{
+    let chain = [number];
+    passes(&chain, one) && !passes(&chain, other)
+}
+
+/// Of so many numbers those that pass under both policies.
+#[tactic(auto, unfolding(crate::specs::Regions::numbers_of))]
+fn both_of(
+    alloc: Global,
+    count: usize,
+    one: &[Granting],
+    other: &[Granting],
+) -> Result<Vec<usize>, AllocError>
+    ensures { IfOk result (λ found. found.items
+        ≡ numbers_of single count (passes_both one.now other.now)) }
+{
+    let mut found = Vec::new(alloc);
+    for number in 0..count {
+        if passes_both(one, other, number) {
+            found.push(number)?;
+        }
+    }
+    Ok(found)
+}
+
+/// Of so many numbers those that pass under one policy and not under the other.
+#[tactic(auto, unfolding(crate::specs::Regions::numbers_of))]
+fn alone_of(
+    alloc: Global,
+    count: usize,
+    one: &[Granting],
+    other: &[Granting],
+) -> Result<Vec<usize>, AllocError>
+    ensures { IfOk result (λ found. found.items
+        ≡ numbers_of single count (passes_alone one.now other.now)) }
+{
+    let mut found = Vec::new(alloc);
+    for number in 0..count {
+        if passes_alone(one, other, number) {
+            found.push(number)?;
+        }
+    }
+    Ok(found)
+}
+
+/// Where the right passes, of so many numbers.
+fn passing_of(
+    alloc: Global,
+    count: usize,
+    old: &[Granting],
+    new: &[Granting],
+) -> Result<Passing, AllocError>
+    ensures { IfOk result (TellsPassing single count old.now new.now) }
+{
+    let both = both_of(alloc, count, old, new)?;
+    let alone = alone_of(alloc, count, new, old)?;
+    let old = alone_of(alloc, count, old, new)?;
+    Ok(Passing {
+        both,
+        new: alone,
+        old,
+    })
+}
+
+/// In which regions a right for files passes.
+fn regions_with(
+    alloc: Global,
+    parents: &[usize],
+    old: &[Layer],
+    new: &[Layer],
+    right: FsRight,
+) -> Result<Passing, AllocError>
+    ensures { IfOk result
+        (TellsRegions parents.now (map rules_of old.now) (map rules_of new.now) (fs_right right)) }
+{
+    let old = all_spread(alloc, parents, &all_on_objects(alloc, old, right)?)?;
+    let new = all_spread(alloc, parents, &all_on_objects(alloc, new, right)?)?;
+    Ok(passing_of(alloc, parents.len() + 1, &old, &new)?)
+}
+
+/// In which regions of objects each right for files passes. The root is the first object; the parents say for each other
+/// one what it is in, which comes before it.
+pub fn passing_on_objects(
+    alloc: Global,
+    parents: &[usize],
+    old: &[Layer],
+    new: &[Layer],
+) -> Result<Vec<Passing>, AllocError>
+    ensures { IfOk result (λ found. AllZip
+        (TellsRegions parents.now (map rules_of old.now) (map rules_of new.now))
+        for_files.all_rights found.items) }
+{
+    let mut found = Vec::new(alloc);
+    for right in FsRight::all() {
+        found.push(regions_with(alloc, parents, old, new, *right)?)?;
+    }
+    Ok(found)
+}
+
+/// On which ports a right for ports passes.
+fn ports_with(
+    alloc: Global,
+    count: usize,
+    old: &[Layer],
+    new: &[Layer],
+    right: NetRight,
+) -> Result<Passing, AllocError>
+    ensures { IfOk result
+        (TellsPorts count (map rules_of old.now) (map rules_of new.now) (net_right right)) }
+{
+    let old = all_on_ports(alloc, old, right)?;
+    let new = all_on_ports(alloc, new, right)?;
+    passing_of(alloc, count, &old, &new)
+}
+
+/// On which of so many ports each right for ports passes.
+pub fn passing_on_ports(
+    alloc: Global,
+    count: usize,
+    old: &[Layer],
+    new: &[Layer],
+) -> Result<Vec<Passing>, AllocError>
+    ensures { IfOk result (λ found. AllZip
+        (TellsPorts count (map rules_of old.now) (map rules_of new.now))
+        for_ports.all_rights found.items) }
+{
+    let mut found = Vec::new(alloc);
+    for right in NetRight::all() {
+        found.push(ports_with(alloc, count, old, new, *right)?)?;
+    }
+    Ok(found)
+}

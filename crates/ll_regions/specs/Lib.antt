@@ -1,5 +1,0 @@
-pub mod Regions
-pub mod AlikeMoves
-pub mod Outlines
-pub mod Comparing
-pub mod Passing

@@ -1,0 +1,4 @@
+pub mod Folds
+pub mod Texts
+pub mod Writing
+pub mod Answering
