@@ -71,6 +71,9 @@ struct node {
 #define DETACHED 16 /* the walk ends: at a root that is not that of its mount */
 #define INTERNAL 32 /* a mount of the kernel's own: Landlock allows everything there */
 
+/* As long as the path of a cgroup may be where the kernel tells of one that is made (TRACE_CGROUP_PATH_LEN). */
+#define CGROUP_PATH_BYTES 1024
+
 /* What the BPF programs count. */
 enum count {
     HEARD,      /* events */

@@ -10,6 +10,7 @@
 #include <sys/stat.h>
 #include <sys/vfs.h>
 #include <unistd.h>
+#include "event.h"
 #include "printing.h"
 
 #define FIRST_NAMESPACE "pid:[4026531836]" /* PROC_PID_INIT_INO */
@@ -32,35 +33,41 @@ static int is_cgroup(const char *path)
     return !statfs(path, &about) && about.f_type == CGROUP2_SUPER_MAGIC;
 }
 
-/* How many directories are above a cgroup in the hierarchy; -1 if it is none of version 2. */
-static int depth_of(const char *path)
+/* How many directories are above a cgroup in the hierarchy; -1 if it is none of version 2. `path` is its real path, of
+ * which the path in the hierarchy, if any, is left. */
+static int depth_of(char *path)
 {
     char over[PATH_MAX];
     int depth = -1;
+    size_t root = 0;
 
-    if (!realpath(path, over))
-        return -1;
+    strcpy(over, path);
     while (is_cgroup(over)) {
         char *last = strrchr(over, '/');
 
         depth++;
+        root = strlen(over);
         if (last == over)
             break;
         *last = 0;
     }
+    memmove(path, path + root, strlen(path + root) + 1);
     return depth;
 }
 
 int follow_cgroup(const struct loaded *loaded, const char *path)
 {
     struct stat about;
-    int depth = depth_of(path);
+    char real[PATH_MAX];
+    int depth = realpath(path, real) ? depth_of(real) : -1;
 
     if (depth < 0 || stat(path, &about) || !S_ISDIR(about.st_mode)) {
         fprintf(stderr, "landaudit-witness: %s is no directory of a cgroup (version 2)\n", path);
         return 0;
     }
     loaded->programs->bss->cgroup_depth = depth;
+    if (strlen(real) < CGROUP_PATH_BYTES)
+        strcpy(loaded->programs->bss->cgroup_path, real);
     loaded->programs->bss->cgroup = about.st_ino;
     return 1;
 }

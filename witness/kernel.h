@@ -104,6 +104,14 @@ struct socket {
     struct sock *sk;
 };
 
+struct kernfs_node {
+    u64 id;
+};
+
+struct cgroup {
+    struct kernfs_node *kn;
+};
+
 #pragma clang attribute pop
 
 struct sockaddr;

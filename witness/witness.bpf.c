@@ -77,9 +77,12 @@ struct {
 
 /* The depth of the PID namespace in whose numbers events name processes: that of the witness. */
 __u32 level;
-/* A cgroup all of whose processes are followed, by its number and its depth in the hierarchy; 0 if there is none. */
-__u64 cgroup;
+/* A cgroup all of whose processes are followed, by its number, and its depth and path in the hierarchy; 0 if there is
+ * none. */
+volatile __u64 cgroup;
 __u32 cgroup_depth;
+char cgroup_path[CGROUP_PATH_BYTES];
+char made_path[CGROUP_PATH_BYTES]; /* of the one that is made: the kernel tells of one at a time */
 /* How many processes are followed, beside the first. */
 volatile __u64 following;
 
@@ -692,6 +695,19 @@ int BPF_PROG(exited, struct task_struct *task)
 {
     tell_exit(task);
     unfollow(task);
+    return 0;
+}
+
+/* A service manager that restarts a unit removes its cgroup, and makes another one of the same path. */
+SEC("tp_btf/cgroup_mkdir")
+int BPF_PROG(cgroup_made, struct cgroup *made, const char *path)
+{
+    if (!cgroup || bpf_probe_read_kernel_str(made_path, sizeof(made_path), path) < 0)
+        return 0;
+    for (u32 at = 0; at < sizeof(made_path) && (at == 0 || made_path[at - 1]); at++)
+        if (made_path[at] != cgroup_path[at])
+            return 0;
+    cgroup = BPF_CORE_READ(made, kn, id);
     return 0;
 }
 

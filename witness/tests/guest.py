@@ -9,6 +9,7 @@ import shutil
 import socket
 import subprocess
 import sys
+import threading
 import time
 from collections.abc import Callable
 from pathlib import Path
@@ -17,6 +18,8 @@ from typing import Any
 FOLDER, RECORDINGS = Path("/tmp/probes"), Path("/tmp/recordings")
 #: The probe whose standard input is a socket.
 GIVEN_SOCKET = "given_socket"
+#: The seconds before each thing that is done while a recording is made.
+BETWEEN = 8.0
 #: What is measured: shell commands, each with the number of its turns in place of @.
 MEASURED = {
     "start": "true",
@@ -51,6 +54,15 @@ def record(run: Callable[[list[str]], int], words: list[str], work: Path, given:
     os.chdir(work)
     os.dup2(given, 0)
     os._exit(run(words))
+
+
+def do_meanwhile(recording: Path, commands: list[list[str]]) -> None:
+    """Runs commands while a recording is made, some seconds apart, from when a witness has begun to write."""
+    for words in commands:
+        while not (recording / "witness.jsonl").exists():
+            time.sleep(0.5)
+        time.sleep(BETWEEN)
+        subprocess.run(words, check=False)
 
 
 def spent(words: list[str]) -> float:
@@ -103,8 +115,12 @@ def main(checkout: str, probes: str, out: str) -> None:
         if probe is None:
             workshop.fill()
         work = workshop.WORK if probe is None else prepare(probes, probe)
-        words = ["run", str(RECORDINGS / job["name"]), *job["options"], "--", *job["command"]]
+        recording = RECORDINGS / job["name"]
+        words = ["run", str(recording), *job["options"], *(["--", *job["command"]] if "command" in job else [])]
+        beside = threading.Thread(target=do_meanwhile, args=(recording, job.get("meanwhile", [])))
+        beside.start()
         record(cli.main, words, work, standard_input(probe or ""))
+        beside.join()
         if (RECORDINGS / job["name"]).is_dir():
             shutil.copytree(RECORDINGS / job["name"], Path(out, "recordings", job["name"]))
         print(f"{job['name']}: {time.monotonic() - began:.1f} s", flush=True)
