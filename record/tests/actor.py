@@ -28,8 +28,8 @@ from pathlib import Path
 
 sys.path.insert(0, str(Path(__file__).resolve().parents[1]))
 
-from landaudit_record import landlock_calls as landlock  # noqa: E402
-from landaudit_record.rights import FILE_RIGHTS, FS, NEWEST_ABI, OLDEST_ABI  # noqa: E402
+from landaudit_record.common.rights import FILE_RIGHTS, FS, NEWEST_ABI, OLDEST_ABI  # noqa: E402
+from landaudit_record.policy import landlock_calls as landlock  # noqa: E402
 
 SKELETON = ("a", "a/x", "a/x/u", "a/y", "b", "b/x", "b/y", "b/y/v", "c")
 FIXED_FILES = ("r", "a/r", "a/x/r", "b/y/r")

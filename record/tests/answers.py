@@ -7,12 +7,14 @@ import tempfile
 from collections.abc import Iterator
 from pathlib import Path
 
-from landaudit_record import finished, landaudit, reports, trying
-from landaudit_record.finished import Finished
-from landaudit_record.policies import Policy
-from landaudit_record.problems import Problem
-from landaudit_record.recorder.progress import Progress
-from landaudit_record.trying import Auditing
+from landaudit_record.audit import auditor
+from landaudit_record.audit.auditor import Auditing
+from landaudit_record.common import finished
+from landaudit_record.common.finished import Finished
+from landaudit_record.common.problems import Problem
+from landaudit_record.common.progress import Progress
+from landaudit_record.engine import landaudit, reports
+from landaudit_record.policy.policies import Policy
 
 ABIS = range(1, 6)
 #: The numbers of lines in a report. In a path quotes have a backslash before them, so none is in a path.
@@ -36,7 +38,7 @@ def answers(
     Records that are written again are none of the recording's, nor is the policy that is put in with them.
     """
     recording = finished.opened(str(folder))
-    tried = None if policy is None else trying.tried(recording, policy, program)
+    tried = None if policy is None else auditor.tried(recording, policy, program)
     found: list[bytes] = []
     steps = [ABIS] if tried is None else tried.steps(ABIS, best_effort=best_effort)
     with tempfile.TemporaryDirectory() as name, Progress() as progress:

@@ -1,15 +1,16 @@
 #!/usr/bin/env python3
 """Random policies by brute force: whether what landaudit-policy diff and check and landaudit-record tighten say holds.
 
-    record/tests/brute.py [--pairs N] [--calls N] [--checks N] [--cases N] [--policies N] [--records N] [--first SEED]
-                          [--landaudit PATH]
+    record/tests/brute.py [--pairs N] [--calls N] [--checks N] [--cases N] [--asked N] [--questions N]
+                          [--policies N] [--records N] [--first SEED] [--landaudit PATH]
 
 Of each pair of policies, random calls on random trees are asked of landaudit under both. Where one policy alone lets a
 call pass, a line of `diff` is to cover something that the call needs; and a line is to cover a call that needs one
 thing alone only where that differs. In half of the trees, the objects that policies have rules on are elsewhere, in one
 another, and files have several names: there a line is to name a right that the call needs. For each line on objects
 that are moved, a tree is made in which they are as it says. Paths are on this disk, where some of them are by way of
-links; policies have scopes and groups of rules. Random cases about files on this disk are checked (`random_checks`).
+links; policies have scopes and groups of rules. Random cases about files on this disk are checked (`random_checks`), and
+random questions about all objects (`random_questions`).
 
 Of each policy of ten rules `tighten` makes another for random recordings: it is to grant nothing more and refuse
 nothing new, and each right on each path and port is taken from it by itself, to see that something is refused. Policies
@@ -36,12 +37,15 @@ from unittest import mock
 if __name__ == "__main__":
     sys.path.insert(0, str(Path(__file__).resolve().parents[1]))
 
-from landaudit_record import asking, cli, jsonl, landaudit, policies  # noqa: E402
-from landaudit_record.jsonl import Record  # noqa: E402
-from landaudit_record.problems import UNREADABLE, Problem  # noqa: E402
-from landaudit_record.rights import FS, NET, NEWEST_ABI, OLDEST_ABI, alone  # noqa: E402
-from landaudit_record.trees import ROOT, joined  # noqa: E402
-from tests import covering, random_checks  # noqa: E402
+from landaudit_record import cli  # noqa: E402
+from landaudit_record.common import jsonl  # noqa: E402
+from landaudit_record.common.jsonl import Record  # noqa: E402
+from landaudit_record.common.problems import UNREADABLE, Problem  # noqa: E402
+from landaudit_record.common.rights import FS, NET, NEWEST_ABI, OLDEST_ABI, alone  # noqa: E402
+from landaudit_record.common.trees import ROOT, joined  # noqa: E402
+from landaudit_record.engine import landaudit  # noqa: E402
+from landaudit_record.policy import asking, policies  # noqa: E402
+from tests import covering, random_checks, random_questions  # noqa: E402
 from tests.random_calls import Call, Caller, Move, Port, Right  # noqa: E402
 from tests.random_policies import (  # noqa: E402
     GROUPS, LINKS, NAMES, Kinds, Layer, Maker, Names, Policy, Rule, granted, meant, plain,
@@ -575,6 +579,8 @@ def main() -> int:
         ("calls", 2000, "calls of each pair"),
         ("checks", 200, "policies to check"),
         ("cases", 60, "cases of each check"),
+        ("asked", 500, "policies to ask questions about"),
+        ("questions", 5, "questions about each"),
         ("policies", 200, "policies to tighten"),
         ("records", 300, "calls of each recording"),
         ("first", 0, "the first seed"),
@@ -596,6 +602,7 @@ def _all_tried(program: Path, wanted: argparse.Namespace, ground: Ground) -> int
     faults = 0
     of_pairs = "pairs: {calls:,} calls, {differ:,} differ, {faults:,} faults"
     of_checks = "policies checked: {calls:,} cases, {faults:,} faults"
+    of_questions = "policies asked about: {calls:,} questions, {differ:,} hold, {faults:,} faults"
     of_policies = ("policies: {calls:,} records, {differ:,} rights are left, "
                    "{told:,} policies with a rule that the kernel refuses, {faults:,} faults")
 
@@ -606,10 +613,15 @@ def _all_tried(program: Path, wanted: argparse.Namespace, ground: Ground) -> int
         return tightened(program, seed, wanted.records)
 
     def check(seed: int) -> Tried:
-        cases, found = random_checks.faults(program, seed, wanted.cases)
-        return Tried(cases, 0, found)
+        cases, found = random_checks.faults(program, random.Random(seed), wanted.cases)
+        return Tried(cases, 0, [f"seed {seed}: {fault}" for fault in found])
+
+    def question(seed: int) -> Tried:
+        asked, hold, found = random_questions.faults(program, random.Random(seed), wanted.questions)
+        return Tried(asked, hold, [f"seed {seed}: {fault}" for fault in found])
 
     for what, said, count in ((pair, of_pairs, wanted.pairs), (check, of_checks, wanted.checks),
+                              (question, of_questions, wanted.asked),
                               (policy, of_policies, wanted.policies)):
         total = Tried(0, 0, [])
         for seed in range(wanted.first, wanted.first + count):

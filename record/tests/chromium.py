@@ -98,7 +98,7 @@ class Tab:
 
 @contextmanager
 def browser() -> Iterator[Tab]:
-    """A browser with one tab, with a profile of its own that is gone behind it."""
+    """A browser with one tab, with a profile of its own, which is removed afterwards."""
     assert CHROMIUM is not None
     commands_read, commands_write = os.pipe()
     answers_read, answers_write = os.pipe()

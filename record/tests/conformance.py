@@ -32,7 +32,7 @@ import actor
 import foretelling
 import workshop
 
-from landaudit_record.rights import NEWEST_ABI, OLDEST_ABI
+from landaudit_record.common.rights import NEWEST_ABI, OLDEST_ABI
 
 HERE = Path(__file__).resolve().parent
 RECORDER = HERE.parent / "landaudit-record"

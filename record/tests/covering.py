@@ -9,7 +9,7 @@ import re
 from collections.abc import Callable, Iterable
 from dataclasses import dataclass
 
-from landaudit_record.trees import upwards
+from landaudit_record.common.trees import upwards
 
 from .random_calls import Mount, Move, Need, Port, Right
 

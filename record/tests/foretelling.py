@@ -19,10 +19,10 @@ from dataclasses import dataclass
 from pathlib import Path
 from typing import Any, NamedTuple
 
-from landaudit_record import finished, jsonl
-from landaudit_record.comparing import OK
-from landaudit_record.operations import RULESET_CALLS, call_text
-from landaudit_record.problems import NOT_ALL_JUDGED
+from landaudit_record.audit.comparing import OK
+from landaudit_record.common import finished, jsonl
+from landaudit_record.common.operations import RULESET_CALLS, call_text
+from landaudit_record.common.problems import NOT_ALL_JUDGED
 
 HERE = Path(__file__).resolve().parent
 RECORDER = HERE.parent / "landaudit-record"

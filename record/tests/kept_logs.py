@@ -8,9 +8,10 @@ import unittest
 from pathlib import Path
 from typing import Any
 
-from landaudit_record import jsonl, policies
+from landaudit_record.commands.record import convert
+from landaudit_record.common import jsonl
+from landaudit_record.policy import policies
 from landaudit_record.recorder import converting
-from landaudit_record.recorder.ports import Ports
 
 LOGS = Path(__file__).parent / "logs"
 WORK = "/tmp/story/w"
@@ -23,18 +24,17 @@ class KeptLogs(unittest.TestCase):
     """A test on kept logs."""
 
     def setUp(self) -> None:
-        self._folder = tempfile.TemporaryDirectory()
-        self.addCleanup(self._folder.cleanup)
+        self._folder = self.enterContext(tempfile.TemporaryDirectory())
 
     def convert(self, name: str) -> list[jsonl.Record]:
         """The trace of a kept log."""
         folder = self.folder(name)
-        converting.convert(folder, Ports(policies.read(LOGS / "ports.toml")))
+        converting.convert(folder, convert.ports_of(policies.read(LOGS / "ports.toml")))
         return self.lines(folder, "trace.jsonl")
 
     def folder(self, name: str) -> Path:
         """A copy of a kept recording."""
-        return Path(shutil.copytree(LOGS / name, Path(self._folder.name) / name, dirs_exist_ok=True))
+        return Path(shutil.copytree(LOGS / name, Path(self._folder) / name, dirs_exist_ok=True))
 
     def lines(self, folder: Path, name: str) -> list[jsonl.Record]:
         """A file of a recording."""
@@ -42,11 +42,11 @@ class KeptLogs(unittest.TestCase):
 
     def unsaid(self, name: str) -> list[str]:
         """The classes of what could not be said of a kept log, in their order."""
-        return [line["class"] for line in self.lines(Path(self._folder.name) / name, "unsaid.jsonl")]
+        return [line["class"] for line in self.lines(Path(self._folder) / name, "unsaid.jsonl")]
 
     def tree(self, name: str) -> dict[str, str]:
         """The kinds of the objects of a converted log."""
-        return {line["path"]: line["kind"] for line in self.lines(Path(self._folder.name) / name, "tree.jsonl")}
+        return {line["path"]: line["kind"] for line in self.lines(Path(self._folder) / name, "tree.jsonl")}
 
 
 def bare(record: jsonl.Record) -> dict[str, Any]:

@@ -11,9 +11,10 @@ import unittest
 from pathlib import Path
 from typing import Any
 
-from landaudit_record import confining, landaudit
-from landaudit_record.problems import Problem
-from landaudit_record.rights import NEWEST_ABI
+from landaudit_record.common.problems import Problem
+from landaudit_record.common.rights import NEWEST_ABI
+from landaudit_record.engine import landaudit
+from landaudit_record.policy import confining
 
 HERE = Path(__file__).resolve().parent
 RECORDER = HERE.parent / "landaudit-record"
@@ -49,9 +50,7 @@ class LiveActor(unittest.TestCase):
     """Each test records one actor and compares every call of it."""
 
     def setUp(self) -> None:
-        folder = tempfile.TemporaryDirectory()
-        self.addCleanup(folder.cleanup)
-        self.folder = Path(folder.name).resolve()
+        self.folder = Path(self.enterContext(tempfile.TemporaryDirectory())).resolve()
         self.folder.chmod(0o755)
         self.work = self.folder / "work"
         self.work.mkdir()

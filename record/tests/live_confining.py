@@ -11,8 +11,8 @@ import tempfile
 import unittest
 from pathlib import Path
 
-from landaudit_record import confining, landlock_calls
-from landaudit_record.rights import NET
+from landaudit_record.common.rights import ABI_OF_SCOPES, NET
+from landaudit_record.policy import landlock_calls
 
 from .live_actor import CONFINER, PYTHON, RECORDER, wanting
 
@@ -62,7 +62,7 @@ class LiveConfining(unittest.TestCase):
         self.assertEqual((run.returncode, run.stderr), (4, f"landaudit-policy: true: {why}\n"))
 
     def test_scopes(self) -> None:
-        if landlock_calls.kernel_abi() < confining.ABI_OF_SCOPES:
+        if landlock_calls.kernel_abi() < ABI_OF_SCOPES:
             self.skipTest("this kernel has no scopes")
         kill = ("sh", "-c", f"kill -0 {os.getpid()}")
         self.policy.write_text('[[layer]]\nhandled_access_fs = ["make_sock"]\n')

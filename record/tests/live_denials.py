@@ -12,7 +12,8 @@ import unittest
 from pathlib import Path
 from typing import Any
 
-from landaudit_record import landlock_calls
+from landaudit_record.common.rights import ABI_OF_LOG
+from landaudit_record.policy import landlock_calls
 
 from . import kernel_audit
 from .live_actor import CONFINER, PYTHON, RECORDER
@@ -120,8 +121,8 @@ def wanting() -> str | None:
         abi = landlock_calls.kernel_abi()
     except OSError as error:
         return f"this kernel has no Landlock: {error.strerror}"
-    if abi < landlock_calls.ABI_OF_LOG:
-        return f"this kernel has ABI {abi}, and logs denials from ABI {landlock_calls.ABI_OF_LOG} on"
+    if abi < ABI_OF_LOG:
+        return f"this kernel has ABI {abi}, and logs denials from ABI {ABI_OF_LOG} on"
     return kernel_audit.wanting()
 
 
@@ -184,7 +185,7 @@ class LiveDenials(unittest.TestCase):
         self.assertEqual(set(said["without_rule"]["no_rule_can"]), {"kill", "connect", "readlink"})
 
     def add(self, rules: list[dict[str, Any]]) -> None:
-        """Puts rules into their layers: those of the last layer are pasted behind it, those of the first before it."""
+        """Puts rules into their layers: those of the last layer are pasted after it, those of the first before it."""
         before, _, behind = self.policy.read_text().rpartition("[[layer]]\n")
         layers = {1: before, 2: behind}
         for rule in rules:

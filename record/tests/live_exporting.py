@@ -1,14 +1,21 @@
-"""A policy as C beside landaudit-policy confine on a running kernel: what a program may do under both is the same."""
+"""A policy in other forms beside landaudit-policy confine on a running kernel: what a program may do is the same.
+
+What a form can't say is widened: then the program may do what the form says, and no less than the policy lets it do.
+"""
 
 from __future__ import annotations
 
+import os
 import shutil
 import subprocess
 import sys
 import tempfile
 import unittest
+from collections.abc import Callable, Mapping
+from dataclasses import dataclass
 from pathlib import Path
 
+from . import libraries
 from .live_actor import CONFINER, POLICIES, PYTHON, WORK, wanting
 
 MAIN = """
@@ -25,6 +32,35 @@ int main(int argc, char **argv)
     }
     execvp(argv[1], argv + 1);
     return 98;
+}
+"""
+MAIN_OF_RUST = """
+mod policy;
+use std::os::unix::process::CommandExt;
+fn main() {
+    let words: Vec<_> = std::env::args_os().skip(1).collect();
+    match policy::confine_by_policy() {
+        Ok(_) => eprintln!("{}", std::process::Command::new(&words[0]).args(&words[1..]).exec()),
+        Err(error) => eprintln!("{error}"),
+    }
+    std::process::exit(99);
+}
+"""
+MAIN_OF_GO = """package main
+
+import (
+	"fmt"
+	"os"
+	"syscall"
+)
+
+func main() {
+	err := ConfineByPolicy()
+	if err == nil {
+		err = syscall.Exec(os.Args[1], os.Args[1:], os.Environ())
+	}
+	fmt.Fprintln(os.Stderr, err)
+	os.Exit(99)
 }
 """
 #: Tries calls of every kind in three folders and on two devices, and prints how each ends.
@@ -76,17 +112,97 @@ for port in (20081, 20082, 28080, 443):
 FOLDERS = ("actor/a", "actor/b/y", "src", "out")
 
 
-def missing() -> str | None:
-    """Why these tests can't run here, if they can't."""
-    return wanting() or (None if shutil.which("cc") else "no C compiler is installed")
 
 
-@unittest.skipIf(missing() is not None, missing() or "")
+def exported(policy: Path, *words: str) -> bytes:
+    """What an export prints; notes on what is wider are no failure."""
+    command = [PYTHON, CONFINER, "export", policy, *words]
+    return subprocess.run(command, stdout=subprocess.PIPE, stderr=subprocess.DEVNULL, check=True).stdout
+
+
+def by_c(folder: Path, policy: Path) -> list[str]:
+    """The command that confines itself by C and becomes another one."""
+    (folder / "main.c").write_text(MAIN)
+    (folder / "policy.c").write_bytes(exported(policy, "--c"))
+    words = ["cc", "-std=c99", "-Wall", "-Wextra", "-Werror", "policy.c", "main.c", "-o", "confined"]
+    subprocess.run(words, cwd=folder, check=True)
+    return [str(folder / "confined")]
+
+
+def by_rust(folder: Path, policy: Path) -> list[str]:
+    """The same by Rust; what one policy needs of the crate is built once for all."""
+    if not (folder / "src").exists():
+        libraries.crate(folder)
+    (folder / "src" / "main.rs").write_text(MAIN_OF_RUST)
+    (folder / "src" / "policy.rs").write_bytes(exported(policy, "--rust"))
+    environment = {**os.environ, "RUSTFLAGS": "-D warnings"}
+    subprocess.run(["cargo", "build", "-q", "--offline"], cwd=folder, env=environment, check=True)
+    return [str(folder / "target" / "debug" / "confined")]
+
+
+def by_go(folder: Path, policy: Path) -> list[str]:
+    """The same by Go. Without cgo, go-landlock adds no rule of its own."""
+    (folder / "go").mkdir(exist_ok=True)
+    (folder / "go" / "main.go").write_text(MAIN_OF_GO)
+    (folder / "go" / "policy.go").write_bytes(exported(policy, "--go"))
+    environment = {**libraries.go_environment(libraries.GO), "CGO_ENABLED": "0"}
+    words = [str(libraries.go()), "build", "-o", folder / "confined-go", "."]
+    subprocess.run(words, cwd=folder / "go", env=environment, check=True)
+    return [str(folder / "confined-go")]
+
+
+def by_setpriv(folder: Path, policy: Path) -> list[str]:
+    """A script that runs a command by setpriv."""
+    return _script(folder, policy, "setpriv", libraries.setpriv())
+
+
+def by_landrun(folder: Path, policy: Path) -> list[str]:
+    """A script that runs a command by landrun."""
+    return _script(folder, policy, "landrun", libraries.program("landrun"))
+
+
+def _script(folder: Path, policy: Path, name: str, program: list[str] | None) -> list[str]:
+    """A script that is exported, with the words that run its program; landrun gives no environment on."""
+    assert program is not None
+    text = exported(policy, f"--{name}", "--widen").decode()
+    assert text.count(f"\n{name} \\\n") == 1
+    (folder / "script.sh").write_text(text.replace(f"\n{name} \\\n", f"\n{' '.join(program)} \\\n"))
+    return ["sh", str(folder / "script.sh")]
+
+
+@dataclass(frozen=True)
+class Form:
+    """A form: what makes the command that runs others under a policy, why that can't be, whether it may be wider, and
+    the policies of which it can say nothing.
+    """
+
+    command: Callable[[Path, Path], list[str]]
+    wanting: Callable[[], str | None]
+    is_poorer: bool = False
+    unsaid: tuple[str, ...] = ()
+
+
+def unless(there: object, what: str) -> str | None:
+    """What is not there, if that is so."""
+    return None if there else f"{what} is not there ({libraries.__name__})"
+
+
+FORMS: Mapping[str, Form] = {
+    "c": Form(by_c, lambda: unless(shutil.which("cc"), "a C compiler")),
+    "rust": Form(by_rust, lambda: unless(libraries.has_crate(), "the crate landlock")),
+    "go": Form(by_go, lambda: unless(libraries.has_go_landlock(), "go-landlock, or Go 1.24,")),
+    "setpriv": Form(by_setpriv, lambda: unless(libraries.setpriv(), "a setpriv that knows Landlock"), is_poorer=True,
+                    unsaid=("no-network.toml",)),
+    "landrun": Form(by_landrun, lambda: unless(libraries.program("landrun"), "landrun"), is_poorer=True),
+}
+
+
+@unittest.skipIf(wanting() is not None, wanting() or "")
 class LiveExporting(unittest.TestCase):
     def setUp(self) -> None:
         self.folder = Path(self.enterContext(tempfile.TemporaryDirectory())).resolve()
-        (self.folder / "main.c").write_text(MAIN)
         self.work = self.folder / "work"
+        self.policy = self.folder / "policy.toml"
 
     def fill(self) -> None:
         """Fills the folder in which the probe works, always alike."""
@@ -103,45 +219,65 @@ class LiveExporting(unittest.TestCase):
         run = subprocess.run(words, capture_output=True, text=True, check=False)
         return run.returncode, run.stdout, run.stderr
 
-    def test_the_same_calls_pass(self) -> None:
-        refusals: set[str] = set()
-        for file in sorted(POLICIES.rglob("*.toml")):
-            with self.subTest(file.name):
-                policy = self.folder / "policy.toml"
-                policy.write_text(file.read_text().replace(WORK, str(self.work)))
-                code = subprocess.run([PYTHON, CONFINER, "export", policy, "--c"], capture_output=True, check=True).stdout
-                (self.folder / "policy.c").write_bytes(code)
-                words = ["cc", "-std=c99", "-Wall", "-Wextra", "-Werror", "policy.c", "main.c", "-o", "confined"]
-                subprocess.run(words, cwd=self.folder, check=True)
-                probe = (PYTHON, "-c", PROBE, self.work)
-                status, by_c, error = self.said(self.folder / "confined", *probe)
-                _, by_python, _ = self.said(PYTHON, CONFINER, "confine", policy, "--", *probe)
-                self.assertEqual(by_c, by_python)
-                if "start-only" not in file.name:
-                    self.assertEqual((status, len(by_c.splitlines())), (0, 5 * 19 + 5 * 3 + 4 * 2), error)
-                refusals.update(line.split()[-1] for line in by_c.splitlines())
-        self.assertLessEqual({"ok", "EACCES", "EXDEV"}, refusals)
+    def confined(self, policy: Path, *words: str | Path) -> tuple[int, str, str]:
+        """What a command says under a policy."""
+        return self.said(PYTHON, CONFINER, "confine", policy, "--", *words)
 
+    def test_the_same_calls_pass(self) -> None:
+        for name, form in FORMS.items():
+            if (why := form.wanting()) is not None:
+                print(f"skipped: --{name}: {why}", file=sys.stderr)
+                continue
+            refusals: set[str] = set()
+            for file in (it for it in sorted(POLICIES.rglob("*.toml")) if it.name not in form.unsaid):
+                with self.subTest(file.name, form=name):
+                    self.policy.write_text(file.read_text().replace(WORK, str(self.work)))
+                    self.fill()
+                    refusals |= self.compare(name, form, (PYTHON, "-c", PROBE, self.work), "start-only" in file.name)
+            self.assertLessEqual({"ok", "EACCES", "EXDEV"}, refusals)
+
+    def compare(self, name: str, form: Form, probe: tuple[str | Path, ...], fails: bool) -> set[str]:
+        """Compares a form with confine; gives how calls end."""
+        status, by_form, error = self.said(*form.command(self.folder, self.policy), *probe)
+        _, by_confine, _ = self.confined(self.policy, *probe)
+        if form.is_poorer:
+            self.assertEqual(by_form, self.confined(self.imported(name), *probe)[1], error)
+            self.assertLessEqual(passing(by_confine), passing(by_form))
+        else:
+            self.assertEqual(by_form, by_confine, error)
+        if not fails:
+            self.assertEqual((status, len(by_form.splitlines())), (0, 5 * 19 + 5 * 3 + 4 * 2), error)
+        return {line.split()[-1] for line in by_form.splitlines()}
+
+    def imported(self, name: str) -> Path:
+        """The policy of what was exported."""
+        words = [PYTHON, CONFINER, "import", f"--{name}", exported(self.policy, f"--{name}", "--widen")]
+        path = self.folder / "imported.toml"
+        path.write_bytes(subprocess.run(words, stdout=subprocess.PIPE, check=True).stdout)
+        return path
+
+    @unittest.skipUnless(shutil.which("cc"), "no C compiler is installed")
     def test_where_the_kernel_refuses_a_rule_the_errno_is_given(self) -> None:
-        policy = self.folder / "policy.toml"
         rule = '[[layer.path_beneath]]\nallowed_access = ["read_dir"]\nparent = "/etc/passwd"\n'
-        policy.write_text(f'[[layer]]\nhandled_access_fs = ["all"]\n{rule}')
-        code = subprocess.run([sys.executable, CONFINER, "export", policy, "--c"], capture_output=True, check=True).stdout
-        (self.folder / "policy.c").write_bytes(code)
-        subprocess.run(["cc", "-std=c99", "policy.c", "main.c", "-o", "confined"], cwd=self.folder, check=True)
-        self.assertEqual(self.said(self.folder / "confined", "true"), (99, "", "Invalid argument\n"))
+        self.policy.write_text(f'[[layer]]\nhandled_access_fs = ["all"]\n{rule}')
+        self.assertEqual(self.said(*by_c(self.folder, self.policy), "true"), (99, "", "Invalid argument\n"))
 
     def test_a_group_on_a_file_that_gets_no_right_of_it(self) -> None:
-        policy = self.folder / "policy.toml"
-        policy.write_text('[[layer]]\nhandled_access_fs = ["read_dir"]\ninclude = ["base", "nameservice", "ssl"]\n')
-        code = subprocess.run([sys.executable, CONFINER, "export", policy, "--c"], capture_output=True, check=True).stdout
-        (self.folder / "policy.c").write_bytes(code)
-        subprocess.run(["cc", "-std=c99", "policy.c", "main.c", "-o", "confined"], cwd=self.folder, check=True)
-        listing = ("sh", "-c", "echo /usr/lib/*; echo /h*")
-        by_c = self.said(self.folder / "confined", *listing)
-        self.assertEqual(by_c, self.said(PYTHON, CONFINER, "confine", policy, "--", *listing))
-        self.assertEqual((by_c[0], by_c[1].splitlines()[1]), (0, "/h*"))
-        self.assertNotIn("*", by_c[1].splitlines()[0])
+        groups = 'include = ["base", "nameservice", "ssl"]\n'
+        self.policy.write_text(f'[[layer]]\nhandled_access_fs = ["read_dir"]\n{groups}')
+        listing = ("/bin/sh", "-c", "echo /usr/lib/*; echo /h*")
+        for name, form in FORMS.items():
+            if form.wanting() is None and not form.is_poorer:
+                with self.subTest(name):
+                    by_form = self.said(*form.command(self.folder, self.policy), *listing)
+                    self.assertEqual(by_form, self.confined(self.policy, *listing))
+                    self.assertEqual((by_form[0], by_form[1].splitlines()[1]), (0, "/h*"))
+                    self.assertNotIn("*", by_form[1].splitlines()[0])
+
+
+def passing(said: str) -> set[str]:
+    """The calls that pass, by the lines of the probe."""
+    return {line for line in said.splitlines() if line.endswith(" ok")}
 
 
 if __name__ == "__main__":

@@ -14,7 +14,7 @@ import unittest
 from pathlib import Path
 from typing import Any
 
-from landaudit_record import jsonl
+from landaudit_record.common import jsonl
 from landaudit_record.recorder import formats
 from landaudit_record.recorder.calls import programs
 from landaudit_record.recorder.formats import REGISTERED

@@ -9,12 +9,12 @@ import tempfile
 import unittest
 from pathlib import Path
 
-from landaudit_record import confining, policies
-from landaudit_record.landaudit import BUILT
-from landaudit_record.policies import Policy
-from landaudit_record.problems import Problem
-from landaudit_record.rights import FS, NET, NEWEST_ABI, Rights
-from landaudit_record.variables import Given
+from landaudit_record.common.problems import Problem
+from landaudit_record.common.rights import FS, NET, NEWEST_ABI, Rights
+from landaudit_record.common.variables import Given
+from landaudit_record.engine.landaudit import BUILT
+from landaudit_record.policy import confining, policies
+from landaudit_record.policy.policies import Policy
 
 from .live_actor import CONFINER, RECORDER
 from .live_exporting import MAIN

@@ -123,9 +123,7 @@ class LiveObjects(unittest.TestCase):
     """Each shape in a folder of its own, filled alike."""
 
     def setUp(self) -> None:
-        folder = tempfile.TemporaryDirectory()
-        self.addCleanup(folder.cleanup)
-        self.folder = Path(folder.name).resolve()
+        self.folder = Path(self.enterContext(tempfile.TemporaryDirectory())).resolve()
 
     def fill(self, name: str) -> Path:
         """A folder with a policy about it."""

@@ -17,19 +17,24 @@ import subprocess
 import tempfile
 import unittest
 from collections import Counter
-from collections.abc import Iterator
+from collections.abc import Iterator, Sequence
 from contextlib import ExitStack
 from pathlib import Path
 from typing import Any, ClassVar
 
-from landaudit_record import page, policies
-from landaudit_record.answers import Missing
-from landaudit_record.landaudit import BUILT
-from landaudit_record.page.counting import Paths
-from landaudit_record.reading import Place
-from landaudit_record.summary import Accepted, Refusal, RefusingLayer, Summary
-from landaudit_record.trees import Tree, upwards
-from landaudit_record.trying import Tried
+from landaudit_record.audit.auditor import Tried
+from landaudit_record.audit.moot import FAILED_TOO, Unasked
+from landaudit_record.audit.summary import Accepted, Refusal, RefusingLayer, Summary
+from landaudit_record.audit.warnings import OfLog
+from landaudit_record.common.trees import Tree, upwards
+from landaudit_record.engine.answers import Missing
+from landaudit_record.engine.landaudit import BUILT
+from landaudit_record.engine.reading import Place
+from landaudit_record.engine.subjects import Subject
+from landaudit_record.policy import policies
+from landaudit_record.summaries import page
+from landaudit_record.summaries.page.counting import Paths
+from landaudit_record.summaries.page.recorded import Facts
 
 from .chromium import CHROMIUM, Tab, browser
 from .pages import Element, read
@@ -45,6 +50,9 @@ SOON = 2.0
 MOST_PAGES = 5
 DIRECTORIES = ("/usr/lib/python3.11", "/usr/include/linux", "/home/builder/src/crypto/evp", "/etc/ssl/certs", "/tmp/cc")
 CALLS = (("open r", "read_file"), ("open w create", "make_reg"), ("exec", "execute"), ("open w trunc", "truncate"))
+#: What a recording says of itself.
+FACTS = [("command", "make -j4 -C /home/builder/src/openssl build_libs build_programs"), ("in", "/home/builder/src"),
+         ("when", "2026-11-29 18:46 UTC"), ("by", "strace 6.1"), ("kernel", "Linux 6.1.0-13-amd64"), ("user", "root")]
 #: A policy that lets a build in the folder `@` work but for what its compiler puts into /tmp, and for truncating.
 POLICY = """[[layer]]
 handled_access_fs = ["all"]
@@ -75,7 +83,7 @@ def refusals(groups: int, abi: int) -> Iterator[tuple[Refusal, int]]:
             continue
         place = f"{DIRECTORIES[number % len(DIRECTORIES)]}/{number % 7}/file_{number}"
         layer = RefusingLayer(1, 1, (Missing((right,), place),))
-        yield Refusal(call, place, "EACCES", (layer,), None), 1 + number % 5
+        yield Refusal(call, Subject((place,)), "EACCES", (layer,), None), 1 + number % 5
 
 
 def summary(abi: int, groups: int) -> Summary:
@@ -83,14 +91,14 @@ def summary(abi: int, groups: int) -> Summary:
     found = Summary(abi, Counter(allowed=90_210, moot=412))
     for refusal, times in refusals(groups, abi):
         found.refusals[refusal] = Counter({"/usr/bin/make": times})
-        found.not_allowed["refused"][(refusal.place,)] = times
+        found.not_allowed["refused"][refusal.subject.paths] = times
     found.verdicts["refused"] = sum(programs.total() for programs in found.refusals.values())
-    found.moot = {"is not in the tree": Counter({"/etc/ld.so.preload": 400, "/etc/nscd": 12})}
+    found.moot = {Unasked("absent"): Counter({Subject(("/etc/ld.so.preload",)): 400, Subject(("/etc/nscd",)): 12})}
     found.unsaid = Counter({"a line that is not understood": 3})
     return found
 
 
-def written(folder: Path, summaries: list[Summary], name: str = "build.rec") -> Path:
+def written(folder: Path, summaries: list[Summary], name: str = "build.rec", facts: Sequence[Facts] = ()) -> Path:
     """The page of summaries, as a file."""
     calls: Counter[Place] = Counter()
     for one in summaries:
@@ -98,7 +106,7 @@ def written(folder: Path, summaries: list[Summary], name: str = "build.rec") -> 
             calls[place] = times + 7
     file = folder / "page.html"
     suggesting = ["landaudit-record", "suggest", name, "--policy", "policy.toml"]
-    about = page.About(name, "policy.toml", False, suggesting)
+    about = page.Title(name, "policy.toml", False, suggesting, facts)
     file.write_text(page.made(about, summaries, Paths(calls, summaries), tried_in(folder, summaries)), encoding="utf-8")
     return file
 
@@ -107,8 +115,9 @@ def tried_in(folder: Path, summaries: list[Summary]) -> Tried:
     """A policy that denies all, tried on the files that the summaries tell of."""
     file = folder / "policy.toml"
     file.write_text('[[layer]]\nhandled_access_fs = ["all"]\n', encoding="utf-8")
-    kinds = {over: "dir" for one in summaries for refusal in one.refusals for over in upwards(refusal.place)}
-    kinds |= {refusal.place: "reg" for one in summaries for refusal in one.refusals}
+    kinds = {over: "dir" for one in summaries for refusal in one.refusals for path in refusal.subject.paths
+             for over in upwards(path)}
+    kinds |= {path: "reg" for one in summaries for refusal in one.refusals for path in refusal.subject.paths}
     return Tried(None, policies.read(file), None, Tree(kinds), [])  # type: ignore[arg-type]
 
 
@@ -117,11 +126,11 @@ def hostile() -> Summary:
     found = Summary(5, Counter(allowed=1, refused=len(HOSTILE)))
     for name in HOSTILE:
         layer = RefusingLayer(1, 1, (Missing((name,), f"/a/{name}"),))
-        found.refusals[Refusal(name, f"/a/{name}", name, (layer,), None)] = Counter({name: 1})
+        found.refusals[Refusal(name, Subject((f"/a/{name}",)), name, (layer,), None)] = Counter({name: 1})
         found.not_allowed["refused"][(f"/a/{name}",)] = 1
-        found.accepted[Accepted(name, name, name)] = 1
-        found.moot[name] = Counter({name: 1})
-    found.warnings, found.unsaid, found.missing = dict.fromkeys(HOSTILE, 1), Counter(HOSTILE), HOSTILE
+        found.accepted[Accepted(name, Subject((name,)), name)] = 1
+        found.moot[Unasked(FAILED_TOO, error=name)] = Counter({Subject((name,)): 1})
+    found.warnings, found.unsaid, found.missing = dict.fromkeys(map(OfLog, HOSTILE), 1), Counter(HOSTILE), HOSTILE
     return found
 
 
@@ -214,6 +223,30 @@ class LivePage(unittest.TestCase):
                     self.assertEqual(self.tab.says(CUT), [])
             self.assertNotEqual(pictures["light"], pictures["dark"])
 
+    def test_the_first_screen_has_a_rule_to_copy(self) -> None:
+        file = written(self.folder, [summary(abi, 40) for abi in range(1, 6)], facts=[FACTS])
+        for width in WIDTHS:
+            with self.subTest(width=width):
+                self.tab.wide(width, 760)
+                self.tab.open(file)
+                below = self.tab.says("document.querySelector('.card pre').getBoundingClientRect().bottom")
+                self.assertLess(below, 760)
+
+    def test_no_number_or_name_is_broken_on_a_phone(self) -> None:
+        """Of a long recording with long numbers, and of what was recorded."""
+        summaries = [summary(abi, 40) for abi in range(1, 6)]
+        for one in summaries:
+            one.verdicts["allowed"] = 12_345_678
+        file = written(self.folder, summaries, facts=[FACTS])
+        self.tab.wide(400)
+        self.tab.open(file)
+        lines = ("(one => { const range = document.createRange(); range.selectNodeContents(one);"
+                 " return new Set([...range.getClientRects()].map(at => at.top)).size; })")
+        broken = (f"[...document.querySelectorAll('.matrix td, .matrix tbody th, .recorded dt')]"
+                  f".filter(one => !one.textContent.includes(' ') && {lines}(one) > 1).map(one => one.textContent)")
+        self.assertEqual(self.tab.says(broken), [])
+        self.assertEqual(self.tab.says(WIDER), 0)
+
     def test_many_groups_are_there_soon(self) -> None:
         file = self.build(MANY)
         self.tab("Performance.enable", timeDomain="threadTicks")
@@ -305,6 +338,20 @@ class LivePage(unittest.TestCase):
         heights = self.tab.says(f"{VISIBLE}.slice(0, 9).{tall}")
         line = self.tab.says("parseFloat(getComputedStyle(document.body).lineHeight)")
         self.assertLess(max(heights), 4 * line)
+
+    def test_a_kind_of_many_programs_takes_three_lines_on_a_phone(self) -> None:
+        found = summary(5, 9)
+        for at, programs in enumerate(found.refusals.values()):
+            programs.update({f"/usr/lib/gcc/x86_64-linux-gnu/12/cc{at + number}": 9 for number in range(9)})
+        self.tab.wide(400)
+        self.tab.open(written(self.folder, [found]))
+        self.tab.says(EACH)
+        line = self.tab.says("parseFloat(getComputedStyle(document.body).lineHeight)")
+        heights = self.tab.says(f"{VISIBLE}.map(row => {{ row.scrollIntoView(); return row.offsetHeight; }})")
+        self.assertEqual(len(heights), 9)
+        self.assertLess(max(heights), 4 * line)
+        self.tab.wide(1280)
+        self.assertIn("/usr/lib/gcc/x86_64-linux-gnu/12/cc", self.tab.says(f"{VISIBLE}[0].innerText"))
 
     def test_sorting_by_a_column_and_back(self) -> None:
         self.tab.open(self.build())

@@ -8,7 +8,7 @@ import tempfile
 import unittest
 from pathlib import Path
 
-from landaudit_record import policies
+from landaudit_record.policy import policies
 from landaudit_record.recorder import converting
 from landaudit_record.recorder.ports import Ports
 from landaudit_record.recorder.writing import Limits
@@ -24,9 +24,7 @@ SHELL = "for i in 1 2 3; do cat /etc/passwd > f$i; mv f$i g; (exec sh -c 'exec >
 @unittest.skipIf(wanting() is not None, wanting() or "")
 class LiveParts(unittest.TestCase):
     def setUp(self) -> None:
-        folder = tempfile.TemporaryDirectory()
-        self.addCleanup(folder.cleanup)
-        self.work = Path(folder.name).resolve()
+        self.work = Path(self.enterContext(tempfile.TemporaryDirectory())).resolve()
 
     def compare(self, limits: Limits, program: str, *command: str) -> None:
         """Records a command, and compares what its recording is answered in one part and in several."""

@@ -9,15 +9,16 @@ import tempfile
 import unittest
 from pathlib import Path
 
-from landaudit_record import confining, landlock_calls
+from landaudit_record.common.rights import ABI_OF_SCOPES
+from landaudit_record.policy import landlock_calls
 
 from .live_actor import CONFINER, PYTHON, RECORDER, wanting
 
 #: Restricts itself once more, by a layer that refuses nothing that it does afterwards.
 RESTRICT = f"""
 import sys
-sys.path.insert(0, {str(Path(confining.__file__).parents[1])!r})
-from landaudit_record import landlock_calls
+sys.path.insert(0, {str(CONFINER.parent)!r})
+from {landlock_calls.__package__} import landlock_calls
 ruleset = landlock_calls.create_ruleset(["make_sock"])
 try:
     landlock_calls.restrict_self(ruleset)
@@ -197,7 +198,7 @@ parent = ["/usr", "/lib64", "@/link"]
             os.unlink(self.folder / "b/f")
 
     def test_a_scope_less(self) -> None:
-        if landlock_calls.kernel_abi() < confining.ABI_OF_SCOPES:
+        if landlock_calls.kernel_abi() < ABI_OF_SCOPES:
             self.skipTest("this kernel has no scopes")
         status, lines = self.compared(HARMLESS + 'scoped = ["signal"]\n', HARMLESS)
         kill = ("sh", "-c", f"kill -0 {os.getpid()}")

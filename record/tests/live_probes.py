@@ -16,8 +16,8 @@ from dataclasses import dataclass
 from pathlib import Path
 from typing import Any
 
-from landaudit_record.jsonl import numbered
-from landaudit_record.recorder.calls import beyond, descriptors, landlock, mounts, others, programs
+from landaudit_record.common.jsonl import numbered
+from landaudit_record.recorder.calls import descriptors, inexpressible, landlock, mounts, programs, ptrace
 from landaudit_record.recorder.converting import CORE_FILE
 from landaudit_record.recorder.names import MADE_OR_THERE
 from landaudit_record.recorder.scene import BY_UNSEEN_LAYER, MOVING
@@ -70,15 +70,15 @@ LOOKS = (
 
 
 EXPECTED = {
-    "io_uring": _of("io_uring 18, io_uring 37, io_uring 16", holes=(beyond.BY_IO_URING,)),
+    "io_uring": _of("io_uring 18, io_uring 37, io_uring 16", holes=(inexpressible.BY_IO_URING,)),
     "handles": _of("open_by_handle_at", "open"),
-    "inside": _of("swapon, swapoff, acct", "open", holes=(beyond.WITHOUT_FOLDERS,)),
+    "inside": _of("swapon, swapoff, acct", "open", holes=(inexpressible.WITHOUT_FOLDERS,)),
     "mounts": _of("mount, pivot_root, fsconfig", "mount"),
     "detached": _of("open in a new mount", holes=(mounts.WITHOUT_PLACE,)),
     "namespaces": _of("open given", "open"),
     "untraced": _of(holes=(programs.NOT_FOLLOWED,)),
     "thirty_two": _of("truncate64, ftruncate64", "truncate, ftruncate"),
-    "supervised": _of("mkdir", holes=(beyond.BY_SUPERVISOR,)),
+    "supervised": _of("mkdir", holes=(inexpressible.BY_SUPERVISOR,)),
     "places": _of(
         "mkdir by the child's cwd, mkdir by the thread's cwd, mkdir by another thread's cwd, mkdir by its task", "mkdir"
     ),
@@ -87,17 +87,17 @@ EXPECTED = {
     "inheritable": _of(),
     "sent": _of(holes=(landlock.FOREIGN_RULESET, BY_UNSEEN_LAYER)),
     "received": _of(holes=(descriptors.FOREIGN,)),
-    "others": _of("open mem, open ns, open through root, kcmp", holes=(others.INTO_ANOTHER, others.NOT_TRACED)),
-    "looks": _of(LOOKS, holes=(others.INTO_ANOTHER,), options=("--readlink",)),
-    "queue": _of("mq_open", holes=(beyond.QUEUE,)),
-    "events": _of("read an event", holes=(beyond.BY_FANOTIFY,)),
+    "others": _of("open mem, open ns, open through root, kcmp", holes=(ptrace.INTO_ANOTHER, ptrace.NOT_TRACED)),
+    "looks": _of(LOOKS, holes=(ptrace.INTO_ANOTHER,), options=("--readlink",)),
+    "queue": _of("mq_open", holes=(inexpressible.QUEUE,)),
+    "events": _of("read an event", holes=(inexpressible.BY_FANOTIFY,)),
     "families": _of(
         "bind 2 on 2 18302, bind 10 on 10 18302, bind 0 on 2 18302, connect 2 on 2 18302, connect 10 on 10 18302",
         "bind, connect",
     ),
     "given_socket": _of("connect to 18302", "connect", socket=True),
     "reformed": _of("connect 2", "connect"),
-    "sending": _of(holes=(beyond.BY_SENDING,)),
+    "sending": _of(holes=(inexpressible.BY_SENDING,)),
     "threads": _of(foretold="open"),
     "thread_runs": _of(),
     "memory": _of(told=True),

@@ -17,6 +17,7 @@ import unittest
 from collections.abc import Callable
 from pathlib import Path
 
+from landaudit_record.recorder import quieting
 from landaudit_record.recorder.writing import UNDONE
 
 RECORDER = Path(__file__).resolve().parents[1] / "landaudit-record"
@@ -30,25 +31,22 @@ exec 3<mounted/given; cat <&3; ls -l mounted >&2; cp mounted/given mounted/copy;
 mkdir mounted/d; cd mounted/d; echo x > y; rm y; cd ../..; exec 3<&-
 umount mounted; wait $server; echo ended
 """
-SFTP = Path("/usr/lib/openssh/sftp-server")
-#: A file that is removed while it is open, in the file system of a server: strace asks the server about it.
+#: A file that is removed while it is open, and used on, in the file system of a server: strace asks the server about it.
 REMOVES = """
-import contextlib, os, socket, subprocess, sys, time
-here, there = socket.socketpair()
-serves = subprocess.Popen([sys.argv[1]], stdin=here, stdout=here)
-mounts = subprocess.Popen(["sshfs", "-f", "-o", "passive", ":" + os.path.abspath("served"), "mounted"], stdin=there, stdout=there)
-here.close(), there.close()
+import os, subprocess, time
+serves = subprocess.Popen(["bindfs", "-f", "served", "mounted"])
 while not os.path.ismount("mounted"):
     time.sleep(0.1)
 opened = os.open("mounted/x", os.O_RDWR | os.O_CREAT)
 os.unlink("mounted/x")
 print("removed", flush=True)
-with contextlib.suppress(OSError):
-    os.dup(opened)
-subprocess.run(["umount", "mounted"], stderr=subprocess.DEVNULL)
-mounts.wait()
-serves.wait()
-print("ended", flush=True)
+again = os.dup(opened)
+os.write(again, b"text")
+os.ftruncate(again, 2)
+print(os.pread(opened, 4, 0), os.environ.get("LD_PRELOAD"), flush=True)
+os.close(again), os.close(opened)
+subprocess.run(["umount", "mounted"], check=True)
+print("ended", serves.wait(), flush=True)
 """
 STUBBORN = "import signal, time; signal.signal(signal.SIGTERM, signal.SIG_IGN); print('ready', flush=True); time.sleep(99)"
 
@@ -162,17 +160,39 @@ class LiveRun(unittest.TestCase):
         opened = {record.get("shown") or record["path"] for record in records if record["op"] == "open"}
         self.assertLessEqual({str(mounted / "given"), str(self.folder / "served" / "given")}, opened)
 
-    @unittest.skipUnless(shutil.which("sshfs") and SFTP.exists() and os.geteuid() == 0, "no sshfs, or not root")
-    def test_a_wait_for_a_server_that_strace_has_stopped_ends(self) -> None:
+    @unittest.skipIf(shutil.which("bindfs") is None or not os.access("/dev/fuse", os.W_OK), "no file server can be run")
+    @unittest.skipIf(quieting.find() is None, "the library for strace is not built: run 'make witness'")
+    def test_a_removed_file_of_a_server_in_the_recording_is_used_as_bare(self) -> None:
+        mounted = self.serve_for(REMOVES)
+        run = self.begin(sys.executable, "removes.py")
+        output, error = run.communicate(timeout=SOON)
+        self.assertEqual((run.returncode, output), (0, "removed\nb'te' None\nended 0\n"), error)
+        self.assertNotIn("strace waited", error)
+        self.assertEqual(self.recording()["taken"], [])
+        records = [json.loads(line) for line in (self.out / "trace.jsonl").read_text().splitlines()]
+        self.assertIn(str(mounted / "x"), [record["path"] for record in records if record["op"] == "unlink"])
+        unsaid = [json.loads(line)["class"] for line in (self.out / "unsaid.jsonl").read_text().splitlines()]
+        self.assertEqual(set(unsaid), {"a mount that changes the tree"})
+
+    @unittest.skipIf(shutil.which("bindfs") is None or not os.access("/dev/fuse", os.W_OK), "no file server can be run")
+    @unittest.skipUnless(os.geteuid() == 0, "the user is not root")
+    def test_without_the_library_a_wait_for_a_server_that_strace_has_stopped_ends(self) -> None:
+        mounted = self.serve_for(REMOVES)
+        alone = Path(shutil.copytree(RECORDER.parent, self.folder / "record"))
+        words = [sys.executable, str(alone / RECORDER.name), "run", str(self.out), "--", sys.executable, "removes.py"]
+        run = subprocess.run(words, cwd=self.folder, capture_output=True, text=True, check=False, timeout=2 * SOON)
+        self.assertIn(f"strace waited for the file server of {mounted}", run.stderr)
+        self.assertTrue(run.stdout.startswith("removed\n"), run.stdout)
+        self.assertEqual(self.recording()["taken"], [str(mounted)])
+
+    def serve_for(self, program: str) -> Path:
+        """Makes the folders of a file server and the program that uses it; returns where the server's files are."""
         mounted = self.folder / "mounted"
         self.addCleanup(subprocess.run, ["umount", "--force", mounted], stderr=subprocess.DEVNULL, check=False)
         for folder in (mounted, self.folder / "served"):
             folder.mkdir()
-        (self.folder / "removes.py").write_text(REMOVES)
-        run = self.begin(sys.executable, "removes.py", str(SFTP))
-        output, error = run.communicate(timeout=SOON)
-        self.assertEqual((run.returncode, output), (0, "removed\nended\n"), error)
-        self.assertIn(f"strace waited for the file server of {mounted}", error)
+        (self.folder / "removes.py").write_text(program)
+        return mounted
 
     def test_descriptors_are_inherited(self) -> None:
         """As the shell gives them: a directory from which a path leads, and a file."""

@@ -20,9 +20,7 @@ SHELL = "mkdir d && sort -o d/out in && mv d/out out && ln out also && rm -r d &
 @unittest.skipIf(wanting() is not None, wanting() or "")
 class LiveSuggesting(unittest.TestCase):
     def setUp(self) -> None:
-        made = tempfile.TemporaryDirectory()
-        self.addCleanup(made.cleanup)
-        self.folder = Path(made.name).resolve()
+        self.folder = Path(self.enterContext(tempfile.TemporaryDirectory())).resolve()
         self.work = self.folder / "work"
         self.work.mkdir()
         (self.work / "in").write_text("b\na\n")

@@ -9,11 +9,12 @@ import unittest
 from collections.abc import Iterator
 from pathlib import Path
 
-from landaudit_record import comments, policies, policy_text
-from landaudit_record.policies import Policy
-from landaudit_record.rights import NEWEST_ABI
-from landaudit_record.tightening import units, without
-from landaudit_record.trees import Tree
+from landaudit_record.common import comments
+from landaudit_record.common.rights import NEWEST_ABI
+from landaudit_record.common.trees import Tree
+from landaudit_record.policy import policies, policy_text
+from landaudit_record.policy.policies import Policy
+from landaudit_record.tighten.tightening import units, without
 
 from .live_actor import CONFINER, RECORDER, wanting
 

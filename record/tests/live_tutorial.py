@@ -16,7 +16,7 @@ from collections.abc import Sequence
 from dataclasses import dataclass, field
 from pathlib import Path
 
-from landaudit_record.landaudit import BUILT
+from landaudit_record.engine.landaudit import BUILT
 
 TOP = Path(__file__).resolve().parents[2]
 #: The folder in which the documents run their commands.
@@ -106,24 +106,20 @@ class Tutorial(unittest.TestCase):
         self.run_document(TOP / "README.md")
 
     def test_every_command_of_the_page_on_ci(self) -> None:
-        """Behind the page's own commands come the lines of its jobs that check, in the repository as it was."""
-        document = TOP / "docs" / "CI.md"
-        jobs = set(re.findall(r"^ +- (?:run: )?(sandbox/.*)$", document.read_text(encoding="utf-8"), re.MULTILINE))
-        self.assertEqual(jobs, {"sandbox/check.sh origin/main"})
-        again = ["git -C app checkout -q tests", "git -C app update-ref refs/remotes/origin/main main", "rm -r app/build"]
-        self.run_document(document, [*again, *(f"cd app && {line}" for line in sorted(jobs))])
+        """The scripts of its jobs are run by packaging/tests."""
+        self.run_document(TOP / "docs" / "CI.md")
 
     def test_every_command_of_the_page_on_services(self) -> None:
         """What a command that is skipped would have left is not asked about either."""
         self.run_document(TOP / "docs" / "SERVICES.md")
 
-    def run_document(self, document: Path, behind: Sequence[str] = ()) -> None:
+    def run_document(self, document: Path) -> None:
         environment = {**os.environ, "PATH": f"{TOP / 'record'}:{BUILT.parent}:{os.environ['PATH']}"}
         with tempfile.TemporaryDirectory() as folder:
             # A user without rights goes through it to a folder of their own.
             Path(folder).chmod(0o755)
             absent: list[str] = []
-            for step in [*steps(document), *map(Step, behind)]:
+            for step in steps(document):
                 with self.subTest(step.command):
                     reason = cannot(step.command)
                     if reason or any(re.search(rf"\b{name}\b", step.command) for name in absent):

@@ -703,7 +703,7 @@ def duplicated() -> None:
 
 
 def of_owners() -> None:
-    """Only its owner may open a file so that its times stay: a user who is not says EPERM, whatever a policy says."""
+    """Only its owner may open a file so that its times stay: another user gets EPERM, whatever a policy says."""
     if os.geteuid() == 0:
         os.setuid(65534)
     attempt("open", lambda: os.open("given", os.O_RDONLY | os.O_NOATIME))

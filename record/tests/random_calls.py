@@ -9,8 +9,8 @@ import random
 from collections.abc import Iterator, Sequence
 from dataclasses import dataclass
 
-from landaudit_record.jsonl import Record
-from landaudit_record.trees import directory_of, joined, upwards
+from landaudit_record.common.jsonl import Record
+from landaudit_record.common.trees import directory_of, joined, upwards
 
 from .random_policies import NAMES, PORTS, Kinds
 

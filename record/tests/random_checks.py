@@ -15,11 +15,16 @@ import tempfile
 from collections.abc import Iterator, Mapping, Sequence
 from dataclasses import dataclass, replace
 from pathlib import Path
+from typing import Any
 
-from landaudit_record import asking, cli, jsonl, landaudit
-from landaudit_record.jsonl import Record
-from landaudit_record.rights import NEWEST_ABI, OLDEST_ABI
-from landaudit_record.trees import ROOT, directory_of, joined
+from landaudit_record import cli
+from landaudit_record.common import jsonl
+from landaudit_record.common.jsonl import Record
+from landaudit_record.common.problems import NOT_ALL_JUDGED
+from landaudit_record.common.rights import NEWEST_ABI, OLDEST_ABI
+from landaudit_record.common.trees import ROOT, directory_of, joined
+from landaudit_record.engine import landaudit
+from landaudit_record.policy import asking
 
 from .random_calls import Caller
 from .random_policies import LINKS, Kinds, Maker, Policy, Rule
@@ -27,6 +32,8 @@ from .random_policies import LINKS, Kinds, Maker, Policy, Rule
 ABIS = range(OLDEST_ABI, NEWEST_ABI + 1)
 #: The kinds of objects that anyone can make.
 MADE = ("dir", "reg", "fifo")
+#: The paths of a rule that may have several names.
+FILES = ("/b/f", "/c/f")
 Answers = dict[int, str]
 
 
@@ -108,58 +115,70 @@ def _expected(
     program: Path, folder: Path, policy: Policy, disk: Disk, calls: Sequence[Sequence[Record]]
 ) -> Iterator[Answers]:
     """What landaudit says of calls at each ABI: `allowed` if it allows all records, else its answer to the first other."""
-    records: list[Record] = [{"op": "start"}, *policy.records(disk.kinds, disk.led)]
-    own = len(records)
+    own: list[Record] = [{"op": "start"}, *policy.records(disk.kinds, disk.led)]
     asked = [_asked(call, 1_000_000 + number) for number, call in enumerate(calls)]
-    records += [record for call in asked for record in call]
-    tree, trace, report = (folder / f"{name}.jsonl" for name in ("tree", "trace", "report"))
-    asking.write_tree(tree, disk.kinds)
-    jsonl.write(trace, ({**record, "pid": 1} for record in records))
-    landaudit.audit(program, ABIS, tree, trace, report, best_effort=True, explain=False)
-    with open(report, encoding="utf-8") as lines:
-        answers = [_answers(next(lines)) for _ in records][own:]
-    rest = iter(answers)
+    answers = judged(program, folder, disk.kinds, own, [record for call in asked for record in call])
     for call in asked:
-        each = [next(rest) for _ in call]
+        each = [next(answers) for _ in call]
         yield {abi: next((it[abi] for it in each if it[abi] != "allowed"), "allowed") for abi in ABIS}
 
 
-def _answers(line: str) -> Answers:
-    """The answer of each ABI on a line of a report."""
-    answers = json.loads(line)["answers"]
-    return {abi: said["answer"] for said in answers for abi in range(said["abi"][0], said["abi"][1] + 1)}
+def judged(
+    program: Path, folder: Path, kinds: Kinds, own: Sequence[Record], asked: Sequence[Record]
+) -> Iterator[Answers]:
+    """What landaudit answers at each ABI to the records of a process, after those of its own."""
+    tree, trace, report = (folder / f"{name}.jsonl" for name in ("tree", "trace", "report"))
+    asking.write_tree(tree, kinds)
+    jsonl.write(trace, ({**record, "pid": 1} for record in (*own, *asked)))
+    landaudit.audit(program, ABIS, tree, trace, report, best_effort=True, explain=False)
+    with open(report, encoding="utf-8") as lines:
+        answers = [json.loads(next(lines))["answers"] for _ in (*own, *asked)][len(own):]
+    for said in answers:
+        yield {abi: one["answer"] for one in said for abi in range(one["abi"][0], one["abi"][1] + 1)}
 
 
-def faults(program: Path, seed: int, count: int) -> tuple[int, list[str]]:
+def drawn(of: random.Random) -> tuple[Maker, Policy]:
+    """A policy of one or more layers, each with a rule on files that have several names."""
+    maker = Maker(of)
+    policy = maker.dressed(maker.policy(of.choice((1, 1, 2, 3))))
+    on_file = Rule(("read_file", "write_file", "execute", "truncate"), FILES)
+    return maker, Policy(tuple(replace(layer, scoped=(), include=(), paths=(*layer.paths, on_file)).mended()
+                               for layer in policy.layers))
+
+
+def checked(program: Path, folder: Path, policy: Policy, top: Path, cases: str) -> tuple[int, dict[str, Any]]:
+    """The status of `check`, and what it says of cases about a policy whose paths are in a folder."""
+    text = policy.toml().replace('"/', f'"{top}/').replace(f'"{top}/"', '"/"')
+    (folder / "policy.toml").write_text(text)
+    (folder / "cases.toml").write_text(cases)
+    words = ["check", str(folder / "policy.toml"), str(folder / "cases.toml"), "--json", "--landaudit", str(program)]
+    with contextlib.redirect_stdout(io.StringIO()) as out, contextlib.redirect_stderr(io.StringIO()) as errors:
+        status = cli.main(words, cli.POLICY)
+    assert status in (0, 1, NOT_ALL_JUDGED), errors.getvalue()
+    return status, json.loads(out.getvalue().replace(f"{top}/", "/"))
+
+
+def faults(program: Path, of: random.Random, count: int) -> tuple[int, list[str]]:
     """How many cases were asked about a random policy, and where `check` does not say what landaudit says."""
-    maker = Maker(random.Random(seed))
-    policy = maker.dressed(maker.policy(maker.of.choice((1, 1, 2, 3))))
-    on_file = Rule(("read_file", "write_file", "execute", "truncate"), ("/b/f", "/c/f"))
-    policy = Policy(tuple(replace(layer, scoped=(), include=(), paths=(*layer.paths, on_file)).mended()
-                          for layer in policy.layers))
+    maker, policy = drawn(of)
     with tempfile.TemporaryDirectory() as name:
         top = Path(name).resolve() / "top"
         top.mkdir()
         disk = Disk.made(top, maker, policy)
-        near = frozenset(name for path in on_file.on for name in disk.led(str(path))) or policy.paths - {ROOT}
+        near = frozenset(name for path in FILES for name in disk.led(path)) or policy.paths - {ROOT}
         made = [call.records for call in Caller(maker.of, disk.kinds, near).calls(count)]
         calls = [(call, case) for call in made if (case := _case(call, disk)) is not None]
         expected = list(_expected(program, Path(name), policy, disk, [call for call, _ in calls]))
         cases = [(case, answers) for (_, case), answers in zip(calls, expected) if "moot" not in answers.values()]
         said = _said(program, Path(name), policy, disk, [case for case, _ in cases])
-    return len(cases), [f"seed {seed}: {case}: {found}, and not {answers}"
+    return len(cases), [f"{case}: {found}, and not {answers}"
                         for (case, answers), found in zip(cases, said, strict=True) if found != answers]
 
 
 def _said(program: Path, folder: Path, policy: Policy, disk: Disk, cases: Sequence[Mapping[str, str]]) -> list[Answers]:
     """What `check` says of cases."""
-    text = policy.toml().replace('"/', f'"{disk.top}/').replace(f'"{disk.top}/"', '"/"')
-    (folder / "policy.toml").write_text(text)
     lines = [line for case in cases for line in ("[[refused]]", *(f"{key} = {json.dumps(case[key])}" for key in case))]
-    (folder / "cases.toml").write_text("\n".join(lines))
-    words = ["check", str(folder / "policy.toml"), str(folder / "cases.toml"), "--json", "--landaudit", str(program)]
-    with contextlib.redirect_stdout(io.StringIO()) as out, contextlib.redirect_stderr(io.StringIO()) as errors:
-        status = cli.main(words, cli.POLICY)
-    assert status in (0, 1), errors.getvalue()
-    return [{it["abi"]: it["answer"] for it in result["answers"]} for result in json.loads(out.getvalue())["results"]]
-
+    status, found = checked(program, folder, policy, disk.top, "\n".join(lines))
+    results = found["results"]
+    assert status == int(not all(result["holds"] for result in results)), status
+    return [{it["abi"]: it["answer"] for it in result["answers"]} for result in results]

@@ -11,9 +11,9 @@ import re
 from collections.abc import Callable, Collection, Iterable, Iterator, Sequence
 from dataclasses import dataclass, replace
 
-from landaudit_record.jsonl import Record
-from landaudit_record.rights import FILE_RIGHTS, FS, NET, NEWEST_ABI, NONE, Family, Rights
-from landaudit_record.trees import ROOT, directory_of, joined, upwards
+from landaudit_record.common.jsonl import Record
+from landaudit_record.common.rights import FILE_RIGHTS, FS, NET, NEWEST_ABI, NONE, Family, Rights
+from landaudit_record.common.trees import ROOT, directory_of, joined, upwards
 
 NAMES = ("a", "b", "c")
 PORTS = (0, 22, 80, 443)

@@ -6,7 +6,7 @@ import random
 from collections.abc import Iterator
 from dataclasses import dataclass, field
 
-from landaudit_record.jsonl import Record
+from landaudit_record.common.jsonl import Record
 
 from .random_calls import OPENED, Caller
 from .random_policies import NAMES, Kinds

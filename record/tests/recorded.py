@@ -8,8 +8,8 @@ from itertools import groupby
 from pathlib import Path
 from typing import Any
 
-from landaudit_record.jsonl import Record
-from landaudit_record.rights import NEWEST_ABI, alone
+from landaudit_record.common.jsonl import Record
+from landaudit_record.common.rights import NEWEST_ABI, alone
 
 PID = 10
 
@@ -114,13 +114,16 @@ def compact(value: Object) -> str:
     return json.dumps(value, ensure_ascii=False, separators=(",", ":")) + "\n"
 
 
-def allow_all(words: Sequence[str]) -> None:
-    """Prints the report of a landaudit that is called with some words and allows all that the trace has."""
+def allow_all(words: Sequence[str], otherwise: Said = "allowed") -> None:
+    """Prints the report of a landaudit that is called with some words and allows all that the trace has, but for the
+    records that say what a call may be otherwise: these have an answer of their own.
+    """
     oldest, _, newest = words[2].partition("-")
     abis = range(int(oldest), int(newest or oldest) + 1)
     lines = Path(words[-1]).read_text(encoding="utf-8").splitlines()
-    for number, line in enumerate(lines, start=1):
-        print(report_line(number, json.loads(line), over_range(dict.fromkeys(abis, "allowed"))), end="")
+    for number, record in enumerate(map(json.loads, lines), start=1):
+        answer = otherwise if "otherwise" in record else "allowed"
+        print(report_line(number, record, over_range(dict.fromkeys(abis, answer))), end="")
     print(last_line(len(lines), abis), end="")
 
 

@@ -12,7 +12,7 @@ from pathlib import Path
 from unittest import mock
 
 from landaudit_record import cli
-from landaudit_record.finished import Finished
+from landaudit_record.common.finished import Finished
 
 from .recorded import PID, missing_on, moot, refused, write_lines
 
@@ -67,9 +67,7 @@ class StandIn(unittest.TestCase):
     """A recording, a policy, and a landaudit that knows the answers to both."""
 
     def setUp(self) -> None:
-        made = tempfile.TemporaryDirectory()
-        self.addCleanup(made.cleanup)
-        self.folder = Path(made.name)
+        self.folder = Path(self.enterContext(tempfile.TemporaryDirectory()))
         self.recording = self.folder / "rec"
         self.recording.mkdir()
         write_lines(self.recording / "tree.jsonl", TREE)

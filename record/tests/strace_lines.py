@@ -7,7 +7,7 @@ import unittest
 from pathlib import Path
 from typing import Any
 
-from landaudit_record import jsonl
+from landaudit_record.common import jsonl
 from landaudit_record.recorder import converting, recordings
 from landaudit_record.recorder.ports import Ports
 
@@ -49,9 +49,7 @@ class StraceLines(unittest.TestCase):
     euid: int | None = None
 
     def setUp(self) -> None:
-        folder = tempfile.TemporaryDirectory()
-        self.addCleanup(folder.cleanup)
-        self.out = Path(folder.name)
+        self.out = Path(self.enterContext(tempfile.TemporaryDirectory()))
 
     def convert(self, *calls: str) -> list[jsonl.Record]:
         """The records that calls become, without those of the start and of the first program."""

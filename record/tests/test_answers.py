@@ -9,12 +9,14 @@ from collections import Counter
 from collections.abc import Iterator
 from pathlib import Path
 
-from landaudit_record import options, reports
-from landaudit_record.answers import Answer, Closed, Gained, Kept, Missing, Mounting, Objection, as_data
-from landaudit_record.problems import UNREADABLE, Problem
-from landaudit_record.reports import Row
+from landaudit_record.common import options
+from landaudit_record.common.problems import UNREADABLE, Problem
+from landaudit_record.engine import reports
+from landaudit_record.engine.answers import Answer, Closed, Gained, Kept, Missing, Mounting, Objection, as_data
+from landaudit_record.engine.reports import Row
 
 from .recorded import MOUNTING, Object, closed_on, failed, gained, kept_on, missing_on, moot, refused
+from .worded import subject
 
 TOP = Path(__file__).resolve().parents[2]
 EXAMPLES = TOP / "examples"
@@ -129,18 +131,18 @@ class Reasons(unittest.TestCase):
     def test_what_each_is_about(self) -> None:
         move = {"from": "/a", "to": "/a/b"}
         for said, at, why in (
-            (moot("absent", path="/none"), ("/none",), "is not in the tree"),
-            (moot("root"), ("/",), "stays where it is"),
-            (moot("unopened", fd=3), ("descriptor 3",), "is not open"),
-            (moot("held_already", rs=0), ("ruleset 0",), "is held already"),
-            (moot("beneath_itself", **move), ("/a", "/a/b"), "would go beneath itself"),
-            (moot("over_itself", **move), ("/a", "/a/b"), "would take the place of what it is in"),
-            (moot("mixed", **move), ("/a", "/a/b"), "one is a directory, the other is not"),
-            (moot("unsupported"), (), "left out, as this ABI supports none of the rule's rights"),
+            (moot("absent", path="/none"), "/none", "is not in the tree"),
+            (moot("root"), "/", "stays where it is"),
+            (moot("unopened", fd=3), "descriptor 3", "is not open"),
+            (moot("held_already", rs=0), "ruleset 0", "is held already"),
+            (moot("beneath_itself", **move), "/a -> /a/b", "would go beneath itself"),
+            (moot("over_itself", **move), "/a -> /a/b", "would take the place of what it is in"),
+            (moot("mixed", **move), "/a -> /a/b", "one is a directory, the other is not"),
+            (moot("unsupported"), "-", "left out, as this ABI supports none of the rule's rights"),
         ):
             with self.subTest(why):
                 found = answer(said).reason
-                self.assertEqual((found.about, found.why), (at, why))
+                self.assertEqual((found.subject, found.why), (subject(at), why))
 
     def test_which_leave_the_record_out(self) -> None:
         left_out = {word for word, members, _ in rows("reason")

@@ -5,14 +5,12 @@ from __future__ import annotations
 import random
 import unittest
 from collections.abc import Iterator, Sequence
+from dataclasses import replace
 from itertools import chain, combinations
-from pathlib import Path
-from unittest import mock
 
-from landaudit_record import ruling
-from landaudit_record.landaudit import BUILT as LANDAUDIT
-from landaudit_record.problems import WANTING, Problem
-from landaudit_record.ruling import Answer, Comparison, Layers, Objects, Rule, Ruled
+from landaudit_record.engine.landaudit_rules import BUILT
+from landaudit_record.policy import ruling
+from landaudit_record.policy.ruling import Answer, Comparison, Layers, Objects, Passing, PortRule, Rule, Ruled
 
 OBJECTS = Objects.of(("/a", "/b", "/a/f", "/g"))
 DIRECTORIES = tuple(map(OBJECTS.directory, OBJECTS.paths))
@@ -67,12 +65,12 @@ def refused(old: Ruled, new: Sequence[Ruled]) -> set[Placed]:
     return {it for it in PLACINGS if not passes(old, it) and all(passes(one, it) for one in new)}
 
 
-@unittest.skipUnless(ruling.BUILT.exists(), f"{ruling.BUILT} is not built")
+@unittest.skipUnless(BUILT.exists(), f"{BUILT} is not built")
 class Anywhere(unittest.TestCase):
     def test_all_placings_of_a_few_objects(self) -> None:
         pairs = [compared(seed) for seed in range(SEEDS)]
         kept = 0
-        for seed, (pair, answer) in enumerate(zip(pairs, ruling.answers(ruling.BUILT, OBJECTS, pairs))):
+        for seed, (pair, answer) in enumerate(zip(pairs, ruling.answers(BUILT, OBJECTS, pairs))):
             for index, old in enumerate(pair.old):
                 with self.subTest(seed, layer=index):
                     where = refused(old, pair.new)
@@ -88,6 +86,7 @@ class Anywhere(unittest.TestCase):
         self.assertEqual(told is None, not where)
         if told is not None:
             self.assertIn(frozenset(told), where)
+            self.assertEqual((told[0], len(set(told))), (0, len(told)))
         alone = {number for number in (0, *DIRECTORIES, *FILES) if frozenset({0, number}) in where}
         self.assertEqual(set(answer.single[RIGHT][index]), alone)
 
@@ -100,31 +99,37 @@ class Anywhere(unittest.TestCase):
         if told is not None:
             self.assertIn(frozenset(told.chain), gains[told.directory])
 
+    def test_regions_and_ports(self) -> None:
+        """A right passes in a region by the rules on it and on what it is in, and on a port by those on it."""
+        pairs = [compared(seed) for seed in range(SEEDS // 5)]
+        over = {0: 0, **dict(enumerate(OBJECTS.parents(), start=1))}
+        placed = {number: frozenset({0, over[number], number}) for number in over}
+        self.assertEqual([OBJECTS.parents()[number - 1] for number in (*DIRECTORIES, *FILES)],
+                         [0, 0, OBJECTS.directory("/a"), 0] * 2)
+        asked = [replace(pair, parents=OBJECTS.parents(), ports=2) for pair in pairs]
+        for seed, (pair, answer) in enumerate(zip(asked, ruling.answers(BUILT, OBJECTS, asked))):
+            with self.subTest(seed):
+                self.of_passing(answer.regions[RIGHT], *(
+                    {number for number in over if all(passes(layer, placed[number]) for layer in side)}
+                    for side in (pair.old, pair.new)))
+        bound = Ruled(1, frozenset(), (), handled_net=frozenset({"bind_tcp"}),
+                      port_rules=(PortRule(frozenset({"bind_tcp"}), (1,)),))
+        of_ports = Comparison((bound,), (bound, replace(bound, port_rules=())), ports=3)
+        (found,) = ruling.answers(BUILT, OBJECTS, [of_ports])
+        self.of_passing(found.ports["bind_tcp"], {1}, set())
+        self.of_passing(found.ports["connect_tcp"], {0, 1, 2}, {0, 1, 2})
+
+    def of_passing(self, found: Passing, old: set[int], new: set[int]) -> None:
+        """Where a right passes under each policy, and under both."""
+        self.assertEqual((found.both, found.new, found.old), (old & new, new - old, old - new))
+
     def test_scopes_that_no_new_layer_has(self) -> None:
         none, signal = Ruled(1, frozenset(), ()), Ruled(1, frozenset(), (), frozenset({"signal"}))
         both = Ruled(2, frozenset({"execute"}), (), frozenset({"signal", "abstract_unix_socket"}))
-        found = ruling.answers(ruling.BUILT, OBJECTS, [
+        found = ruling.answers(BUILT, OBJECTS, [
             Comparison((both,), (none,)), Comparison((both,), (none, signal)), Comparison((signal,), (both,))])
         self.assertEqual([set(one.lost) for one in found], [
             {"mounts", "signal", "abstract_unix_socket"}, {"mounts", "abstract_unix_socket"}, set()])
-
-    def test_an_input_that_does_not_read(self) -> None:
-        with self.assertRaises(Problem) as caught:
-            ruling._run(ruling.BUILT, '{"files":[false],"ports":0}\n{"files":[true],"ports":0}\n')
-        self.assertEqual(str(caught.exception), "landaudit-rules: line 2: Field")
-
-
-class Finding(unittest.TestCase):
-    def test_a_program_that_is_nowhere(self) -> None:
-        with mock.patch.object(ruling, "BUILT", Path("/absent")), mock.patch("shutil.which", return_value=None):
-            with self.assertRaises(Problem) as caught:
-                ruling.find(Path("/absent/landaudit"))
-        self.assertEqual(caught.exception.status, WANTING)
-        self.assertIn("landaudit-rules is not built: run 'make landaudit'", str(caught.exception))
-
-    @unittest.skipUnless(ruling.BUILT.exists(), f"{ruling.BUILT} is not built")
-    def test_the_one_that_was_built(self) -> None:
-        self.assertEqual(ruling.find(LANDAUDIT), ruling.BUILT)
 
 
 if __name__ == "__main__":

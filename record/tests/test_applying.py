@@ -9,13 +9,14 @@ import unittest
 from dataclasses import replace
 from pathlib import Path
 
-from landaudit_record import applying
-from landaudit_record.fitting import fit
-from landaudit_record.jsonl import Record
-from landaudit_record.policies import Access, Layer, PathRule, Policy, PortRule
-from landaudit_record.problems import Problem
-from landaudit_record.rights import FS, NET, NEWEST_ABI, OLDEST_ABI
-from landaudit_record.trees import Tree
+from landaudit_record.common.jsonl import Record
+from landaudit_record.common.numbered import Numbered
+from landaudit_record.common.problems import Problem
+from landaudit_record.common.rights import FS
+from landaudit_record.common.trees import Tree
+from landaudit_record.policy import applying
+from landaudit_record.policy.fitting import fit
+from landaudit_record.policy.policies import Access, Layer, PathRule, Policy, PortRule
 
 from .recorded import write_lines
 
@@ -23,7 +24,6 @@ TREE = Tree(
     {"/": "dir", "/usr": "dir", "/usr/ls": "reg", "/usr/dash": "reg", "/bin": "sym", "/sh": "sym", "/loop": "sym"},
     {"/bin": "usr", "/sh": "/bin/dash", "/loop": "loop"},
 )
-ABIS = range(OLDEST_ABI, NEWEST_ABI + 1)
 RUN = {"op": "exec", "pid": 10, "path": "/usr/ls", "call": 5, "kernel": "ok"}
 START = {"op": "start", "pid": 10, "call": 5}
 
@@ -34,18 +34,22 @@ def access(*rights: str) -> Access:
 
 def policy(*parents: str, fs: Access = access("read_file"), allowed: Access = access("read_file")) -> Policy:
     """A policy of one layer with one rule on some parents."""
-    rule = PathRule("path_beneath 1", allowed, parents)
+    rule = PathRule(Numbered("path_beneath", 1), allowed, parents)
     return Policy(Path("P.toml"), (Layer(1, fs, Access(), (rule,), ()),))
+
+
+def rules(tried: Policy, tree: Tree) -> list[Record]:
+    """The records of a policy's rules on paths."""
+    return [one for one in applying.records(tried, fit(tried, 5)[0], tree, 1) if one["op"] == "add_path"]
 
 
 class Applying(unittest.TestCase):
     def setUp(self) -> None:
-        self.folder = tempfile.TemporaryDirectory()
-        self.addCleanup(self.folder.cleanup)
+        self.folder = self.enterContext(tempfile.TemporaryDirectory())
 
     def before(self, trace: list[Record], program: str | None = None) -> dict[int, int]:
         """The lines before which a policy goes, each with the process."""
-        return applying.plan(write_lines(Path(self.folder.name, "trace.jsonl"), trace), TREE, program).before
+        return applying.plan(write_lines(Path(self.folder, "trace.jsonl"), trace), TREE, program).before
 
     def test_before_the_first_program_of_each_start(self) -> None:
         trace = [START, RUN, {**RUN, "call": 6}, {"op": "fork", "pid": 10, "child": 11}, {**RUN, "pid": 11, "call": 7},
@@ -97,11 +101,11 @@ class Applying(unittest.TestCase):
             self.before([{"op": "start"}])
 
     def test_a_number_that_the_trace_never_uses(self) -> None:
-        path = write_lines(Path(self.folder.name, "trace.jsonl"), [START, {"op": "create", "pid": 10, "rs": 7}, RUN])
+        path = write_lines(Path(self.folder, "trace.jsonl"), [START, {"op": "create", "pid": 10, "rs": 7}, RUN])
         self.assertEqual(applying.plan(path, TREE, None).rs, 8)
 
     def test_more_records_than_landaudit_reads(self) -> None:
-        path = write_lines(Path(self.folder.name, "trace.jsonl"), [START, RUN])
+        path = write_lines(Path(self.folder, "trace.jsonl"), [START, RUN])
         places = applying.Plan(before={2: 10}, rs=1, lines=999_999)
         out = io.BytesIO()
         with self.assertRaisesRegex(Problem, "has 1,000,001 records"):
@@ -111,8 +115,8 @@ class Applying(unittest.TestCase):
         self.assertEqual(out.getvalue().count(b"\n"), 3)
 
     def test_the_records_of_a_policy(self) -> None:
-        port = PortRule("net_port 1", access("connect_tcp"), (443,))
-        path = PathRule("path_beneath 1", access("read_file"), ("/bin/ls", "/none"))
+        port = PortRule(Numbered("net_port", 1), access("connect_tcp"), (443,))
+        path = PathRule(Numbered("path_beneath", 1), access("read_file"), ("/bin/ls", "/none"))
         tried = Policy(Path("P.toml"), (Layer(1, access("read_file"), access("connect_tcp"), (path,), (port,)),))
 
         def rule(parent: str) -> Record:
@@ -140,7 +144,7 @@ class Applying(unittest.TestCase):
     def test_a_rule_is_on_all_names_of_its_object(self) -> None:
         tree = replace(TREE, first={"/bin/x": "/usr/ls"}, others={"/usr/ls": ["/bin/x"]}, made={"/bin/x"})
         tried = policy("/usr/ls")
-        added = [one for one in applying.records(tried, fit(tried, 5)[0], tree, 1) if one["op"] == "add_path"]
+        added = rules(tried, tree)
         self.assertEqual([one["path"] for one in added], ["/usr/ls", "/bin/x"])
         self.assertEqual({one["policy"]["parent"] for one in added}, {"/usr/ls"})
 
@@ -148,20 +152,20 @@ class Applying(unittest.TestCase):
         tree = replace(TREE, kinds={**TREE.kinds, "/usr/new": "dir", "/usr/new/x": "reg"},
                        made={"/usr/new", "/usr/new/x"})
         tried = policy("/usr/new/x")
-        (added,) = (one for one in applying.records(tried, fit(tried, 5)[0], tree, 1) if one["op"] == "add_path")
+        (added,) = rules(tried, tree)
         self.assertEqual((added["path"], added["policy"]["made"]), ("/~new~", "/usr"))
 
     def test_a_rule_stays_with_what_was_there_before_the_run(self) -> None:
         tree = replace(TREE, kinds={**TREE.kinds, "/usr/ls~2~": "reg"}, made={"/usr/ls~2~"},
                        shown={"/usr/ls~2~": "/usr/ls"})
         tried = policy("/usr/ls")
-        (added,) = (one for one in applying.records(tried, fit(tried, 5)[0], tree, 1) if one["op"] == "add_path")
+        (added,) = rules(tried, tree)
         self.assertEqual((added["path"], added["policy"]["replaced"]), ("/usr/ls", "/usr"))
 
     def test_a_parent_behind_a_link_that_the_run_makes(self) -> None:
         tree = replace(TREE, made={"/sh"})
         tried = policy("/sh")
-        (added,) = (one for one in applying.records(tried, fit(tried, 5)[0], tree, 1) if one["op"] == "add_path")
+        (added,) = rules(tried, tree)
         self.assertEqual((added["path"], added["policy"]["made"]), ("/~new~", "/"))
 
     def test_a_group_on_a_file(self) -> None:
@@ -170,34 +174,13 @@ class Applying(unittest.TestCase):
         added = [record["fs"] for record in applying.records(tried, fit(tried, 5)[0], TREE, 1) if "path" in record]
         self.assertEqual(added, [["read_file", "read_dir"], ["read_file"]])
 
-    def test_best_effort_makes_an_older_abis_records_of_a_newer_ones(self) -> None:
-        everything, ports = Access(grouped=FS.groups["all"]), Access(grouped=NET.groups["all"])
-        writing, renewed = Access(grouped=FS.groups["write"]), access("truncate", "refer")
-        paths = PathRule("path_beneath 1", writing, ("/usr", "/usr/ls", "/none"))
-        newer = PathRule("path_beneath 2", renewed, ("/usr",))
-        on_file = PathRule("path_beneath 3", Access(frozenset({"truncate"}), frozenset({"make_reg"})), ("/usr/ls",))
-        rules = (paths, newer, on_file)
-        tried = Policy(Path("P.toml"), (Layer(1, everything, ports, rules, (PortRule("p", ports, (443,)),)),))
-        for abi in ABIS:
-            with self.subTest(abi):
-                fitted = applying.records(tried, fit(tried, abi)[0], TREE, 1)
-                newest = applying.records(tried, fit(tried, NEWEST_ABI)[0], TREE, 1)
-                self.assertEqual(list(applying.at_best_effort(newest, abi)), fitted)
-
-    def test_best_effort_keeps_the_records_of_a_layer_that_an_abi_has_not(self) -> None:
-        tried = policy("/usr", fs=access("truncate"), allowed=access("truncate"))
-        newest = applying.records(tried, fit(tried, NEWEST_ABI)[0], TREE, 1)
-        found = [record["op"] for record in applying.at_best_effort(newest, 2)]
-        self.assertEqual(found, ["nnp", "create", "restrict", "close_rs"])
-        self.assertEqual([one["op"] for one in applying.records(tried, fit(tried, 2)[0], TREE, 1)], ["nnp"])
-
     def test_a_parent_that_is_a_loop(self) -> None:
         looped = policy("/loop")
         with self.assertRaisesRegex(Problem, "P.toml: layer 1, path_beneath 1, parent: /loop is a loop"):
             applying.records(looped, fit(looped, 5)[0], TREE, 1)
 
     def test_a_trace_keeps_its_own_lines(self) -> None:
-        trace = Path(self.folder.name, "trace.jsonl")
+        trace = Path(self.folder, "trace.jsonl")
         own = b'{"op":"start" , "pid":10}\n\n{"op":"exec","pid":10,"path":"/usr/ls"}'
         trace.write_bytes(own)
         out = io.BytesIO()

@@ -4,8 +4,8 @@ from __future__ import annotations
 
 import unittest
 
-from landaudit_record.jsonl import numbered
-from landaudit_record.recorder.calls import beyond, descriptors, landlock, opening, others
+from landaudit_record.common.jsonl import numbered
+from landaudit_record.recorder.calls import descriptors, inexpressible, landlock, opening, ptrace
 from landaudit_record.recorder.mounted import Places
 from landaudit_record.recorder.names import OF_KIND, UNKNOWN_WAY
 
@@ -134,7 +134,7 @@ class OtherProc(WrittenLogs):
         ):
             with self.subTest(call):
                 self.convert(call)
-                self.assertEqual(self.unsaid(), [(others.INTO_ANOTHER, True)])
+                self.assertEqual(self.unsaid(), [(ptrace.INTO_ANOTHER, True)])
 
     def test_what_anyone_may_see_is_not(self) -> None:
         self.convert('stat("/host/p/7/status", 0x1) = 0', 'stat("/host/q/7/cwd", 0x1) = 0')
@@ -172,9 +172,19 @@ class OpenedInside(WrittenLogs):
             [("open", "/w/f"), ("open", "/w/p"), ("exec", "/w/p"), ("close", None), ("ftruncate", None)],
         )
 
+    def test_a_script_by_a_descriptor_that_is_closed(self) -> None:
+        """Its interpreter could not open it by that: it is not run, and Landlock is asked about the script alone."""
+        self.disk = [*DISK, {"path": "/w/s", "kind": "reg", "runs": True, "interpreter": "/bin/sh"}]
+        enoent = "-1 ENOENT (No such file or directory)"
+        for flags, error, paths in (("0x200000 /* O_PATH */", "0", ["/w/s", "/bin/sh", "/w/loader"]),
+                                    ("0x280000 /* O_PATH|O_CLOEXEC */", enoent, ["/w/s"])):
+            run = f'execveat(3</w/s>, "", ["s"], 0x1 /* 0 vars */, 0x1000 /* AT_EMPTY_PATH */) = {error}'
+            trace = self.convert(f'openat({CWD}, "s", {flags}) = 3</w/s>', run)
+            self.assertEqual([path for op, path in told(trace, "op", "path") if op == "exec"], paths)
+
     def test_the_file_of_acct_is_opened_again_without_its_folders(self) -> None:
         self.convert('acct("f") = 0', 'acct("nothere") = -1 ENOENT (No such file or directory)')
-        self.assertEqual(self.unsaid(), [(beyond.WITHOUT_FOLDERS, True)])
+        self.assertEqual(self.unsaid(), [(inexpressible.WITHOUT_FOLDERS, True)])
 
     def test_a_file_whose_path_is_written_into_another_one(self) -> None:
         register = "/proc/sys/fs/binfmt_misc/register"

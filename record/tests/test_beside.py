@@ -9,7 +9,7 @@ import unittest
 from collections.abc import Callable
 from pathlib import Path
 
-from landaudit_record import jsonl
+from landaudit_record.common import jsonl
 from landaudit_record.recorder import beside
 
 SOON = 30.0

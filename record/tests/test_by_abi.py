@@ -6,22 +6,27 @@ import json
 import unittest
 from collections import Counter
 
-from landaudit_record import by_abi, summary_text
-from landaudit_record.by_abi import Kind, Step
-from landaudit_record.summary import Refusal, RefusingLayer, Summary
-from landaudit_record.summary_text import Style
+from landaudit_record.audit import by_abi
+from landaudit_record.audit.by_abi import Kind, Step
+from landaudit_record.audit.summary import Refusal, RefusingLayer, Summary
+from landaudit_record.audit.warnings import OfLog
+from landaudit_record.summaries import summary_text
+from landaudit_record.summaries.summary_text import Style
+
+from .worded import subject
 
 LAYER = RefusingLayer(1, 1, ())
-MOVE = Kind("rename", "/a/f -> /b/f", "EXDEV")
-CUT = Kind("open w trunc", "/a/f", "EACCES")
-CALL = Kind("connect", "port 443", "EACCES")
+MOVE = Kind("rename", subject("/a/f -> /b/f"), "EXDEV")
+CUT = Kind("open w trunc", subject("/a/f"), "EACCES")
+CALL = Kind("connect", subject("port 443"), "EACCES")
 
 
 def summary(abi: int, *kinds: Kind, warnings: tuple[str, ...] = ()) -> Summary:
     """A summary with ten calls allowed, one moot, and one refused for each mention of a kind."""
-    found = Summary(abi, Counter(allowed=10, moot=1, refused=len(kinds)), warnings=dict.fromkeys(warnings, 1))
+    counts = Counter(allowed=10, moot=1, refused=len(kinds))
+    found = Summary(abi, counts, warnings=dict.fromkeys(map(OfLog, warnings), 1))
     for kind in kinds:
-        refusal = Refusal(kind.call, kind.place, kind.error, (LAYER,), None)
+        refusal = Refusal(kind.call, kind.subject, kind.error, (LAYER,), None)
         found.refusals.setdefault(refusal, Counter())["/bin"] += 1
     return found
 
@@ -38,6 +43,17 @@ def table(*summaries: Summary, width: int = 80) -> list[str]:
     return rows
 
 
+class Ranges(unittest.TestCase):
+    def test_an_abi_that_adds_no_right_has_the_answers_of_the_newest_that_does(self) -> None:
+        judged = [summary(4), summary(5, MOVE)]
+        found = by_abi.of_range(judged, range(4, 8))
+        self.assertEqual([one.abi for one in found], [4, 5, 6, 7])
+        self.assertEqual([one.verdicts["refused"] for one in found], [0, 1, 1, 1])
+        found[2].verdicts["refused"] += 1
+        self.assertEqual([one.verdicts["refused"] for one in found], [0, 1, 2, 1])
+        self.assertEqual([one.abi for one in by_abi.of_range([summary(5)], range(6, 7))], [6])
+
+
 class Steps(unittest.TestCase):
     def test_all_that_the_oldest_refuses_breaks_there(self) -> None:
         self.assertEqual(changes(summary(2, MOVE, CUT)), [((MOVE, CUT), ())])
@@ -50,29 +66,29 @@ class Steps(unittest.TestCase):
         found = changes(summary(1, MOVE, CUT, CALL, CALL), summary(2), summary(3, CALL, MOVE, CUT, CUT))
         self.assertEqual([breaks for breaks, _ in found], [(MOVE, CALL, CUT), (), (CALL, CUT, MOVE)])
 
-    def test_of_what_is_refused_no_more_the_most_frequent_come_first(self) -> None:
+    def test_what_is_no_longer_refused_is_ordered_by_frequency(self) -> None:
         found = changes(summary(1, MOVE, CUT, CALL, CUT), summary(2))
         self.assertEqual(found[1], ((), (CUT, MOVE, CALL)))
 
     def test_a_kind_is_one_whichever_layers_refuse_it(self) -> None:
         both = summary(2, CALL)
         program = RefusingLayer(2, None, ())
-        both.refusals[Refusal(CALL.call, CALL.place, CALL.error, (LAYER, program), None)] = Counter({"/bin": 2})
+        both.refusals[Refusal(CALL.call, CALL.subject, CALL.error, (LAYER, program), None)] = Counter({"/bin": 2})
         self.assertEqual(changes(summary(1, CALL), both), [((CALL,), ()), ((), ())])
         self.assertEqual(changes(both)[0][0], (CALL,))
 
     def test_another_error_is_another_kind_and_the_call_stays_refused(self) -> None:
-        other = Kind(MOVE.call, MOVE.place, "EACCES")
+        other = Kind(MOVE.call, MOVE.subject, "EACCES")
         self.assertEqual(changes(summary(1, MOVE), summary(2, other)), [((MOVE,), ()), ((other,), ())])
 
     def test_warnings_that_the_newest_has_not(self) -> None:
         older, newer = summary(1, warnings=("a", "b")), summary(2, warnings=("b",))
-        self.assertEqual([step.warnings for step in by_abi.steps([older, newer])], [("a",), ()])
+        self.assertEqual([step.warnings for step in by_abi.steps([older, newer])], [(OfLog("a"),), ()])
 
 
 class Written(unittest.TestCase):
     def test_a_row_for_each_abi_and_each_change(self) -> None:
-        other = Kind("exec", "/bin", "EACCES")
+        other = Kind("exec", subject("/bin"), "EACCES")
         self.assertEqual(table(summary(1, MOVE, MOVE), summary(2, other), summary(3, other)), [
             "  ABI  allowed  refused  moot  what changes",
             "    1       10        2     1  breaks: rename /a/f -> /b/f EXDEV",
@@ -82,18 +98,18 @@ class Written(unittest.TestCase):
         ])
 
     def test_a_few_kinds_are_named(self) -> None:
-        kinds = [Kind("bind", f"port {port}", "EACCES") for port in range(5)]
+        kinds = [Kind("bind", subject(f"port {port}"), "EACCES") for port in range(5)]
         row = table(summary(4, *kinds), summary(5), width=120)[1]
         self.assertTrue(row.endswith("  breaks: bind port 0 EACCES, bind port 1 EACCES, bind port 2 EACCES and 2 more"))
         self.assertTrue(table(summary(4, *kinds[:3]), summary(5), width=120)[1].endswith(", bind port 2 EACCES"))
         self.assertTrue(table(summary(4, *kinds), summary(5))[1].endswith("  breaks: bind port 0 EACCES and 4 more"))
 
     def test_a_call_that_is_about_nothing_by_name(self) -> None:
-        row = table(summary(1, Kind("restrict", "-", "EBADF")), summary(2))[1]
+        row = table(summary(1, Kind("restrict", subject("-"), "EBADF")), summary(2))[1]
         self.assertTrue(row.endswith("  breaks: restrict EBADF"))
 
     def test_a_descriptor_that_no_program_had_has_no_number(self) -> None:
-        row = table(summary(1, Kind("ioctl", "descriptor 1000001", "EACCES")), summary(2))[1]
+        row = table(summary(1, Kind("ioctl", subject("descriptor 1000001"), "EACCES")), summary(2))[1]
         self.assertTrue(row.endswith("  breaks: ioctl a file of its own EACCES"))
 
     def test_warnings_that_the_summary_does_not_show(self) -> None:
@@ -102,7 +118,7 @@ class Written(unittest.TestCase):
                          ["2 more warnings: see --abi 1", "1 more warning: see --abi 2", ""])
 
     def test_a_path_cannot_speak_to_the_terminal(self) -> None:
-        rows = table(summary(1, Kind("open r", "/a/\x1b[2J\n", "EACCES")), summary(2))
+        rows = table(summary(1, Kind("open r", subject("/a/\x1b[2J\n"), "EACCES")), summary(2))
         self.assertIn(r"/a/\x1b[2J\n", rows[1])
         self.assertNotIn("\x1b", "".join(rows))
 

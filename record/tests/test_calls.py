@@ -152,6 +152,11 @@ class Calls(StraceLines):
         (made,) = self.convert(f"landlock_create_ruleset({attributes}, 24, 0) = 3<anon_inode:[landlock-ruleset]>")
         self.assertEqual((made["fs"], made["scoped"]), (["read_file"], ["signal", "bit_2"]))
         self.assertEqual(self.unsaid(), ["scopes of a ruleset"])
+        call = f"landlock_create_ruleset({attributes}, 24, 0) = 3<anon_inode:[landlock-ruleset]>"
+        self.convert(call.replace("0x6", "0x2"))
+        self.assertEqual(self.unsaid(), [])
+        self.convert(call.replace("0x6", "0x2").replace("0x4,", "0,"))
+        self.assertEqual(self.unsaid(), ["scopes of a ruleset"])
 
     def test_a_ruleset_that_no_number_names(self) -> None:
         restrict = self.one("landlock_restrict_self(-1, 0) = -1 EBADF (Bad file descriptor)")

@@ -7,23 +7,24 @@ import unittest
 from collections import Counter
 from pathlib import Path
 
-from landaudit_record import policies
-from landaudit_record.answers import Closed, Gained, Missing, Mounting, Objection
-from landaudit_record.page import cards
-from landaudit_record.page.offering import NO_RULE, OF_PROGRAM
-from landaudit_record.policies import Layer, Policy
-from landaudit_record.summary import Refusal, RefusingLayer, Summary
-from landaudit_record.trees import Tree, upwards
-from landaudit_record.trying import Tried
+from landaudit_record.audit.auditor import Tried
+from landaudit_record.audit.summary import Refusal, RefusingLayer, Summary
+from landaudit_record.common.trees import Tree, upwards
+from landaudit_record.engine.answers import Closed, Gained, Missing, Mounting, Objection
+from landaudit_record.policy import policies
+from landaudit_record.policy.policies import Layer, Policy
+from landaudit_record.summaries.page import cards
+from landaudit_record.summaries.page.offering import NO_RULE, OF_PROGRAM
 
 from .pages import Element, read
+from .worded import subject
 
 DENY = '[[layer]]\nhandled_access_fs = ["all"]\nhandled_access_net = ["all"]\n'
 
 
 def refused(call: str, place: str, *objections: Objection, layer: int | None = 1, error: str = "EACCES") -> Refusal:
     """A kind of calls that one layer refuses."""
-    return Refusal(call, place, error, (RefusingLayer(1, layer, objections),), None)
+    return Refusal(call, subject(place), error, (RefusingLayer(1, layer, objections),), None)
 
 
 def opened(path: str, *rights: str) -> Refusal:
@@ -42,9 +43,9 @@ class Cards(unittest.TestCase):
 
     def cards(self, *refusals: Refusal, text: str = DENY, tree: Tree | None = None, abi: int = 5) -> list[Element]:
         """The cards for some refusals, each of two calls, on files that are all there before the run."""
-        kinds = {over: "dir" for one in refusals for path in one.place.split(" -> ") if path.startswith("/")
+        kinds = {over: "dir" for one in refusals for path in one.subject.paths
                  for over in upwards(path)}
-        kinds |= {one.place: "reg" for one in refusals if one.call == "open"}
+        kinds |= {path: "reg" for one in refusals if one.call == "open" for path in one.subject.paths}
         tried = Tried(None, self.policy(text), None, tree or Tree(kinds), [])  # type: ignore[arg-type]
         found = Summary(abi, refusals={one: Counter({"/usr/bin/a": 2}) for one in refusals})
         return read(cards.cards([found], tried, [])).all("article")

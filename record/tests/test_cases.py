@@ -7,9 +7,9 @@ import tempfile
 import unittest
 from pathlib import Path
 
-from landaudit_record import cases
-from landaudit_record.cases import Cases
-from landaudit_record.problems import UNREADABLE, Problem
+from landaudit_record.common.problems import UNREADABLE, Problem
+from landaudit_record.policy import cases
+from landaudit_record.policy.cases import Cases
 
 
 RUNNING = [{"op": "open", "path": "@/file", "mode": "r"}, {"op": "close"}, {"op": "exec", "path": "@/file"}]
@@ -129,6 +129,18 @@ class Reading(unittest.TestCase):
              "allowed 2, path: @/n has kind 'dir' in another case, and kind 'reg' here"),
             ('[[allowed]]\ncall = "open r"\npath = "@/file/x"\nkind = "reg"\n[[allowed]]\ncall = "exec"\npath = "@/file"',
              "allowed 2, path: @/file has kind 'dir' in another case"),
+            ('[[nothing]]\nrights = ["write"]', "nothing 1: under is missing"),
+            ('[[nothing]]\nrights = []\nunder = "/"', "nothing 1, rights: is empty: name a right at least"),
+            ('[[only]]\nrights = ["reed"]\nunder = "/"', "only 1, rights: unknown right for files 'reed', did you mean 'read'?"),
+            ('[[only]]\nrights = ["read"]\nunder = []', "only 1, under: is empty: give one or several"),
+            ('[[only]]\nrights = ["read"]\nunder = "usr"', "only 1, under: 'usr' is not absolute"),
+            ('[[nothing]]\nrights = ["read"]\nunder = "@/file/"',
+             "nothing 1, under: @/file is no directory on this machine, so @/file/ leads nowhere"),
+            ('[[nothing]]\nrights = ["read"]\nunder = "/proc/self"', "under: not known where /proc/self leads"),
+            ('[[never]]\nunder = "/"', "never 1: both is missing"),
+            ('[[never]]\nboth = ["write", "execute"]', "never 1, both: must be two rights, of execute, write_file"),
+            ('[[never]]\nboth = ["truncate"]', "never 1, both: must be two rights"),
+            ('[[never]]\nrights = ["truncate"]', "never 1: unknown key 'rights'"),
         ):
             with self.subTest(text), self.assertRaises(Problem) as caught:
                 self.read(text)

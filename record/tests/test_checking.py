@@ -4,6 +4,7 @@ from __future__ import annotations
 
 import contextlib
 import io
+import random
 import shutil
 import subprocess
 import sys
@@ -11,10 +12,13 @@ import tempfile
 import unittest
 from pathlib import Path
 
-from landaudit_record import cli, tap
-from landaudit_record.landaudit import BUILT
+from landaudit_record import cli
+from landaudit_record.common import tap
+from landaudit_record.common.problems import NOT_ALL_JUDGED
+from landaudit_record.engine.landaudit import BUILT
 
-from . import random_checks
+from . import random_checks, random_questions
+from .drawn import by_chance
 from .live_actor import CONFINER
 
 POLICY = """[[layer]]
@@ -183,18 +187,125 @@ class Checking(unittest.TestCase):
         )
 
     def test_random_cases_about_files_of_this_disk(self) -> None:
-        cases = 0
-        for seed in range(4):
-            asked, found = random_checks.faults(BUILT, seed, 50)
+        cases = []
+
+        @by_chance(examples=5)
+        def check(chance: random.Random) -> None:
+            asked, found = random_checks.faults(BUILT, chance, 50)
             self.assertEqual(found, [])
-            cases += asked
-        self.assertGreater(cases, 100)
+            cases.append(asked)
+
+        check()
+        self.assertGreater(sum(cases), 100)
+
+    def test_random_questions_by_calls_on_small_trees(self) -> None:
+        asked, held = [], []
+
+        @by_chance(examples=5)
+        def check(chance: random.Random) -> None:
+            questions, hold, found = random_questions.faults(BUILT, chance, 8)
+            self.assertEqual(found, [])
+            asked.append(questions)
+            held.append(hold)
+
+        check()
+        self.assertTrue(5 < sum(held) < sum(asked) - 5, (held, asked))
+
+    def question(self, question: str, policy: str = POLICY) -> tuple[int, list[str]]:
+        """The status of a check of one question, and the lines of its point without those that are the same in all."""
+        status, lines = self.point(question, policy)
+        return status, [line.strip() for line in lines if line not in ("  ---", "  ...")]
+
+    def test_nothing_under_a_path(self) -> None:
+        """By hand: /work is written by the second rule, which the second layer does not grant truncate besides."""
+        under = '[[nothing]]\nrights = ["write_file"]\nunder = "@/{}"\n'
+        self.assertEqual(self.question(under.format("closed")), (0, ["ok 1 - nothing: write_file under @/closed"]))
+        for path in ("link", "work/../work/", "work/file", "work/new/deeper"):
+            led = path.replace("link", "work").replace("work/../work/", "work")
+            where = "on @/work/file as a file" if path == "work/file" else f"under @/{led}"
+            with self.subTest(path):
+                self.assertEqual(self.question(under.format(path)), (1, [
+                    f"not ok 1 - nothing: write_file under @/{led}", '"abi 1-5":', f'- "write_file {where}"',
+                    '"rules":', '- "layer 1: path_beneath 2 on @/work grants write_file"']))
+        above = self.question('[[nothing]]\nrights = ["write_file"]\nunder = "@"\nabi = "3"\n')
+        self.assertEqual(above[1][:3], ["not ok 1 - nothing: write_file under @ at ABI 3", '"abi 3":', '- "write_file under @/work"'])
+
+    def test_a_right_that_an_abi_does_not_know(self) -> None:
+        """By its name, it passes where no layer handles it; of a group, it is not asked."""
+        named = '[[nothing]]\nrights = ["truncate"]\nunder = "@/open"\n'
+        self.assertEqual(self.question(named), (1, [
+            "not ok 1 - nothing: truncate under @/open", '"abi 1-2":', '- "truncate under @/open"',
+            '"rules":', '- "no layer handles truncate at ABI 1-2"']))
+        self.assertEqual(self.question(named + 'abi = "3-5"\n')[0], 0)
+        self.assertEqual(self.question('[[nothing]]\nrights = ["write"]\nunder = "@/open"\n'), (0, [
+            "ok 1 - nothing: write under @/open", '"not asked":', '- "refer, truncate, ioctl_dev, which ABI 1 does not know"',
+            '- "truncate, ioctl_dev, which ABI 2 does not know"', '- "ioctl_dev, which ABI 3-4 does not know"']))
+
+    def test_refer_where_no_layer_names_it(self) -> None:
+        """A layer that handles some right for files refuses `refer`, also at ABI 1 (docs/SEMANTICS.md)."""
+        nowhere = '[[nothing]]\nrights = ["refer"]\nunder = "/"\n'
+        self.assertEqual(self.question(nowhere, '[[layer]]\nhandled_access_fs = ["read_dir"]\n')[0], 0)
+        status, lines = self.question(nowhere, '[[layer]]\nhandled_access_net = ["bind_tcp"]\n')
+        self.assertEqual((status, lines[2:]), (1, ['- "refer under /"', '"rules":', '- "no layer handles refer at ABI 1-5"']))
+
+    def test_what_is_never_written_and_run(self) -> None:
+        status, lines = self.question('[[never]]\nboth = ["write_file", "execute"]\n')
+        self.assertEqual((status, lines), (1, [
+            "not ok 1 - never: write_file and execute", '"abi 1-5":', '- "execute, write_file under @/work"',
+            '"rules":', '- "layer 1: path_beneath 2 on @/work grants execute, write_file"']))
+        apart = '[[never]]\nboth = ["write_file", "execute"]\nunder = "@/open"\n'
+        self.assertEqual(self.question(apart), (0, ["ok 1 - never: write_file and execute under @/open"]))
+        # One layer grants writing, another one running, and each all of the other right: both pass.
+        layers = "".join(f'[[layer]]\nhandled_access_fs = ["{right}"]\n[[layer.path_beneath]]\nallowed_access = ["{right}"]\n'
+                         f'parent = "{parent}"\n' for right, parent in (("write_file", "@/work"), ("execute", "@/work/file")))
+        status, lines = self.question('[[never]]\nboth = ["write_file", "execute"]\n', layers)
+        self.assertEqual((status, lines[2:]), (1, [
+            '- "execute, write_file on @/work/file as a file"', '"rules":',
+            '- "layer 1: path_beneath 1 on @/work grants write_file"', '- "layer 2: path_beneath 1 on @/work/file grants execute"']))
+
+    def test_only_under_some_paths(self) -> None:
+        only = '[[only]]\nrights = ["execute"]\nunder = {}\n'
+        self.assertEqual(self.question(only.format('["@/open", "@/link"]')),
+                         (0, ["ok 1 - only: execute under @/open, @/work"]))
+        status, lines = self.question(only.format('"@/work/file"'))
+        self.assertEqual((status, lines[2]), (1, '- "execute under @/work, but for @/work/file"'))
+        status, lines = self.question(only.format('"@/open"'), '[[layer]]\nhandled_access_fs = ["read_file"]\n')
+        self.assertEqual((status, lines[2:]), (1, ['- "execute under /, but for @/open"', '"rules":',
+                                                   '- "no layer handles execute at ABI 1-5"']))
+
+    def test_a_rule_on_a_path_that_is_not_here(self) -> None:
+        """It is on what is there on another machine."""
+        status, lines = self.question('[[nothing]]\nrights = ["read_file"]\nunder = "/nowhere"\n')
+        self.assertEqual((status, lines[2]), (1, '- "read_file under /nowhere"'))
+        # Nothing is beneath a file, and a rule that leads through one is on nothing.
+        beneath = POLICY.replace('"/nowhere"', '"@/closed/file/x"')
+        self.assertEqual(self.question('[[nothing]]\nrights = ["read"]\nunder = "@/closed"\n', beneath)[0], 0)
+
+    def test_a_rule_on_another_name_of_a_file_or_of_none(self) -> None:
+        (self.folder / "closed" / "name").hardlink_to(self.folder / "open" / "file")
+        policy = POLICY.replace('"@/open"', '"@/open/file"').replace('["read"]', '["read_file"]')
+        nothing = '[[nothing]]\nrights = ["read_file"]\nunder = "@/closed{}"\n'
+        status, lines = self.question(nothing.format("/name"), policy)
+        self.assertEqual((status, lines[2]), (1, '- "read_file on @/closed/name as a file"'))
+        status, _, said = self.checked(nothing.format(""), policy)
+        self.assertEqual(status, NOT_ALL_JUDGED)
+        self.assertIn("NOT ALL IS ASKED: @/open/file has other names (hard links)", said)
+
+    def test_cases_and_questions(self) -> None:
+        status, lines, _ = self.checked('[[never]]\nboth = ["truncate", "execute"]\nabi = 5\n[[refused]]\ncall = "mount"\n')
+        self.assertEqual((status, lines[1], [line for line in lines if line.startswith(("ok", "not ok"))]), (
+            0, "1..2", ["ok 1 - refused: mount", "ok 2 - never: truncate and execute at ABI 5"]))
 
     def test_a_rule_that_the_kernel_refuses(self) -> None:
-        policy = POLICY.replace('allowed_access = ["read"]', 'allowed_access = ["read_dir"]').replace('"@/open"', '"@/open/file"')
-        status, lines, errors = self.checked('[[refused]]\ncall = "open r"\npath = "@/open/file"\n', policy)
-        self.assertEqual((status, lines), (3, []))
-        self.assertIn("layer 1, path_beneath 1: the kernel refuses it with EINVAL: @/open/file is not a directory", errors)
+        of_directories = 'allowed_access = ["read_dir"]'
+        policy = POLICY.replace('allowed_access = ["read"]', of_directories).replace('"@/open"', '"@/open/file"')
+        fault = "layer 1, path_beneath 1: the kernel refuses it with EINVAL: @/open/file is not a directory"
+        for asked in ('[[nothing]]\nrights = ["read"]\nunder = "/"\n',
+                      '[[refused]]\ncall = "open r"\npath = "@/open/file"\n'):
+            with self.subTest(asked):
+                status, lines, errors = self.checked(asked, policy)
+                self.assertEqual((status, lines), (3, []))
+                self.assertIn(fault, errors)
 
 
 if __name__ == "__main__":

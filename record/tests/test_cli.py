@@ -55,7 +55,7 @@ class CommandLine(unittest.TestCase):
                 self.assertEqual(out.getvalue(), f"landaudit-record {VERSION}\n")
 
     def test_wrong_words_are_status_2(self) -> None:
-        for words in ([], ["nosuch"], ["audit"], ["audit", "rec", "--abi", "6"]):
+        for words in ([], ["nosuch"], ["audit"], ["audit", "rec", "--abi", "0"]):
             with self.subTest(words):
                 self.assertEqual(said(*words)[0], 2)
 
@@ -66,14 +66,15 @@ class CommandLine(unittest.TestCase):
             (["--abi=5"], [5]),
             (["--abi", "2-4"], [2, 3, 4]),
             (["--abi=1-5"], [1, 2, 3, 4, 5]),
+            (["--abi=5-7"], [5, 6, 7]),
             (["--abi", "3-3"], [3]),
         ):
             with self.subTest(words):
                 self.assertEqual(list(cli.parse(["audit", "rec", *words]).abis), abis)
 
     def test_what_is_no_range_of_abis(self) -> None:
-        what = "is neither an ABI nor a range: give one from 1 to 5, or an ascending range such as 2-5"
-        for word in ("0-3", "5-1", "1-6", "1-", "-", "a-b", "-3", "1-2-3", "1 - 2", "1,2", "0", "01", "", "٣", "1--2"):
+        what = "is neither an ABI nor a range: give one from 1 to 7, or an ascending range such as 2-5"
+        for word in ("0-3", "5-1", "6-", "1-", "-", "a-b", "-3", "1-2-3", "1 - 2", "1,2", "0", "01", "", "٣", "1--2"):
             with self.subTest(word):
                 status, error = said("audit", "rec", f"--abi={word}")
                 self.assertEqual(status, 2)
@@ -92,11 +93,24 @@ class CommandLine(unittest.TestCase):
             with self.subTest(words):
                 self.assertEqual(cli.parse(words).abi, 5)
                 self.assertEqual(cli.parse([*words, "--abi", "2"]).abi, 2)
-                for word in ("1-2", "6", "x", "", "03"):
+                for later in ("6", "7"):
+                    self.assertEqual(cli.parse([*words, "--abi", later]).abi, 5)
+                for word in ("1-2", "0", "x", "", "03"):
                     status, error = said(*words, "--abi", word)
                     self.assertEqual(status, 2)
-                    what = f"{word!r} is not an ABI: give one from 1 to 5 (audit and diff take a range)\n"
+                    what = f"{word!r} is not an ABI: give one from 1 to 7 (audit and diff take a range)\n"
                     self.assertTrue(error.endswith(f"argument --abi: {what}"), error)
+
+    def test_what_is_put_in_force_may_be_of_each_abi(self) -> None:
+        self.assertEqual(cli.parse(["run", "rec", "--", "true"]).abi, 7)
+        self.assertEqual(cli.parse(["run", "rec", "--abi", "6", "--", "true"]).abi, 6)
+        self.assertEqual(cli.parse(["confine", "p", "--", "true"], cli.POLICY).abi, 7)
+
+    def test_an_abi_that_is_not_known_yet_is_judged_as_the_latest_with_a_warning(self) -> None:
+        for word, found in (("8", [7]), ("5-9", [5, 6, 7]), ("8-9", [7])):
+            with self.subTest(word), contextlib.redirect_stderr(io.StringIO()) as told:
+                self.assertEqual(list(cli.parse(["audit", "rec", "--abi", word]).abis), found)
+            self.assertIn(f": note: ABI {word[-1]} is not known here: judged as ABI 7\n", told.getvalue())
 
     def test_a_run_without_a_command(self) -> None:
         for words in (["rec"], ["rec", "--"], ["rec", "sort", "-r", "/a b"]):

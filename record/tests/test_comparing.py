@@ -13,12 +13,12 @@ from dataclasses import replace
 from pathlib import Path
 from typing import Any
 
-from landaudit_record import comparing, comparing_text
-from landaudit_record.comparing import Class, Classes, Difference, Tally
-from landaudit_record.kernel_calls import judged_calls
-from landaudit_record.reading import judged
-from landaudit_record.rights import alone
-from landaudit_record.trees import Tree
+from landaudit_record.audit import comparing, comparing_text
+from landaudit_record.audit.comparing import Class, Classes, Difference, Tally
+from landaudit_record.audit.kernel_calls import judged_calls
+from landaudit_record.common.rights import alone
+from landaudit_record.common.trees import Tree
+from landaudit_record.engine.reading import judged
 
 from .recorded import Said, unexplained, write_lines, write_report
 

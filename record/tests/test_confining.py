@@ -10,11 +10,17 @@ import tempfile
 import unittest
 from collections.abc import Collection
 from pathlib import Path
+from typing import Any
 from unittest import mock
 
-from landaudit_record import cli, confining, policies
-from landaudit_record.policies import Policy
-from landaudit_record.problems import UNREADABLE, WANTING, Problem
+from landaudit_record import cli
+from landaudit_record.common.problems import UNREADABLE, WANTING, Problem
+from landaudit_record.common.rights import NET, NEWEST_ABI, OLDEST_ABI
+from landaudit_record.engine import landaudit_rules
+from landaudit_record.policy import called, confining, policies
+from landaudit_record.policy.policies import Policy
+
+from . import proved_calls
 
 LAYERS = """[[layer]]
 handled_access_fs = ["read", "refer"]
@@ -67,6 +73,22 @@ class Kernel:
             raise OSError(self.refused[call], os.strerror(self.refused[call]))
 
 
+def as_told(call: dict[str, Any], abi: int) -> tuple[object, ...] | None:
+    """A call of landaudit-rules as the stand-in for the kernel tells it. No right for ports is handled before ABI 4."""
+    match call:
+        case {"op": "nnp"}:
+            return ("nnp",)
+        case {"op": "create", "fs": fs, "net": net}:
+            return "create", sorted(fs), sorted(net) if abi >= min(NET.since.values()) else None
+        case {"op": "add_path", "path": path, "fs": fs}:
+            return "path", path, sorted(fs)
+        case {"op": "add_port", "port": port, "net": net}:
+            return "port", port, sorted(net)
+        case {"op": "restrict"}:
+            return ("restrict",)
+    return None
+
+
 class Confining(unittest.TestCase):
     def setUp(self) -> None:
         self.folder = Path(self.enterContext(tempfile.TemporaryDirectory())).resolve()
@@ -87,6 +109,25 @@ class Confining(unittest.TestCase):
         with self.assertRaises(Problem) as caught:
             self.confined(text, kernel, 5)
         return caught.exception
+
+    def test_the_calls_are_those_that_are_proved(self) -> None:
+        """A rule on a missing object is left out; the stand-in for the kernel refuses nothing."""
+        kinds = {str(self.folder): "dir", f"{self.folder}/file": "reg", f"{self.folder}/missing": None}
+        tried = proved_calls.policies(kinds)
+        for abi in range(OLDEST_ABI, NEWEST_ABI + 1):
+            for policy, calls in zip(tried, proved_calls.of(tried, kinds, abi)):
+                kernel = Kernel(abi)
+                with self.subTest(abi), mock.patch.object(confining, "landlock", kernel):
+                    confining.confine(policy, abi)
+                    wanted = (as_told(call, abi) for call in calls if kinds.get(call.get("path", ""), "dir"))
+                    self.assertEqual(kernel.calls, list(filter(None, wanted)))
+
+    def test_nothing_is_put_in_force_without_landaudit_rules(self) -> None:
+        kernel = Kernel(5)
+        missing = mock.patch.object(landaudit_rules, "find", side_effect=Problem("not built", WANTING))
+        with missing, mock.patch.object(called, "_said", {}):
+            self.assertEqual(self.fault(LAYERS, kernel).status, WANTING)
+        self.assertEqual(kernel.calls, [])
 
     def test_layers_come_in_their_order_each_with_its_rules(self) -> None:
         kernel = Kernel(5)
@@ -133,25 +174,27 @@ parent = ["{folder}", "{folder}/file"]
     def test_scopes_where_the_kernel_has_them(self) -> None:
         text = '[[layer]]\nhandled_access_fs = ["refer"]\nscoped = ["signal"]\n[[layer]]\nscoped = ["abstract_unix_socket"]\n'
         newer, older = Kernel(6), Kernel(5)
-        notes = self.confined(text, newer, 5)
+        notes = self.confined(text, newer, 7)
         created = [call for call in newer.calls if call[0] == "create"]
         self.assertEqual(created, [("create", ["refer"], [], "signal"), ("create", [], [], "abstract_unix_socket")])
         self.assertFalse(any("scopes" in note for note in notes))
-        notes = self.confined(text, older, 5)
-        self.assertEqual([call for call in older.calls if call[0] == "create"], [("create", ["refer"], [])])
-        self.assertIn("layer 2: the kernel does not know scopes, which need ABI 6: dropped", notes)
+        for kernel, abi in ((older, 7), (Kernel(6), 5)):
+            notes = self.confined(text, kernel, abi)
+            self.assertEqual([call for call in kernel.calls if call[0] == "create"], [("create", ["refer"], [])])
+            self.assertIn("layer 2: ABI 5 does not know scopes: dropped", notes)
 
     def test_a_layer_of_which_only_the_scope_is_in_force_is_not_said_to_be_left_out(self) -> None:
         alone = '[[layer]]\nscoped = ["signal"]\n'
-        self.assertEqual(self.confined(alone, Kernel(6), 5), [])
-        self.assertEqual(
-            self.confined(alone, Kernel(5), 5), ["layer 1: the kernel does not know scopes, which need ABI 6: dropped"]
-        )
+        kernel = Kernel(6)
+        self.assertEqual(self.confined(alone, kernel, 6), [])
+        self.assertEqual(kernel.calls, [("nnp",), ("create", [], [], "signal"), ("restrict",)])
+        self.assertEqual(self.confined(alone, Kernel(5), 6), ["layer 1: ABI 5 does not know scopes: dropped"])
         kernel = Kernel(6)
         notes = self.confined('[[layer]]\nhandled_access_fs = ["refer"]\nscoped = ["signal"]\n', kernel, 1)
-        self.assertEqual(kernel.calls, [("nnp",), ("create", [], None, "signal"), ("restrict",)])
+        self.assertEqual(kernel.calls, [("nnp",)])
         self.assertEqual(notes, ["layer 1, handled_access_fs: ABI 1 does not know refer: dropped",
-                                 "layer 1 has only its scopes: ABI 1 knows nothing else that it handles"])
+                                 "layer 1 is left out: ABI 1 knows nothing that it handles",
+                                 "layer 1: ABI 1 does not know scopes: dropped"])
 
     def test_each_layer_has_its_denials_logged_where_the_kernel_logs(self) -> None:
         """LANDLOCK_RESTRICT_SELF_LOG_NEW_EXEC_ON is of ABI 7 (landlock_restrict_self(2)); older kernels give EINVAL."""

@@ -5,8 +5,8 @@ from __future__ import annotations
 import unittest
 from pathlib import Path
 
-from landaudit_record.jsonl import Record
-from landaudit_record.problems import Problem
+from landaudit_record.common.jsonl import Record
+from landaudit_record.common.problems import Problem
 from landaudit_record.recorder import converting
 from landaudit_record.recorder.ports import Ports
 

@@ -6,8 +6,8 @@ import random
 import unittest
 from itertools import groupby
 
-from landaudit_record.jsonl import Record
-from landaudit_record.problems import Problem
+from landaudit_record.common.jsonl import Record
+from landaudit_record.common.problems import Problem
 from landaudit_record.recorder import converting
 from landaudit_record.recorder.ports import Ports
 from landaudit_record.recorder.writing import Recording, Tree

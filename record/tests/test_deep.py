@@ -2,7 +2,7 @@
 
 from __future__ import annotations
 
-from landaudit_record import jsonl
+from landaudit_record.common import jsonl
 
 from .written_logs import WrittenLogs
 

@@ -19,11 +19,13 @@ from pathlib import Path
 from typing import Any
 from unittest import mock
 
-from landaudit_record import cli, policies
-from landaudit_record.commands import denials as command
+from landaudit_record import cli
+from landaudit_record.commands.record import denials as command
 from landaudit_record.kernel_log import counting, data, granting, matching, text
-from landaudit_record.page import denials as page, sections
-from landaudit_record.policies import Policy
+from landaudit_record.kernel_log import page as page
+from landaudit_record.policy import policies
+from landaudit_record.policy.policies import Policy
+from landaudit_record.summaries.page import sections
 
 from .json_schema import DOCS, Schema, Validator
 from .pages import Element, read as read_page
@@ -221,7 +223,7 @@ class UnderPolicy(unittest.TestCase):
 
     def test_the_rules_above(self) -> None:
         found = counting.count(self.log, self.matched(TWO))
-        above = {(rule.layer, rule.rule, rule.place): dict(some) for rule, some in found.above.items()}
+        above = {(rule.layer, str(rule.rule), rule.place): dict(some) for rule, some in found.above.items()}
         self.assertEqual(above, {(1, "path_beneath 2", "/work"): {"make_dir": 1, "remove_file": 1},
                                  (2, "path_beneath 1", OUT): {"write_file": 1},
                                  (2, "path_beneath 2", "/work/box"): {"write_file": 1, "make_reg": 2}})
@@ -240,7 +242,7 @@ class UnderPolicy(unittest.TestCase):
         self.assertEqual(matched.layers, {})
         self.assertEqual(granting.grant(self.log, matched).of_others.total(), len(self.log.denials))
         found = counting.count(self.log, matched)
-        self.assertTrue(any("of no layer of" in warning for warning in found.summary.warnings))
+        self.assertTrue(any("of no layer of" in str(warning) for warning in found.summary.warnings))
 
     def test_a_pid_that_is_used_again(self) -> None:
         """The domains of a process that has ended are those of another process, which has the same layers."""
@@ -262,7 +264,7 @@ class UnderPolicy(unittest.TestCase):
         self.log = read(under_two() + "\n".join(other).encode())
         matched = self.matched(TWO)
         self.assertEqual(matched.layers["a1"], 1)
-        warnings = list(counting.count(self.log, matched).summary.warnings)
+        warnings = list(map(str, counting.count(self.log, matched).summary.warnings))
         self.assertIn(f"layers of 2 programs would be those of {self.folder}/P.toml: python3, x: --program chooses the "
                       "right one", warnings)
 
@@ -271,7 +273,7 @@ class UnderPolicy(unittest.TestCase):
         matched = self.matched("".join(layers))
         self.assertEqual(len(matched.unlike), 1)
         found = counting.count(self.log, matched)
-        self.assertTrue(any("fits all denials of domain" in warning for warning in found.summary.warnings))
+        self.assertTrue(any("fits all denials of domain" in str(warning) for warning in found.summary.warnings))
 
     def test_what_else_a_layer_refuses(self) -> None:
         """Ports, mounts, scopes and `refer`, which each layer for files restricts."""
@@ -282,6 +284,12 @@ class UnderPolicy(unittest.TestCase):
         found = {denial.stamp.serial: matched.layers.get(denial.accesses[0].domain) for denial in self.log.denials}
         self.assertEqual({serial: layer for serial, layer in found.items() if layer is not None},
                          {217: 1, 219: 1, 223: 2, 227: 1, 241: 1})
+
+
+def places(rule: dict[str, Any]) -> list[Any]:
+    """What a rule of a policy's file is on: each of its paths, or its ports."""
+    parents = rule.get("parent", [])
+    return [tuple(rule["port"])] if "port" in rule else [parents] if isinstance(parents, str) else parents
 
 
 class Rules(unittest.TestCase):
@@ -303,7 +311,7 @@ class Rules(unittest.TestCase):
 
     def test_what_a_rule_can_grant_and_nothing_else(self) -> None:
         found, said = self.rules(kept("netlink.log"))
-        granted = {(rule.get("parent") or tuple(rule["port"])): set(rule["allowed_access"]) for rule in found}
+        granted = {on: set(rule["allowed_access"]) for rule in found for on in places(rule)}
         self.assertEqual(granted, {
             OUT: {"make_reg", "make_dir", "make_sym", "make_fifo", "make_char", "make_sock", "remove_file",
                   "remove_dir"},
@@ -335,7 +343,7 @@ class Rules(unittest.TestCase):
         _, said = self.rules(under_two(), policy=TWO)
         first, second = said.index("# 1 rule for layer 1"), said.index("for layer 2")
         self.assertIn('["remove_file", "make_dir"]\nparent = "/work/box/in"', said[first:second])
-        self.assertIn('["write_file"]\nparent = "/work/box/out/file"', said[second:])
+        self.assertIn('["write_file"]\nparent = [\n    "/dev/null",\n    "/work/box/out/file",\n]', said[second:])
 
     def test_a_program_that_the_log_does_not_name(self) -> None:
         _, said = self.rules(line(ACCESS))

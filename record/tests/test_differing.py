@@ -8,10 +8,13 @@ import tempfile
 import time
 import unittest
 from pathlib import Path
+from unittest import mock
 
-from landaudit_record import cli, policies
-from landaudit_record.landaudit import BUILT
-from landaudit_record.regions import RULED_KINDS, Region, Regions, as_named, phrases
+from landaudit_record import cli
+from landaudit_record.engine import asking
+from landaudit_record.engine.landaudit import BUILT
+from landaudit_record.policy import moving, policies
+from landaudit_record.policy.regions import RULED_KINDS, Region, Regions, areas, as_named
 
 from . import brute, covering
 from .random_calls import Call, Right
@@ -35,7 +38,7 @@ class InRegions(unittest.TestCase):
     regions = Regions(("/", "/a", "/a/b", "/a/b/c", "/a/d"), (80,), "~try~")
 
     def said(self, differing: set[Region], of_files: bool = False) -> list[str]:
-        return list(phrases(self.regions, differing, of_files))
+        return list(map(str, areas(self.regions, differing, of_files)))
 
     def test_a_region_is_named_with_what_is_not_as_it(self) -> None:
         self.assertEqual(self.said({Region("/a"), Region("/a/d")}), ["under /a, but for /a/b"])
@@ -55,7 +58,7 @@ class InRegions(unittest.TestCase):
             file.write_text(OLD.replace("/srv", "/srv//x/../~try~"))
             found = Regions.of([policies.read(file)])
         self.assertEqual(found.paths, ("/", "/data/in", "/data/out", "/data/shared", "/srv/~try~"))
-        self.assertEqual((found.word, found.ports, found.other_port), ("~try~~", (), 0))
+        self.assertEqual((found.word, found.ports, found.numbered_ports), ("~try~~", (), (None,)))
         kinds = found.kinds()
         self.assertEqual({kinds[found.as_file("/data/in", kind)] for kind in RULED_KINDS}, set(RULED_KINDS))
         self.assertEqual((kinds["/data"], kinds["/data/in"], kinds[found.child("/", "sock")]), ("dir", "dir", "sock"))
@@ -68,8 +71,9 @@ class InRegions(unittest.TestCase):
     def test_names_follow_no_link(self) -> None:
         self.assertEqual(as_named("/lib/./x//../y/"), "/lib/y")
 
-    def test_the_port_that_stands_for_all_without_a_rule(self) -> None:
-        self.assertEqual(Regions(("/",), ((0, 3), (1,)), "").other_port, 2)
+    def test_ports_with_a_rule_by_groups_and_all_without_one(self) -> None:
+        self.assertEqual(Regions(("/",), ((0, 3), (1,)), "").numbered_ports, (0, 1, None))
+        self.assertEqual(Regions(("/",), (tuple(range(65536)),), "").numbered_ports, (0,))
 
 
 @unittest.skipUnless(BUILT.exists(), f"{BUILT} is not built")
@@ -125,9 +129,9 @@ class Differing(unittest.TestCase):
     def test_what_moves_give_in_a_layer_that_is_no_more(self) -> None:
         """Moves as paths are named are told as such; where no object can be moved, none is."""
         layer = '[[layer]]\nhandled_access_fs = [{}"execute", "make_reg"]\n'
-        moving = '[[layer.path_beneath]]\nallowed_access = ["make_reg"{}]\nparent = "/a"\n'
+        making = '[[layer.path_beneath]]\nallowed_access = ["make_reg"{}]\nparent = "/a"\n'
         rule = '[[layer.path_beneath]]\nallowed_access = ["execute"]\nparent = "/b"\n'
-        with_refer, without = (layer.format(one) + moving.format(two) for one, two in (('"refer", ', ', "refer"'), ("", "")))
+        with_refer, without = (layer.format(one) + making.format(two) for one, two in (('"refer", ', ', "refer"'), ("", "")))
         status, lines, _ = self.said(with_refer + rule + with_refer, with_refer + with_refer)
         gained = "  perhaps moves to under /b, which give execute (refused by layer 1) (at ABI 2-5)"
         self.assertEqual((status, lines[:2]), (1, ["new lets pass what old refuses:", gained]))
@@ -163,6 +167,8 @@ class Differing(unittest.TestCase):
                 "  moves of objects of every kind from under /data/in to under /data/out",
             },
         )
+        with mock.patch.object(moving, "FEW", 3), mock.patch.object(asking, "MOST_PROCESSES", 3):
+            self.assertEqual(self.said(OLD, new, "--abi", "4-5")[1], lines)
         # The rule on /data/shared stays with its object, also where that is moved out of /data.
         moved = "  read_file, read_dir by the rule on /data/shared, wherever that is moved or linked (refused by layer 1)"
         self.assertIn(moved, lines[lines.index("old lets pass what new refuses:") :])
@@ -245,6 +251,18 @@ class Differing(unittest.TestCase):
         self.assertEqual(self.said(self.linked("real/f"), self.linked("link/../f"))[0], 0)
         status, lines, _ = self.said(self.linked("f"), self.linked("link/../f"))
         self.assertEqual((status, lines[1]), (1, "  read_file, read_dir under real/f"))
+
+    def test_a_file_with_a_name_that_no_policy_has(self) -> None:
+        """A hard link of a file with a rule is known if a policy names it; else what is compared is not all."""
+        (self.folder / "f").write_text("")
+        (self.folder / "g").hardlink_to(self.folder / "f")
+        (self.folder / "folder").mkdir()
+        told = ("landaudit-policy: note: NOT ALL IS COMPARED: f has other names (hard links), on which the rule is too: name "
+                "them in a policy\n")
+        self.assertEqual(self.said(self.linked("f"), self.linked("g"))[::2], (0, ""))
+        self.assertEqual(self.said(self.linked("f"), self.linked("f"))[::2], (5, told))
+        self.assertEqual(self.said(self.linked("f"), self.linked("folder"))[::2], (1, told))
+        self.assertEqual(self.said(self.linked("folder"), self.linked("folder"))[::2], (0, ""))
 
     def test_a_link_across_layers(self) -> None:
         """What the first layer grants, the second does by a link alone."""
@@ -348,6 +366,111 @@ class Differing(unittest.TestCase):
         _, lines, _ = self.said(on + rule, '[[layer]]\nhandled_access_net = ["connect_tcp"]\n', "--abi", "5")
         self.assertIn("  bind_tcp on every port, but for port 80", lines)
         self.assertIn("  connect_tcp on every port", lines)
+
+    def accepted(self, text: str, *words: str, new: str = OLD) -> tuple[int, list[str], str]:
+        """What is said where a file accepts differences from a policy that refuses more."""
+        (self.folder / "accepted").write_text(text)
+        narrow = OLD.replace('parent = ["/srv", "/data/shared"]', 'parent = "/srv"')
+        return self.said(narrow, new, "--accepted", str(self.folder / "accepted"), *words)
+
+    def test_what_is_accepted(self) -> None:
+        known = '[[accepted]]\nrights = ["read"]\nunder = "{}"\nreason = "it is shared"\n'
+        status, lines, errors = self.accepted(known.format("/data/shared"), "--abi", "1")
+        self.assertEqual((status, lines[:-1], errors), (0, [
+            "new lets nothing pass that old refuses, but for what is accepted", "old lets nothing pass that new refuses",
+            "accepted (it is shared):", "  read_file, read_dir under /data/shared"], ""))
+        # What is above a path is not at or under it, and what is under it is.
+        self.assertEqual(self.accepted(known.format("/data"))[0], 0)
+        status, lines, errors = self.accepted(known.format("/data/shared/x"))
+        self.assertEqual((status, lines[1]), (1, "  read_file, read_dir under /data/shared"))
+        self.assertEqual(errors, "landaudit-policy: note: accepted, but no longer there: read_file, read_dir under "
+                                 "/data/shared/x (it is shared)\n")
+
+    def test_one_right_of_several_is_accepted(self) -> None:
+        known = '[[accepted]]\nrights = ["read_dir"]\nunder = "/data/shared"\nreason = "names are no secret"\n'
+        status, lines, _ = self.accepted(known, new=OLD + '[[layer.path_beneath]]\nallowed_access = ["execute"]\nparent = "/x"\n')
+        self.assertEqual((status, lines[:3]), (1, [
+            "new lets pass what old refuses:", "  execute under /x", "  read_file under /data/shared"]))
+        self.assertEqual(lines[-3:-1], ["accepted (names are no secret):", "  read_dir under /data/shared"])
+
+    def test_ports_moves_and_changes_without_a_place_are_accepted(self) -> None:
+        layer = '[[layer]]\nhandled_access_fs = ["all"]\nhandled_access_net = ["all"]\n'
+        old, new = layer + 'scoped = ["signal"]\n' + layer, layer + (
+            '[[layer.net_port]]\nallowed_access = ["bind_tcp"]\nport = [80, 81]\n'
+            '[[layer.path_beneath]]\nallowed_access = ["refer", "make_reg"]\nparent = "/x"\n')
+        known = ('[[accepted]]\nrights = ["all"]\nport = [80{}]\nreason = "a"\n[[accepted]]\nchange = "signal"\nreason = "b"\n'
+                 '[[accepted]]\nchange = "layers"\nreason = "c"\n[[accepted]]\nfrom = "/x"\nto = "/"\nreason = "d"\n'
+                 '[[accepted]]\nrights = ["write"]\nunder = "/x"\nreason = "e"\n')
+        for more, status in ((", 81", 0), ("", 1)):
+            (self.folder / "known").write_text(known.format(more))
+            found = self.said(old, new, "--accepted", str(self.folder / "known"))
+            self.assertEqual(found[0], status, found[1])
+        self.assertEqual(found[1][1], "  bind_tcp on port 80, port 81 (at ABI 4-5)")
+        (self.folder / "known").write_text('[[accepted]]\nrights = ["bind_tcp"]\nreason = "on each port"\n')
+        net = '[[layer]]\nhandled_access_net = ["{}"]\n'
+        found = self.said(net.format("all"), net.format("connect_tcp"), "--abi", "5", "--accepted", str(self.folder / "known"))
+        self.assertEqual((found[0], found[1][2:4]), (0, ["accepted (on each port):", "  bind_tcp on every port"]))
+
+    def test_what_is_accepted_by_a_link_is_what_it_leads_to(self) -> None:
+        (self.folder / "real").mkdir()
+        (self.folder / "link").symlink_to("real")
+        (self.folder / "known").write_text(
+            f'[[accepted]]\nrights = ["read"]\nunder = "{self.folder}/link"\nreason = "a"\n')
+        words = ("--accepted", str(self.folder / "known"))
+        self.assertEqual(self.said('[[layer]]\nhandled_access_fs = ["read"]\n', self.linked("real"), *words)[0], 0)
+
+    def test_what_is_no_acceptance(self) -> None:
+        for text, wanted in (
+            ('rights = ["read"]\nunder = "/"', "accepted 1: reason is missing"),
+            ('reason = "a"', "give rights and under (a path), rights for ports and perhaps port, from and to, or change"),
+            ('rights = ["read"]\nunder = "/"\nport = 1\nreason = "a"', "give rights and under (a path)"),
+            ('under = "/"\nreason = "a"', "give rights and under (a path)"),
+            ('rights = ["read"]\nreason = "a"', "rights: must be a list of rights for TCP ports"),
+            ('rights = []\nunder = "/"\nreason = "a"', "rights: must be a list of rights for files"),
+            ('rights = ["read"]\nunder = "a"\nreason = "a"', "under: 'a' is not absolute"),
+            ('change = "mount"\nreason = "a"', "change: unknown change 'mount', did you mean 'mounts'?"),
+            ('call = "open r"\nreason = "a"', "unknown key 'call'"),
+        ):
+            with self.subTest(text):
+                status, _, errors = self.accepted(f"[[accepted]]\n{text}\n")
+                self.assertEqual(status, 3)
+                self.assertIn(wanted, errors)
+
+    def without_old(self, new: str, allowed: str, *words: str) -> tuple[int, list[str]]:
+        """The status and the lines where there is no old policy."""
+        (self.folder / "new").write_text(new)
+        with contextlib.redirect_stdout(io.StringIO()) as out:
+            status = cli.main(["diff", str(self.folder / "new"), "--old-allows", allowed, *words], cli.POLICY)
+        return status, out.getvalue().replace(f"{self.folder}/", "").splitlines()[:-1]
+
+    def test_no_old_policy(self) -> None:
+        policy = ('[[layer]]\nhandled_access_fs = ["execute", "read_file"]\nscoped = ["signal", "abstract_unix_socket"]\n'
+                  '[[layer.path_beneath]]\nallowed_access = ["read_file"]\nparent = "/x"\n')
+        status, lines = self.without_old(policy, "everything", "--abi", "1")
+        self.assertEqual((status, lines[0]), (0, "new refuses:"))
+        self.assertLessEqual({"  execute under /", "  read_file under /, but for /x", "  mounts"}, set(lines))
+        status, lines = self.without_old(policy.replace('"execute", "read_file"', '"all"'), "nothing", "--abi", "1")
+        self.assertEqual((status, lines), (1, ["new lets pass:", "  read_file under /x"]))
+        rest = policy.replace('"execute", "read_file"', '"all"').replace("allowed_access = [", 'allowed_access = ["write_file", ')
+        (self.folder / "known").write_text('[[accepted]]\nrights = ["all"]\nunder = "/x"\nreason = "a"\n')
+        status, lines = self.without_old(rest, "nothing", "--abi", "1", "--accepted", str(self.folder / "known"))
+        self.assertEqual((status, lines), (0, [
+            "new lets nothing pass, but for what is accepted", "accepted (a):", "  write_file, read_file under /x"]))
+
+    def test_a_policy_against_none_is_as_one_against_all(self) -> None:
+        """A policy that refuses everything lets nothing pass, and one that handles next to nothing refuses little."""
+        everything = '[[layer]]\nhandled_access_fs = ["all"]\nhandled_access_net = ["all"]\nscoped = ["signal", "abstract_unix_socket"]\n'
+        self.assertEqual(self.without_old(everything, "nothing"), (0, ["new lets nothing pass"]))
+        scope = '[[layer]]\nscoped = ["signal"]\n'
+        line = "  signals to processes that it does not confine (no scope; from ABI 6 on)"
+        self.assertEqual(self.without_old(scope, "everything"), (0, ["new refuses:", line]))
+
+    def test_an_old_policy_or_none(self) -> None:
+        (self.folder / "new").write_text(OLD)
+        for words in ([], [str(self.folder / "new"), "--old-allows", "nothing"]):
+            with contextlib.redirect_stderr(io.StringIO()) as errors:
+                self.assertEqual(cli.main(["diff", str(self.folder / "new"), *words], cli.POLICY), 2)
+            self.assertIn("give the old policy or, if there is none, --old-allows", errors.getvalue())
 
     def test_random_policies_by_random_calls(self) -> None:
         calls = differ = 0

@@ -28,9 +28,8 @@ def elf(loader: bytes = LOADER, *, wide: bool = True, order: str = "<", kind: in
 
 class Links(unittest.TestCase):
     def setUp(self) -> None:
-        folder = tempfile.TemporaryDirectory()
-        self.addCleanup(folder.cleanup)
-        self.one, self.other = Path(folder.name, "one"), Path(folder.name, "other")
+        folder = self.enterContext(tempfile.TemporaryDirectory())
+        self.one, self.other = Path(folder, "one"), Path(folder, "other")
         self.one.touch()
 
     def test_names_of_one_file(self) -> None:
@@ -50,9 +49,7 @@ class Links(unittest.TestCase):
 
 class Interpreters(unittest.TestCase):
     def setUp(self) -> None:
-        folder = tempfile.TemporaryDirectory()
-        self.addCleanup(folder.cleanup)
-        self.file = Path(folder.name, "program")
+        self.file = Path(self.enterContext(tempfile.TemporaryDirectory()), "program")
 
     def of(self, content: bytes) -> str | None:
         """What a file of some bytes is run by."""

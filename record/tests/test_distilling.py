@@ -7,9 +7,9 @@ import unittest
 from collections.abc import Sequence
 from pathlib import Path
 
-from landaudit_record.distilling import Distilling, Question, text
-from landaudit_record.jsonl import Record
-from landaudit_record.problems import Problem
+from landaudit_record.common.jsonl import Record
+from landaudit_record.common.problems import Problem
+from landaudit_record.tighten.distilling import Distilling, LayeredCall, text
 
 from .recorded import unexplained, write_lines, write_report
 
@@ -29,7 +29,7 @@ def opened(call: Sequence[object], fd: int) -> Record:
 
 
 class Distilled(unittest.TestCase):
-    def asked(self, *records: Record, refused: Sequence[int] = ()) -> dict[Question, int]:
+    def asked(self, *records: Record, refused: Sequence[int] = ()) -> dict[LayeredCall, int]:
         """The questions of a trace, in which the records of some places, from 1, are refused and all others allowed."""
         lines = [{"pid": 10, **record} for record in records]
         with tempfile.TemporaryDirectory() as folder:
@@ -42,7 +42,7 @@ class Distilled(unittest.TestCase):
 
     def test_calls_that_ask_the_same_are_one_question(self) -> None:
         found = self.asked(START, *OF_POLICY, opened(READ, 3), opened(READ, 4), {"op": "mount"})
-        self.assertEqual(found, {Question((1,), (READ,)): 2, Question((1,), (("mount",),)): 1})
+        self.assertEqual(found, {LayeredCall((1,), (READ,)): 2, LayeredCall((1,), (("mount",),)): 1})
 
     def test_before_the_policy_nothing_is_asked(self) -> None:
         self.assertEqual(self.asked(START, opened(WRITE, 3), *OF_POLICY, {"op": "ftruncate", "fd": 3}), {})
@@ -58,8 +58,8 @@ class Distilled(unittest.TestCase):
             {"op": "adopt", "fd": 3, "kind": "reg"}, {"op": "ftruncate", "fd": 3},
             {"pid": 11, "op": "ftruncate", "fd": 3}, {"pid": 11, "op": "ftruncate", "fd": 5},
         ]
-        used = Question((1,), (WRITE, ("ftruncate",)))
-        self.assertEqual(self.asked(START, *OF_POLICY, *calls), {Question((1,), (WRITE,)): 1, used: 2})
+        used = LayeredCall((1,), (WRITE, ("ftruncate",)))
+        self.assertEqual(self.asked(START, *OF_POLICY, *calls), {LayeredCall((1,), (WRITE,)): 1, used: 2})
 
     def test_a_descriptor_is_judged_by_the_layers_that_were_there_when_it_was_opened(self) -> None:
         own: list[Record] = [
@@ -70,16 +70,16 @@ class Distilled(unittest.TestCase):
         ]
         found = self.asked(START, *OF_POLICY, opened(WRITE, 3), *own, {"op": "ftruncate", "fd": 3}, opened(READ, 4))
         layer = (("create", ("truncate",), None), ("add_path", "/g", ("truncate",)))
-        self.assertEqual(found, {Question((1,), (WRITE,)): 1, Question((1,), (WRITE, ("ftruncate",))): 1,
-                                 Question((1, layer), (READ,)): 1})
+        self.assertEqual(found, {LayeredCall((1,), (WRITE,)): 1, LayeredCall((1,), (WRITE, ("ftruncate",))): 1,
+                                 LayeredCall((1, layer), (READ,)): 1})
 
     def test_what_a_part_begins_with_is_not_counted(self) -> None:
         found = self.asked(START, *OF_POLICY, {**opened(WRITE, 3), "again": True}, {"op": "ftruncate", "fd": 3})
-        self.assertEqual(found, {Question((1,), (WRITE, ("ftruncate",))): 1})
+        self.assertEqual(found, {LayeredCall((1,), (WRITE, ("ftruncate",))): 1})
 
     def test_what_a_question_is_about(self) -> None:
         calls = (("rename", "/a/f", "/b/g", None), ("connect", 80), ("mount",))
-        about = [list(Question((1,), (call,)).about) for call in calls]
+        about = [list(LayeredCall((1,), (call,)).about) for call in calls]
         self.assertEqual(about, [["/a/f", "/b/g"], [80], []])
 
     def test_a_call_as_a_line_has_it(self) -> None:

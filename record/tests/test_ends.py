@@ -4,20 +4,24 @@ from __future__ import annotations
 
 import json
 import os
+import random
 import shutil
 import subprocess
 import sys
+import tarfile
 import tempfile
 import unittest
 from collections.abc import Iterator, Sequence
 from pathlib import Path
 
-from landaudit_record import commands, policy_commands
-from landaudit_record.jsonl import Record
-from landaudit_record.landaudit import BUILT
+from landaudit_record.commands import policy, record
+from landaudit_record.common.jsonl import Record
+from landaudit_record.engine.landaudit import BUILT
+from landaudit_record.recorder import packing
 
 from .live_actor import CONFINER, RECORDER
 from .recorded import write_lines
+from .test_joining import random_audit
 from .test_kernel_log import ACCESS, CALL, DOMAIN, kept, line
 
 POLICY = """[[layer]]
@@ -25,6 +29,13 @@ handled_access_fs = ["all"]
 [[layer.path_beneath]]
 allowed_access = ["execute"]
 parent = "/program"
+"""
+#: Lets files be moved, which `diff` asks landaudit about.
+MOVES = """[[layer]]
+handled_access_fs = ["all"]
+[[layer.path_beneath]]
+allowed_access = ["refer", "make_reg", "remove_file"]
+parent = ["/from", "/to"]
 """
 TREE = [{"path": "/program", "kind": "reg"}, {"path": "/f", "kind": "reg"}]
 TRACE = [{"op": "start", "pid": 10}, {"op": "exec", "path": "/program", "pid": 10, "call": 1},
@@ -56,9 +67,11 @@ class Ends(unittest.TestCase):
         self.recording.mkdir()
         write_lines(self.recording / "tree.jsonl", TREE)
         write_lines(self.recording / "trace.jsonl", TRACE)
-        for name, text in (("policy", POLICY), ("cases", CASES), ("config", CONFIG)):
+        for name, text in (("policy", POLICY), ("moves", MOVES), ("cases", CASES), ("config", CONFIG)):
             (self.folder / f"{name}.toml").write_text(text)
         (self.folder / "kernel.log").write_bytes(kept("dmesg.log"))
+        (self.folder / "audit.json").write_text(json.dumps(random_audit(random.Random(1), "rec")))
+        packing.pack(self.recording, self.folder / "rec.tar.gz")
 
     def calls(self) -> Iterator[tuple[Path, list[str]]]:
         """Each subcommand of each program, with the words that it needs."""
@@ -69,8 +82,10 @@ class Ends(unittest.TestCase):
             "denials": ["kernel.log", "--policy", "policy.toml"], "confine": ["policy.toml", "--", "true"],
             "diff": ["policy.toml", "policy.toml"], "check": ["policy.toml", "cases.toml"],
             "export": ["policy.toml", "--c"], "lint": ["policy.toml"], "import": ["--landlockconfig", "config.toml"],
+            "distill": ["rec", "-o", "out.distilled"], "merge": ["audit.json"], "pack": ["rec", "-o", "out.tar.gz"],
+            "unpack": ["rec.tar.gz", "again"],
         }
-        for program, names in ((RECORDER, commands.NAMES), (CONFINER, policy_commands.NAMES)):
+        for program, names in ((RECORDER, record.NAMES), (CONFINER, policy.NAMES)):
             for name in names:
                 called = name.rstrip("_")
                 yield program, [called, *words[called]]
@@ -92,7 +107,8 @@ class Ends(unittest.TestCase):
 
     def test_an_output_that_is_closed_or_full(self) -> None:
         """What prints its result can't; the others do their work or say what else they miss."""
-        printing = {"audit", "suggest", "tighten", "apply", "denials", "diff", "check", "export", "lint", "import"}
+        printing = {"audit", "suggest", "tighten", "apply", "denials", "diff", "check", "export", "lint", "import",
+                    "merge"}
         for how in ('exec "$@" >&-', 'exec "$@" >/dev/full'):
             for program, words in self.calls():
                 if words[0] in printing:
@@ -117,6 +133,7 @@ class Ends(unittest.TestCase):
         for other in ("/bin/true", "/bin/false", "/bin/echo", "/bin/pwd"):
             for program, words in self.calls():
                 if words[0] in ("audit", "suggest", "tighten", "compare", "diff", "check"):
+                    words = ["diff", "policy.toml", "moves.toml"] if words[0] == "diff" else words
                     with self.subTest(words, other=other):
                         run = self.ended([sys.executable, program, *words, "--landaudit", other])
                         self.failed(program, words, run)
@@ -129,7 +146,7 @@ class Ends(unittest.TestCase):
             self.skipTest("setpriv is not installed")
         closed = self.folder / "closed"
         closed.mkdir()
-        for name in ("rec", "policy.toml", "cases.toml", "config.toml", "kernel.log"):
+        for name in ("rec", "policy.toml", "cases.toml", "config.toml", "kernel.log", "audit.json", "rec.tar.gz"):
             (self.folder / name).rename(closed / name)
             (self.folder / name).symlink_to(closed / name)
         closed.chmod(0)
@@ -141,7 +158,7 @@ class Ends(unittest.TestCase):
                 self.assertEqual(run.returncode, 3, run.stderr)
 
     def test_a_file_in_the_place_of_a_folder_and_the_reverse(self) -> None:
-        for name in ("rec", "policy.toml", "kernel.log"):
+        for name in ("rec", "policy.toml", "kernel.log", "audit.json", "rec.tar.gz"):
             there = self.folder / name
             there.rename(self.folder / "other")
             there.mkdir() if "." in name else there.touch()
@@ -163,15 +180,21 @@ class Ends(unittest.TestCase):
         write_lines(self.recording / "tree.jsonl", [*TREE, {"path": name, "kind": "reg"}])
         write_lines(self.recording / "trace.jsonl", [*TRACE, {**TRACE[2], "path": name, "fd": 4, "call": 3}])
         (self.folder / "kernel.log").write_text(self.odd_log(name))
+        (self.folder / "audit.json").write_text(json.dumps(random_audit(random.Random(1), name)))
+        with tarfile.open(self.folder / "rec.tar.gz", "w:gz") as archive:
+            link = tarfile.TarInfo(name[1:])
+            link.type, link.linkname = tarfile.SYMTYPE, name
+            archive.addfile(link)
         more = [(RECORDER, ["denials", "kernel.log", option]) for option in ("--suggest", "--all", "--json")]
+        more += [(RECORDER, ["merge", "audit.json", "audit.json"])]
         for program, words in [*self.calls(), *more]:
             with self.subTest(words):
                 run = self.ended([sys.executable, program, *words])
                 printed = (run.stdout if words[0] != "apply" else "") + run.stderr
                 self.assertEqual([one for one in printed if not one.isprintable() and one not in "\n\t"], [])
                 (self.folder / f"{name[1:]}.toml").write_text("x")
-                run = self.ended([sys.executable, program, *[f"{name[1:]}.toml" if it.endswith(".toml") else it
-                                                             for it in words]])
+                run = self.ended([sys.executable, program, *[
+                    f"{name[1:]}.toml" if it.endswith((".toml", ".json", ".gz")) else it for it in words]])
                 self.assertEqual([one for one in run.stderr if not one.isprintable() and one != "\n"], [])
 
     def odd_log(self, name: str) -> str:
@@ -203,17 +226,18 @@ class Ends(unittest.TestCase):
                 self.assertEqual(self.ended([*audited, *words]).returncode, int("--policy" in words))
 
     def test_huge_numbers(self) -> None:
-        """In each file that is TOML, and in a trace and a tree."""
+        """In each file that is TOML or JSON, and in a trace and a tree."""
         texts = {"policy.toml": f"x = {HUGE}\n{POLICY}", "cases.toml": CASES.replace("443", HUGE),
-                 "config.toml": f"abi = {HUGE}\n{CONFIG}",
+                 "config.toml": f"abi = {HUGE}\n{CONFIG}", "audit.json": f'{{"format": {HUGE}}}',
                  "rec/trace.jsonl": f'{{"op":"start","pid":{HUGE}}}\n',
                  "rec/tree.jsonl": f'{{"path":{HUGE},"kind":"reg"}}\n'}
+        reading = ("audit", "suggest", "tighten", "apply", "distill")
         for name, text in texts.items():
             file = self.folder / name
             before = file.read_text()
             file.write_text(text)
             for program, words in self.calls():
-                if name in words or (name.startswith("rec") and words[0] in ("audit", "suggest", "tighten", "apply")):
+                if name in words or (name.startswith("rec/") and words[0] in reading):
                     with self.subTest(words, name=name):
                         run = self.ended([sys.executable, program, *words])
                         self.failed(program, words, run)

@@ -1,4 +1,4 @@
-"""Where landaudit itself is looked for."""
+"""Where landaudit and landaudit-rules are looked for, and what landaudit-rules says if it is asked wrongly."""
 
 from __future__ import annotations
 
@@ -9,8 +9,8 @@ import unittest
 from pathlib import Path
 from unittest import mock
 
-from landaudit_record import landaudit
-from landaudit_record.problems import WANTING, Problem
+from landaudit_record.common.problems import UNREADABLE, WANTING, Problem
+from landaudit_record.engine import landaudit, landaudit_rules
 
 
 class Finding(unittest.TestCase):
@@ -22,6 +22,8 @@ class Finding(unittest.TestCase):
         for program in (self.built, self.beside, self.on_path):
             program.parent.mkdir()
         self.enterContext(mock.patch.object(landaudit, "BUILT", self.built))
+        self.enterContext(mock.patch.object(landaudit_rules, "BUILT", self.built.with_name("rules")))
+        self.enterContext(mock.patch.object(landaudit_rules, "_named", []))
         self.enterContext(mock.patch.object(sys, "argv", [str(self.folder / "bin" / "landaudit-record")]))
         self.enterContext(mock.patch.dict(os.environ, PATH=str(self.on_path.parent)))
 
@@ -52,6 +54,32 @@ class Finding(unittest.TestCase):
             landaudit.find(None)
         self.assertEqual(fault.exception.status, WANTING)
         self.assertIn("run 'make landaudit'", str(fault.exception))
+
+    def test_landaudit_rules_is_looked_for_at_the_same_places(self) -> None:
+        built, beside, on_path = places = [
+            self.built.with_name("rules"), *(one.with_name("landaudit-rules") for one in (self.beside, self.on_path))]
+        self.make(*places)
+        for program in (built, beside, on_path):
+            self.assertEqual(landaudit_rules.find(), program)
+            program.unlink()
+        with self.assertRaises(Problem) as fault:
+            landaudit_rules.find()
+        self.assertEqual(fault.exception.status, WANTING)
+        self.assertIn("landaudit-rules is not built: run 'make landaudit'", str(fault.exception))
+
+    def test_landaudit_rules_beside_a_landaudit_that_is_named(self) -> None:
+        rules = self.on_path.with_name("landaudit-rules")
+        self.make(self.built, self.built.with_name("rules"), self.on_path, rules)
+        landaudit.find(str(self.on_path))
+        self.assertEqual(landaudit_rules.find(), rules)
+
+
+@unittest.skipUnless(landaudit_rules.BUILT.exists(), f"{landaudit_rules.BUILT} is not built")
+class Asking(unittest.TestCase):
+    def test_an_input_that_does_not_read(self) -> None:
+        with self.assertRaises(Problem) as fault:
+            landaudit_rules.ask(landaudit_rules.BUILT, ['{"files":[false],"ports":0}', '{"files":[true],"ports":0}'])
+        self.assertEqual((fault.exception.status, str(fault.exception)), (UNREADABLE, "landaudit-rules: line 2: Field"))
 
 
 if __name__ == "__main__":

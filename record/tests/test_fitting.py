@@ -5,9 +5,10 @@ from __future__ import annotations
 import unittest
 from pathlib import Path
 
-from landaudit_record.fitting import FittedPathRule, fit
-from landaudit_record.policies import Access, Layer, PathRule, Policy, PortRule
-from landaudit_record.rights import FS, NET
+from landaudit_record.common.numbered import Numbered
+from landaudit_record.common.rights import FS, NET
+from landaudit_record.policy.fitting import FittedPathRule, fit
+from landaudit_record.policy.policies import Access, Layer, PathRule, Policy, PortRule
 
 ALL_FS = Access(grouped=FS.groups["all"])
 ALL_NET = Access(grouped=NET.groups["all"])
@@ -30,7 +31,7 @@ class Fitting(unittest.TestCase):
             self.assertEqual((layer.handled_fs, notes), (known, []))
 
     def test_ports_are_dropped_before_abi_4(self) -> None:
-        ports = (PortRule("net_port 1", ALL_NET, (443,)),)
+        ports = (PortRule(Numbered("net_port", 1), ALL_NET, (443,)),)
         (layer,), notes = fit(policy(ALL_FS, ALL_NET, ports=ports), 3)
         self.assertEqual((layer.handled_net, layer.port_rules), ([], ()))
         self.assertEqual(notes, ["layer 1, net_port 1 is left out: ABI 3 knows nothing that it allows"])
@@ -40,7 +41,7 @@ class Fitting(unittest.TestCase):
 
     def test_a_right_that_is_named_is_dropped_with_a_note(self) -> None:
         named = Access(outright=frozenset({"read_file", "truncate"}))
-        (layer,), notes = fit(policy(named, paths=(PathRule("path_beneath 1", named, ("/a",)),)), 2)
+        (layer,), notes = fit(policy(named, paths=(PathRule(Numbered("path_beneath", 1), named, ("/a",)),)), 2)
         self.assertEqual(layer.handled_fs, ["read_file"])
         self.assertEqual(layer.path_rules[0].on_directory, ["read_file"])
         self.assertEqual(
@@ -55,25 +56,26 @@ class Fitting(unittest.TestCase):
         self.assertEqual(notes, ["layer 1 is left out: ABI 3 knows nothing that it handles"])
 
     def test_a_group_in_a_rule_is_what_the_layer_handles(self) -> None:
-        rule = PathRule("path_beneath 1", Access(grouped=FS.groups["write"]), ("/a",))
+        rule = PathRule(Numbered("path_beneath", 1), Access(grouped=FS.groups["write"]), ("/a",))
         (layer,), _ = fit(policy(Access(outright=frozenset({"read_file", "write_file", "make_reg"})), paths=(rule,)), 5)
         self.assertEqual(layer.path_rules[0].on_directory, ["write_file", "make_reg"])
 
     def test_a_group_on_a_file_is_what_applies_to_files(self) -> None:
-        rule = FittedPathRule("path_beneath 1", ("/a",), ["read_file", "read_dir"], ["read_file"])
+        rule = FittedPathRule(Numbered("path_beneath", 1), ("/a",), ["read_file", "read_dir"], ["read_file"])
         self.assertEqual(rule.on("reg"), ["read_file"])
         self.assertEqual(rule.on("dir"), ["read_file", "read_dir"])
         self.assertEqual(rule.on(None), ["read_file", "read_dir"])
 
     def test_a_right_on_directories_that_is_named_stays_on_a_file(self) -> None:
-        access = Access(outright=frozenset({"read_dir"}), grouped=frozenset({"read_file", "make_reg"}))
-        (layer,), _ = fit(policy(ALL_FS, paths=(PathRule("path_beneath 1", access, ("/a",)),)), 5)
+        access = Access(outright=frozenset({"read_dir"}), grouped=FS.groups["read"] | FS.groups["write"])
+        handled = Access(outright=frozenset({"read_dir", "read_file", "make_reg"}))
+        (layer,), _ = fit(policy(handled, paths=(PathRule(Numbered("path_beneath", 1), access, ("/a",)),)), 5)
         self.assertEqual(layer.path_rules[0].on("reg"), ["read_file", "read_dir"])
 
     def test_a_rule_without_a_right_for_files_asks_for_all_of_it(self) -> None:
         making = Access(grouped=frozenset({"make_reg"}))
         for group, on_file in ((None, ["make_reg"]), ("base", [])):
-            rule = PathRule("path_beneath 1", making, ("/a",), group)
+            rule = PathRule(Numbered("path_beneath", 1), making, ("/a",), group)
             for handled in (ALL_FS, making):
                 (layer,), _ = fit(policy(handled, paths=(rule,)), 1)
                 self.assertEqual(layer.path_rules[0].on("reg"), on_file)
@@ -81,16 +83,24 @@ class Fitting(unittest.TestCase):
     def test_what_counts_on_a_file_is_the_same_at_each_abi(self) -> None:
         """The kernel knows truncate from ABI 3 on, and refer, which only directories have, from ABI 2 on."""
         for named, since in (("truncate", 3), ("refer", 2)):
-            access = Access(outright=frozenset({named}), grouped=frozenset({"make_reg"}))
+            access = Access(outright=frozenset({named}), grouped=FS.groups["write"])
+            handled = Access(outright=frozenset({named, "make_reg"}))
             for abi in range(1, 6):
                 with self.subTest(named, abi=abi):
-                    (layer,), _ = fit(policy(access, paths=(PathRule("path_beneath 1", access, ("/a",)),)), abi)
+                    rule = PathRule(Numbered("path_beneath", 1), access, ("/a",))
+                    (layer,), _ = fit(policy(handled, paths=(rule,)), abi)
                     (rule,) = layer.path_rules
                     self.assertEqual(rule.on("reg"), [named] if abi >= since else [])
                     self.assertEqual(set(rule.on("dir")), {"make_reg", named} if abi >= since else {"make_reg"})
 
+    def test_a_group_that_lacks_a_right_counts_as_it_is_written(self) -> None:
+        """It is written by names, and on a file the kernel refuses those that only directories have."""
+        lacking = PathRule(Numbered("path_beneath", 1), Access(grouped=FS.groups["write"] - {"make_sym"}), ("/a",))
+        (layer,), _ = fit(policy(ALL_FS, paths=(lacking,)), 5)
+        self.assertEqual(layer.path_rules[0].on("reg"), FS.ordered(FS.groups["write"] - {"make_sym"}))
+
     def test_a_right_that_the_layer_does_not_handle_counts_nowhere(self) -> None:
-        rule = PathRule("path_beneath 1", Access(grouped=FS.groups["write"]), ("/a",))
+        rule = PathRule(Numbered("path_beneath", 1), Access(grouped=FS.groups["write"]), ("/a",))
         (layer,), _ = fit(policy(Access(outright=frozenset({"make_reg", "refer"})), paths=(rule,)), 1)
         self.assertEqual(layer.path_rules[0].on("reg"), ["make_reg"])
 

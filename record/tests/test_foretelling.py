@@ -8,7 +8,7 @@ from pathlib import Path
 from typing import Any
 from unittest import mock
 
-from landaudit_record import jsonl
+from landaudit_record.common import jsonl
 
 from . import foretelling
 from .foretelling import Asked, Refusal

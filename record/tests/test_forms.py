@@ -16,13 +16,15 @@ from pathlib import Path
 from typing import Any
 from unittest import mock
 
-from landaudit_record import cli, fitting, policies, policy_text
-from landaudit_record.policies import HIGHEST_PORT, Layer, Policy
-from landaudit_record.problems import UNREADABLE, USAGE
+from landaudit_record import cli
+from landaudit_record.common.problems import UNREADABLE, USAGE
+from landaudit_record.common.rights import FS, NET, NEWEST_ABI, OLDEST_ABI, SCOPES
+from landaudit_record.policy import fitting, policies, policy_text
+from landaudit_record.policy.policies import HIGHEST_PORT, Layer, Policy
 from landaudit_record.recorder import converting
 from landaudit_record.recorder.ports import Ports
-from landaudit_record.rights import FS, NET, NEWEST_ABI, OLDEST_ABI
 
+from .drawn import by_chance
 from .kept_logs import KeptLogs
 from .test_importing import read
 
@@ -55,9 +57,7 @@ def rights(layer: Layer) -> dict[str | int, frozenset[str]]:
 
 class Forms(unittest.TestCase):
     def setUp(self) -> None:
-        folder = tempfile.TemporaryDirectory()
-        self.addCleanup(folder.cleanup)
-        self.folder = Path(folder.name)
+        self.folder = Path(self.enterContext(tempfile.TemporaryDirectory()))
 
     def layers(self, *words: str, **environment: str) -> tuple[Layer, ...]:
         """The layers that an import prints."""
@@ -98,7 +98,7 @@ class OfSetpriv(Forms):
 
     def test_what_else_it_has_is_told(self) -> None:
         _, out, _ = imported("--setpriv", "setpriv --nnp --reuid 7 --landlock-access fs -- ls -l 'a b'")
-        self.assertIn("# options that say nothing about Landlock: --nnp, --reuid\n# the command: ls -l 'a b'\n", out)
+        self.assertIn("# options that are no part of the policy: --nnp, --reuid\n# the command: ls -l 'a b'\n", out)
 
     def test_faults_name_their_words(self) -> None:
         for words, said in (
@@ -125,7 +125,7 @@ class SetprivAsRecorded(KeptLogs):
     def test_its_words_and_its_calls_are_one_policy(self) -> None:
         """The words and the calls of setpriv 2.41 on Linux 6.18, which ran in another root."""
         folder = self.folder("setpriv")
-        converting.convert(folder, Ports(None))
+        converting.convert(folder, Ports())
         _, out, _ = imported(str(folder))
         (recorded,) = read(out.replace('"/tmp/story/trixie/', '"/')).layers
         _, out, _ = imported("--setpriv", "setpriv --landlock-access fs --landlock-rule path-beneath:execute,read-file,"
@@ -136,34 +136,47 @@ class SetprivAsRecorded(KeptLogs):
 
 
 class OfLandrun(Forms):
-    """By the README of landrun 0.1.15, from memory."""
+    """By the source of landrun 0.1.17 (cmd/landrun/main.go, internal/sandbox/sandbox.go)."""
 
-    def test_paths_and_ports_are_layers_of_their_own(self) -> None:
-        words = ("landrun --best-effort --rox /usr --ro /etc,/opt --rw=/tmp --rwx /srv --connect-tcp 443,80 "
-                 "--bind-tcp 80 --env PATH ./server --rw /no")
-        paths, ports = self.layers("--landrun", words)
-        self.assertEqual((paths.handled_access_fs.rights, paths.handled_access_net.rights), (ALL, frozenset()))
-        self.assertEqual(rights(paths), {"/usr": READ | {"execute"}, "/etc": READ, "/opt": READ, "/tmp": READ | WRITE,
-                                         "/srv": ALL})
-        self.assertEqual(ports.handled_access_fs.rights, frozenset())
-        self.assertEqual(ports.handled_access_net.rights, NET.groups["all"])
-        self.assertEqual(rights(ports), {443: {"connect_tcp"}, 80: {"connect_tcp", "bind_tcp"}})
+    def test_one_layer_restricts_paths_ports_and_scopes(self) -> None:
+        words = ("landrun --best-effort --ignore-missing --rox /usr --ro /etc,/opt --rw=/tmp --rwx /srv "
+                 "--connect-tcp 443,80 --bind-tcp 80 --env PATH ./server --rw /no")
+        (layer,) = self.layers("--landrun", words)
+        self.assertEqual((layer.handled_access_fs.rights, layer.handled_access_net.rights), (ALL, NET.groups["all"]))
+        self.assertEqual(layer.scoped, ("abstract_unix_socket", "signal"))
+        self.assertEqual(rights(layer), {
+            "/usr": READ | {"execute"}, "/etc": READ, "/opt": READ, "/tmp": READ | WRITE, "/srv": ALL,
+            443: {"connect_tcp"}, 80: {"connect_tcp", "bind_tcp"}})
 
     def test_a_file_gets_the_rights_that_files_have(self) -> None:
-        paths, _ = self.layers("--landrun", "--rw /etc/motd")
-        fitted, _ = fitting.fit(Policy(Path("P"), (paths,)), NEWEST_ABI)
+        (layer,) = self.layers("--landrun", "--rw /etc/motd")
+        fitted, _ = fitting.fit(Policy(Path("P"), (layer,)), NEWEST_ABI)
         self.assertEqual(set(fitted[0].path_rules[0].on_file), {"read_file", "write_file", "truncate", "ioctl_dev"})
 
     def test_what_is_not_restricted(self) -> None:
-        (paths,) = self.layers("--landrun", "--unrestricted-network --ro /")
-        self.assertEqual(paths.handled_access_net.rights, frozenset())
+        (paths,) = self.layers("--landrun", "--unrestricted-network --unrestricted-scoped --ro /")
+        self.assertEqual((paths.handled_access_net.rights, paths.scoped), (frozenset(), ()))
         (ports,) = self.layers("--landrun", "--unrestricted-filesystem --bind-tcp 80")
         self.assertEqual((ports.number, ports.handled_access_fs.rights), (1, frozenset()))
 
+    def test_sockets_in_files_may_be_read(self) -> None:
+        """--unix grants ReadFile, for a directory ReadDir, and ResolveUnix, which ABI 9 has."""
+        status, out, _ = imported("--landrun", "--unix ' /run, /tmp'")
+        (layer,) = read(out).layers
+        self.assertEqual(rights(layer), {"/run": READ, "/tmp": READ})
+        self.assertEqual((status, "# left out: resolve_unix of ABI 9" in out), (0, True))
+
     def test_on_which_kernels_it_runs_is_told(self) -> None:
-        for words, said in (("--best-effort --ro /", "# on a kernel before ABI 5 it goes on with less\n"),
-                            ("--ro /", "# it runs on ABI 5 and later only\n")):
+        for words, said in (("--best-effort --ro /", "# on a kernel before ABI 9 it goes on with less\n"),
+                            ("--ro /", "# it runs on ABI 9 and later only\n"),
+                            ("--ro /", "# it ends with an error where a path is missing")):
             self.assertIn(said, imported("--landrun", words)[1])
+
+    def test_a_script_with_comments_and_continued_lines(self) -> None:
+        for script in ("#!/bin/sh\n# all\n\nlandrun \\\n  --ro /a \\\n  --ro '/b \\\n' \\\n --ro \"/c\\\\\" -- x\n",
+                       "landrun --ro /a --ro '/b \\\n' --ro '/c\\'"):
+            (layer,) = self.layers("--landrun", script)
+            self.assertEqual(set(rights(layer)), {"/a", "/b \\", "/c\\"})
 
     def test_faults_name_their_words(self) -> None:
         for words, said in (
@@ -175,7 +188,9 @@ class OfLandrun(Forms):
             ("--bind-tcp 65536", "'65536' is not a port"),
             ("--rx /usr", "unknown option '--rx', did you mean"),
             ("--unrestricted-network --bind-tcp 80", "has no effect with --unrestricted-network"),
-            ("--unrestricted-network --unrestricted-filesystem ls", "it restricts neither paths nor ports"),
+            ("--unrestricted-filesystem --unix /run", "has no effect with --unrestricted-filesystem"),
+            ("--unrestricted-network --unrestricted-filesystem --unrestricted-scoped ls",
+             "it restricts neither paths nor ports nor scopes"),
         ):
             with self.subTest(words):
                 self.assertIn(said, self.fault("--landrun", words))
@@ -310,7 +325,7 @@ class OfLandlockconfig(Forms):
 
     def test_scopes_of_an_abi(self) -> None:
         text = "[[ruleset]]\nhandled_access_fs = ['execute']\nscoped = ['abi.all']\n"
-        self.assertEqual(self.layers("--landlockconfig", self.config("abi = 6\n" + text))[0].scoped, policies.SCOPES)
+        self.assertEqual(self.layers("--landlockconfig", self.config("abi = 6\n" + text))[0].scoped, SCOPES)
         self.assertEqual(self.layers("--landlockconfig", self.config("abi = 5\n" + text))[0].scoped, ())
 
     def test_faults_name_their_places(self) -> None:
@@ -385,15 +400,14 @@ class Words(Forms):
 class RoundTrip(unittest.TestCase):
     """What is printed of a policy reads as the same policy."""
 
-    def test_random_policies(self) -> None:
-        for seed in range(300):
-            text = "\n".join(_random_policy(random.Random(seed)))
-            policy = read(text)
-            again = read("\n".join(policy_text.lines(policy)))
-            with self.subTest(seed=seed, text=text):
-                self.assertEqual([layer.scoped for layer in again.layers], [layer.scoped for layer in policy.layers])
-                for abi in range(OLDEST_ABI, NEWEST_ABI + 1):
-                    self.assertEqual(_fitted(again, abi), _fitted(policy, abi))
+    @by_chance(examples=150)
+    def test_random_policies(self, chance: random.Random) -> None:
+        text = "\n".join(random_policy(chance))
+        policy = read(text)
+        again = read("\n".join(policy_text.lines(policy)))
+        self.assertEqual([it.scoped for it in again.layers], [it.scoped for it in policy.layers], text)
+        for abi in range(OLDEST_ABI, NEWEST_ABI + 1):
+            self.assertEqual(_fitted(again, abi), _fitted(policy, abi), text)
 
 
 def _fitted(policy: Policy, abi: int) -> list[object]:
@@ -404,7 +418,7 @@ def _fitted(policy: Policy, abi: int) -> list[object]:
              [(rule.ports, rule.on_port) for rule in it.port_rules]) for it in layers]
 
 
-def _random_policy(chance: random.Random) -> Iterator[str]:
+def random_policy(chance: random.Random) -> Iterator[str]:
     """A policy that reads, with paths that are hard to write."""
     for _ in range(chance.randint(1, 3)):
         fs = chance.sample(FS.words(), chance.randint(0, 5))
@@ -412,7 +426,7 @@ def _random_policy(chance: random.Random) -> Iterator[str]:
         yield "[[layer]]"
         yield f"handled_access_fs = {fs!r}"
         yield f"handled_access_net = {net!r}"
-        yield f"scoped = {chance.sample(policies.SCOPES, chance.randint(0, 2))!r}"
+        yield f"scoped = {chance.sample(SCOPES, chance.randint(0, 2))!r}"
         kinds = (("path_beneath", FS, fs, _paths(chance)), ("net_port", NET, net, _ports(chance)))
         for kind, family, words, values in kinds:
             handled = frozenset[str]().union(*(family.groups.get(word, {word}) for word in words))

@@ -12,7 +12,7 @@ from dataclasses import replace
 from pathlib import Path
 from unittest import mock
 
-from landaudit_record import jsonl
+from landaudit_record.common import jsonl
 from landaudit_record.recorder import converting, freeing
 from landaudit_record.recorder.freeing import Freeing
 from landaudit_record.recorder.mounted import Mount

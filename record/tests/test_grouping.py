@@ -6,13 +6,16 @@ import unittest
 from collections import Counter
 from collections.abc import Sequence
 
-from landaudit_record import grouping
-from landaudit_record.answers import Closed, Kept, Missing, Objection
-from landaudit_record.summary import Refusal, RefusingLayer
+from landaudit_record.audit.summary import Refusal, RefusingLayer
+from landaudit_record.engine.answers import Closed, Condition, Kept, Missing, Objection
+from landaudit_record.engine.subjects import NOTHING
+from landaudit_record.summaries import grouping
+
+from .worded import subject
 
 
 def refusal(place: str, *objections: Objection, call: str = "open r", error: str = "EACCES") -> Refusal:
-    return Refusal(call, place, error, (RefusingLayer(1, 1, objections),), None)
+    return Refusal(call, subject(place), error, (RefusingLayer(1, 1, objections),), None)
 
 
 def reads(paths: Sequence[str], right: str = "read_file") -> list[Refusal]:
@@ -21,7 +24,7 @@ def reads(paths: Sequence[str], right: str = "read_file") -> list[Refusal]:
 
 def groups(refusals: Sequence[Refusal], times: int = 1) -> list[tuple[int, str, str, int]]:
     """Of each group its calls, what it lacks, its directory, and how many kinds it has."""
-    return [(group.programs.total(), "; ".join(group.lacking.objections), group.directory, len(group.kinds))
+    return [(group.programs.total(), "; ".join(map(str, group.lacking.objections)), group.directory, len(group.kinds))
             for group in grouping.grouped([(one, Counter({"/bin/x": times})) for one in refusals])]
 
 
@@ -78,8 +81,8 @@ class Groups(unittest.TestCase):
         lacking = [(Missing(("remove_file",), "/x"), Missing(("make_reg",), f"/y/{name}")) for name in ("a", "b")]
         moves = [refusal(f"/x/f -> {made.path}/f", removed, made) for removed, made in lacking]
         (group,) = grouping.grouped([(one, Counter({"-": 1})) for one in moves])
-        self.assertEqual((group.lacking.objections, group.directory, group.others),
-                         (("remove_file", "make_reg"), "/x", ["/y"]))
+        self.assertEqual(([str(one) for one in group.lacking.objections], group.directory, group.others),
+                         (["remove_file", "make_reg"], "/x", ["/y"]))
 
     def test_ports_and_descriptors(self) -> None:
         found = [refusal(f"port {port}", Closed(("bind_tcp",), port)) for port in (80, 443)]
@@ -87,13 +90,13 @@ class Groups(unittest.TestCase):
         self.assertEqual(groups(found), [(2, "bind_tcp", "", 2), (1, "truncate when it was opened", "/x/a", 1)])
 
     def test_conditions_are_groups_of_their_own(self) -> None:
-        failed = [Refusal("restrict", "-", "EBADF", (), f"ruleset {number} is not held") for number in (8, 9)]
+        failed = [Refusal("restrict", NOTHING, "EBADF", (), Condition("unheld", rs=number)) for number in (8, 9)]
         self.assertEqual(groups(failed), [(1, "ruleset 8 is not held", "", 1), (1, "ruleset 9 is not held", "", 1)])
 
     def test_layers_that_object_to_different_things_are_named(self) -> None:
         own = RefusingLayer(2, None, (Missing(("refer",), "/x"),))
         layers = RefusingLayer(1, 1, (Missing(("read_file",), "/x/a"),)), own
-        found = groups([Refusal("open r", "/x/a", "EACCES", layers, None)])
+        found = groups([Refusal("open r", subject("/x/a"), "EACCES", layers, None)])
         self.assertEqual(found[0][1], "policy's 1: read_file; program's 2: refer")
 
 

@@ -6,22 +6,28 @@ import json
 import shutil
 import tempfile
 import unittest
+from dataclasses import replace
 from pathlib import Path
 from typing import Any
 
-from landaudit_record import applying, finished, jsonl, trees
-from landaudit_record.jsonl import Record
-from landaudit_record.leaving import cut_files
+from landaudit_record.audit.leftovers import cut_files
+from landaudit_record.common import finished, jsonl, trees
+from landaudit_record.common.finished import FOREIGN_RULESET
+from landaudit_record.common.jsonl import Record
+from landaudit_record.policy import applying
 from landaudit_record.recorder import converting, recordings, witness
 from landaudit_record.recorder.calls.descriptors import FOREIGN
-from landaudit_record.recorder.calls.others import INTO_ANOTHER
 from landaudit_record.recorder.hearing import (
-    FEWER_LAYERS, NOT_SEEN_TO_START, OF_ONE_THREAD, RAN_BEFORE, RUNS_ON, WITHOUT_RIGHTS,
+    FEWER_LAYERS,
+    NOT_SEEN_TO_START,
+    OF_ONE_THREAD,
+    RAN_BEFORE,
+    RUNS_ON,
+    WITHOUT_RIGHTS,
 )
-from landaudit_record.recorder.identities import NO_WAY, NOT_WHOLE, OTHER_ROOT
+from landaudit_record.recorder.identities import NOT_WHOLE, NO_WAY, OTHER_ROOT
 from landaudit_record.recorder.ports import Ports
 from landaudit_record.recorder.unrecorded import LOST, MISSED, NOT_ENDED, NOT_RECORDED, UNHEARD
-from landaudit_record.finished import FOREIGN_RULESET
 
 HEARD = Path(__file__).parent / "heard"
 START: Record = {"witness": 1, "kernel": "6.12", "by": "fexit", "unheard": []}
@@ -93,7 +99,12 @@ class Hearing(unittest.TestCase):
 
     def holes(self) -> list[str]:
         """The classes of what an audit can't foresee."""
-        return [entry["class"] for _, entry in jsonl.numbered(self.out / "unsaid.jsonl") if entry.get("asks")]
+        return [entry["class"] for _, entry in jsonl.numbered(self.out / "unsaid.jsonl") if entry.get("asks") and "reach" not in entry]
+
+    def reached(self) -> list[tuple[str, int, list[int]]]:
+        """What reaches other processes."""
+        said = (entry for _, entry in jsonl.numbered(self.out / finished.REACH))
+        return [(entry["asks"], entry["pid"], entry["to"]) for entry in said]
 
     def assert_hole(self, reason: str, *events: Record) -> None:
         """The last event becomes no record, and is counted."""
@@ -275,11 +286,19 @@ class Hearing(unittest.TestCase):
         self.assertEqual((self.hear(fork, look)[1:], self.holes()), ([], []))
         for target, asker in ((1, 10), (10, 11)):
             self.hear(fork, look | {"target": target, "pid": asker, "tid": asker})
-            self.assertEqual(self.holes(), [INTO_ANOTHER])
+            self.assertEqual((self.holes(), self.reached()), ([], [("ptrace", asker, [target])]))
         self.hear(event("task_kill", target=1, followed=False, signal=15))
+        self.assertEqual(self.reached(), [("signal", 10, [1])])
         recording = finished.opened(str(self.out))
-        self.assertEqual(recording.scopes, {"signal": 1})
-        self.assertEqual(recording.untraced, ("abstract_unix_socket",))
+        self.assertEqual(recording.untraced, ("abstract_unix_socket", "owners"))
+
+    def test_scopes_whose_calls_are_not_heard(self) -> None:
+        """Signals that a descriptor sends (F_SETOWN) reach no hook that is heard, and fail silently."""
+        self.hear(opened("/d/f"))
+        for scope, begin in (("signal", "scoped = signal: signals of descriptors (F_SETOWN) were not heard"),
+                             ("abstract_unix_socket", "scoped = abstract_unix_socket: calls that it may refuse")):
+            (told,) = replace(finished.opened(str(self.out)), scoped=(scope,)).missing
+            self.assertTrue(told.startswith(begin), told)
 
     def test_processes_begin_and_end(self) -> None:
         fork, end = event("fork", child=11, thread=11), event("exit", last=True, pid=11)

@@ -9,13 +9,15 @@ from contextlib import redirect_stderr, redirect_stdout
 from io import StringIO
 from pathlib import Path
 
-from landaudit_record import cli, policies
-from landaudit_record.jsonl import Record
-from landaudit_record.policies import Policy
-from landaudit_record.problems import NOT_ALL_JUDGED, UNREADABLE, USAGE
+from landaudit_record import cli
+from landaudit_record.commands.record import convert
+from landaudit_record.common.jsonl import Record
+from landaudit_record.common.problems import NOT_ALL_JUDGED, UNREADABLE, USAGE
+from landaudit_record.common.rights import FS
+from landaudit_record.policy import policies
+from landaudit_record.policy.policies import Policy
 from landaudit_record.recorder import converting
 from landaudit_record.recorder.ports import Ports
-from landaudit_record.rights import FS
 
 from .kept_logs import LOGS, KeptLogs
 from .recorded import write_lines
@@ -45,7 +47,7 @@ class Recorded(KeptLogs):
     def test_setpriv(self) -> None:
         """setpriv of util-linux 2.41, recorded by strace 6.13; its words are those of its manual page."""
         folder = self.folder("setpriv")
-        converting.convert(folder, Ports(None))
+        converting.convert(folder, Ports())
         status, out, errors = imported(str(folder))
         (layer,) = read(out).layers
         self.assertEqual((status, errors), (0, ""))
@@ -63,7 +65,7 @@ class Recorded(KeptLogs):
 
     def test_a_program_in_c_that_restricts_itself_twice(self) -> None:
         folder = self.folder("policy")
-        converting.convert(folder, Ports(policies.read(LOGS / "ports.toml")))
+        converting.convert(folder, convert.ports_of(policies.read(LOGS / "ports.toml")))
         status, out, _ = imported(str(folder))
         self.assertEqual(status, 0)
         first, second = read(out).layers
@@ -75,7 +77,7 @@ class Recorded(KeptLogs):
 
     def test_what_strace_does_not_decode_is_told(self) -> None:
         folder = self.folder("policy")
-        converting.convert(folder, Ports(None))
+        converting.convert(folder, Ports())
         status, out, errors = imported(str(folder))
         self.assertEqual(status, NOT_ALL_JUDGED)
         self.assertIn("# NOT ALL IS KNOWN: 2 calls of Landlock could not be recorded: what a ruleset handles", out)
@@ -83,7 +85,7 @@ class Recorded(KeptLogs):
 
     def test_a_program_that_does_not_restrict_itself(self) -> None:
         folder = self.folder("forks")
-        converting.convert(folder, Ports(None))
+        converting.convert(folder, Ports())
         status, out, errors = imported(str(folder))
         self.assertEqual((status, out), (UNREADABLE, ""))
         self.assertIn("no process restricts itself", errors)
@@ -93,9 +95,7 @@ class Written(unittest.TestCase):
     """Traces that are written by hand, by docs/FORMATS.md."""
 
     def setUp(self) -> None:
-        folder = tempfile.TemporaryDirectory()
-        self.addCleanup(folder.cleanup)
-        self.folder = Path(folder.name)
+        self.folder = Path(self.enterContext(tempfile.TemporaryDirectory()))
         self.tree = [{"path": "/etc", "kind": "dir"}, {"path": "/etc/f", "kind": "reg"}, {"path": "/new", "kind": "reg",
                                                                                         "made": True}]
 
@@ -217,7 +217,15 @@ class Choosing(Written):
         twice = [*by(1, run("/p"), create(["execute"]), RESTRICT), *by(2, run("/p"), create(["execute"]), RESTRICT)]
         status, out, _ = self.imported(twice)
         self.assertEqual(status, 0)
-        self.assertIn("# by processes 1, 2", out)
+        self.assertIn("# 2 times, by processes 1, 2\n", out)
+
+    def test_of_many_the_first_are_named_and_the_others_counted(self) -> None:
+        calls = create(["execute"]), RESTRICT
+        of_each = [by(pid, run("/p"), *calls, run(f"/under/{pid}")) for pid in range(1, 13)]
+        status, out, _ = self.imported([line for lines in of_each for line in lines])
+        self.assertEqual(status, 0)
+        self.assertIn("# 12 times, by processes 1, 2, 3, 4, 5, 6, 7, 8 and 4 more\n", out)
+        self.assertIn(", /under/8 (1) and 4 more\n", out)
 
 
 def by(pid: int, *calls: Record) -> list[Record]:

@@ -9,15 +9,16 @@ from collections.abc import Sequence
 from pathlib import Path
 from unittest import mock
 
-from landaudit_record import applying, confining, fitting, policies, policy_text, sensitive, styling, suggestion_text
-from landaudit_record.comments import Comments
-from landaudit_record.placing import Spot
-from landaudit_record.policies import Access, Policy
-from landaudit_record.problems import Problem
-from landaudit_record.rights import FS
-from landaudit_record.suggesting import Making, Suggestion, with_rules
-from landaudit_record.trees import ROOT, Tree
-from landaudit_record.wants import Lacking, Rule, Wanted
+from landaudit_record.common.comments import Comments
+from landaudit_record.common.problems import Problem
+from landaudit_record.common.rights import FS
+from landaudit_record.common.trees import ROOT, Tree
+from landaudit_record.policy import applying, confining, fitting, policies, policy_text, sensitive
+from landaudit_record.policy.policies import Access, Policy
+from landaudit_record.suggest import styling, suggestion_text
+from landaudit_record.suggest.missing_rights import CallId, Lacking, Rule, Wanted
+from landaudit_record.suggest.placing import RulePlace
+from landaudit_record.suggest.suggesting import Making, Suggestion, with_rules
 
 from .test_confining import Kernel
 from .test_policies import READING, RULE, read
@@ -50,7 +51,7 @@ class Reading(unittest.TestCase):
     def test_rules_of_its_own_keep_their_names(self) -> None:
         own = RULE + 'allowed_access = ["read_file"]\nparent = "/a"\n'
         (layer,) = read(ALL + RULE + 'include = ["tmp"]\n' + own).layers
-        self.assertEqual([(rule.place, rule.group) for rule in layer.path_beneath],
+        self.assertEqual([(str(rule.place), rule.group) for rule in layer.path_beneath],
                          [("path_beneath 2", None), ("tmp path_beneath 1", "tmp")])
 
     def test_rights_that_the_layer_does_not_handle_are_left_out(self) -> None:
@@ -151,7 +152,7 @@ class Taken(unittest.TestCase):
 
 
 def asked(*rights: str, call: int = 1) -> Lacking:
-    return {right: {(0, call)} for right in rights}
+    return {right: {CallId(0, call)} for right in rights}
 
 
 class Suggested(unittest.TestCase):
@@ -166,7 +167,7 @@ class Suggested(unittest.TestCase):
     )
 
     def styled(self, wanted: dict[str, Lacking], handled: Sequence[str] = tuple(FS.since)) -> styling.Styled:
-        found = Wanted(wanted, [Spot(path, path) for path in wanted], {})
+        found = Wanted(wanted, [RulePlace(path, path) for path in wanted], {})
         return styling.with_groups(found, frozenset(handled), [self.TREE])
 
     def test_those_that_several_paths_are_in(self) -> None:
@@ -195,7 +196,7 @@ class Suggested(unittest.TestCase):
 
     def test_rules_beside_them(self) -> None:
         paths = {"/etc/passwd": asked("read_file"), "/etc/group": asked("read_file"), "/etc/hosts": asked("write_file")}
-        wanted = Wanted(paths, [Spot(path, path) for path in paths], {})
+        wanted = Wanted(paths, [RulePlace(path, path) for path in paths], {})
         groups, rules = Making(in_groups=True).rules(read(ALL).layers[0], wanted, [self.TREE])
         self.assertEqual((groups, [rule.place for rule in rules]), ({"nameservice": 1}, ["/etc/hosts"]))
         self.assertEqual(Making().rules(read(ALL).layers[0], wanted, [self.TREE])[0], {})

@@ -6,7 +6,7 @@ import tempfile
 import unittest
 from pathlib import Path
 
-from landaudit_record import jsonl
+from landaudit_record.common import jsonl
 
 
 class Values(unittest.TestCase):

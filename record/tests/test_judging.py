@@ -12,12 +12,15 @@ from io import StringIO
 from pathlib import Path
 from unittest import mock
 
-from landaudit_record import cli, reading, together
-from landaudit_record.problems import WANTING
-from landaudit_record.recorder import converting, progress
+from landaudit_record import cli
+from landaudit_record.audit import together
+from landaudit_record.common import progress
+from landaudit_record.common.problems import WANTING
+from landaudit_record.common.rights import alone
+from landaudit_record.engine import landaudit, reading
+from landaudit_record.recorder import converting
 from landaudit_record.recorder.ports import Ports
 from landaudit_record.recorder.writing import Limits
-from landaudit_record.rights import alone
 
 from .kept_logs import KeptLogs
 
@@ -55,7 +58,7 @@ class Judging(KeptLogs):
         super().setUp()
         self.recording = self.folder("script")
         converting.convert(self.recording, Ports(), Limits(own=8))
-        self.beside = Path(self._folder.name)
+        self.beside = Path(self._folder)
         self.program = self.beside / "landaudit"
         self.started = self.beside / "started"
         self.go = self.beside / "go"
@@ -98,8 +101,9 @@ class Judging(KeptLogs):
         """And nothing of it stays: the last that is written clears the line. The first part has the first call alone: 13
         records for a script with an interpreter and a loader, and three descriptors."""
         program, terminal = self.landaudit(), Terminal()
-        always = mock.patch.object(reading, "EVERY", 1), mock.patch.object(progress, "EVERY", 0)
-        with always[0], always[1], redirect_stderr(terminal), redirect_stdout(StringIO()):
+        for module, name, value in ((reading, "BLOCK", 1), (progress, "EVERY", 0), (landaudit, "workers", lambda: 1)):
+            self.enterContext(mock.patch.object(module, name, value))
+        with redirect_stderr(terminal), redirect_stdout(StringIO()):
             cli.main(["audit", str(self.recording), "--as-recorded", "--landaudit", program])
         *shown, last = terminal.getvalue().split("\r\033[K")
         self.assertEqual(shown[:2], ["", "judging at ABI 1-5, part 1 of 2"])

@@ -14,7 +14,7 @@ import unittest
 from collections.abc import Iterable
 from pathlib import Path
 
-from landaudit_record.answers import Closed, Missing, Mounting, Objection, Scoped, Tracing
+from landaudit_record.engine.answers import Closed, Missing, Mounting, Objection, Scoped, Tracing
 from landaudit_record.kernel_log import calls, counting, data, denials, granting, records
 from landaudit_record.kernel_log.denials import Denial, Log
 from landaudit_record.kernel_log.records import Unread

@@ -8,8 +8,8 @@ import unittest
 from io import BytesIO, StringIO, TextIOWrapper
 from unittest import mock
 
-from landaudit_record import layout, wording
-from landaudit_record.layout import Column, Lack, words
+from landaudit_record.common import layout, wording
+from landaudit_record.common.layout import Column, Lack, words
 
 
 class Widths(unittest.TestCase):
@@ -85,7 +85,6 @@ class Cells(unittest.TestCase):
         cell = layout.parts(["/a/aaaaaaaaaa", "/b"], " -> ")
         self.assertEqual((cell(19), cell(15)), ("/a/aaaaaaaaaa -> /b", "/a…aaaaaa -> /b"))
 
-
     def test_rights_stay_whole_longer_than_their_path(self) -> None:
         cell = layout.lacks([Lack(("write_file", "read_file", "make_reg"), " on ", "/srv/data/files")])
         self.assertEqual(cell(50), "write_file, read_file, make_reg on /srv/data/files")
@@ -159,6 +158,36 @@ class Tables(unittest.TestCase):
             "      2  /a/long/path  EACCES  execute",
             "      1  /b            EXDEV   read_file",
         ])
+
+    def test_a_directory_of_several_paths_is_named_once_where_the_table_does_not_fit(self) -> None:
+        """`/home/me/web` saves ten columns four times; the longer `/home/me/web/css` would save 14 of them twice."""
+        columns = Column("times", number=True), Column("place", short=True), Column("why", short=True)
+        rows = [
+            [words("2"), layout.parts(["/home/me/web/css/a", "/home/me/web/css/b"], " -> "), words("refer")],
+            [words("1"), layout.parts(["/home/me/web"], " -> "), words("read_dir")],
+            [words("1"), layout.parts(["/home/me/website"], " -> "),
+             layout.lacks([Lack(("make_reg",), " on ", "/home/me/web")])],
+        ]
+        self.assertEqual(list(layout.table(columns, rows, 75))[0], "  times  place                                     why")
+        self.assertEqual(list(layout.table(columns, rows, 72)), [
+            "  $D is /home/me/web",
+            "  times  place                 why",
+            "      2  $D/css/a -> $D/css/b  refer",
+            "      1  $D                    read_dir",
+            "      1  /home/me/website      make_reg on $D",
+        ])
+
+    def test_no_short_name_that_no_row_would_have(self) -> None:
+        """The rights alone have 14 columns; their paths are left out."""
+        rows = [[layout.lacks([Lack(("remove_file",), " on ", f"/home/me/web/{name}")])] for name in "ab"]
+        self.assertEqual(list(layout.table((Column("why", short=True),), rows, 16)),
+                         ["  why", "  remove_file", "  remove_file"])
+
+    def test_no_short_name_for_a_short_directory_or_a_single_path(self) -> None:
+        for paths in (["/usr/lib/a", "/usr/lib/b"], ["/usr/lib/python3/dist-packages"]):
+            with self.subTest(paths):
+                rows = [[layout.parts([path], " -> ")] for path in paths]
+                self.assertNotIn("$D", "".join(layout.table((Column("place", short=True),), rows, 20)))
 
     def test_words_are_folded_where_no_row_can_be_one(self) -> None:
         lines = list(layout.table((Column("why", short=True), Column("place")), [

@@ -9,7 +9,7 @@ import unittest
 from pathlib import Path
 
 from landaudit_record.recorder import recordings
-from landaudit_record.recorder.calls import others
+from landaudit_record.recorder.calls import ptrace
 from landaudit_record.recorder.calls.ways import WAYS
 from landaudit_record.recorder.looks import LOOKS, READLINKS
 from landaudit_record.recorder.tracing import command_line
@@ -20,7 +20,7 @@ EACCES = "-1 EACCES (Permission denied)"
 ENOENT = "-1 ENOENT (No such file or directory)"
 ENODATA = "-1 ENODATA (No data available)"
 NOFOLLOW = "0x100 /* AT_SYMLINK_NOFOLLOW */"
-LOOK = (others.INTO_ANOTHER, True)
+LOOK = (ptrace.INTO_ANOTHER, True)
 
 #: Calls on a path (PATH) that follow a link at its end, as strace writes them.
 FOLLOWING = (
@@ -249,7 +249,7 @@ class WithoutReadlink(WrittenLogs):
 
     readlink = False
     disk = [*DISK, {"path": "/proc", "kind": "dir"}]
-    COUNTED = [(others.NOT_TRACED, True)]
+    COUNTED = [(ptrace.NOT_TRACED, True)]
 
     def test_who_looks_at_other_processes(self) -> None:
         for call in (

@@ -6,11 +6,11 @@ import unittest
 from typing import Any
 
 from landaudit_record.recorder import modes
-from landaudit_record.recorder.modes import READ, RUN, WRITE, Asker, Mode
+from landaudit_record.recorder.modes import READ, RUN, WRITE, Credentials, Mode
 
 from .strace_lines import CONFINED, CWD, StraceLines
 
-ME = Asker(1000, frozenset({100, 27}))
+ME = Credentials(1000, frozenset({100, 27}))
 MODES = {
     "/": Mode(0o755, 0, 0),
     "/d": Mode(0o755, 0, 0),

@@ -4,7 +4,7 @@ from __future__ import annotations
 
 import unittest
 
-from landaudit_record import jsonl
+from landaudit_record.common import jsonl
 from landaudit_record.recorder.calls import programs
 
 from .written_logs import CWD, THREAD, WrittenLogs, told

@@ -9,7 +9,7 @@ from __future__ import annotations
 import random
 import unittest
 
-from landaudit_record import jsonl
+from landaudit_record.common import jsonl
 from landaudit_record.recorder.names import OF_KIND, REPLACED_OR_NOT
 
 from .strace_lines import CONFINED, CWD, StraceLines
@@ -192,6 +192,11 @@ class Linked(StraceLines):
 
 class Unwatched(StraceLines):
     """In a directory of which only the disk after the run tells."""
+
+    def test_a_file_of_which_a_name_is_gone_may_be_another_one(self) -> None:
+        """A rule on the name that is gone is not known to be on the other one: an audit may raise a false alarm."""
+        self.convert(reads("hard-1"), 'unlink("gone") = 0')
+        self.assertEqual([self.listed()[path] for path in ("/w/hard-1", "/w/gone")], [{"kind": "reg"}] * 2)
 
     def test_what_is_known_by_a_call_alone_was_there(self) -> None:
         trace = self.convert(reads("conf"), makes("new"), 'rename("new", "conf") = 0', reads("conf"))

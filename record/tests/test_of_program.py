@@ -12,15 +12,18 @@ from dataclasses import replace
 from io import StringIO
 from pathlib import Path
 
-from landaudit_record import cli, finished, importing, jsonl, of_program, policies, policy_text, trace_lines, trying
-from landaudit_record.finished import Finished, Part
-from landaudit_record.importing import Following, Own
-from landaudit_record.jsonl import Record
-from landaudit_record.landaudit import BUILT
-from landaudit_record.problems import NOT_ALL_JUDGED, USAGE, Problem
+from landaudit_record import cli
+from landaudit_record.audit import auditor, of_program
+from landaudit_record.common import finished, jsonl, trace_lines
+from landaudit_record.common.finished import Finished, Part
+from landaudit_record.common.jsonl import Record
+from landaudit_record.common.problems import NOT_ALL_JUDGED, USAGE, Problem
+from landaudit_record.common.rights import NEWEST_ABI, Rights
+from landaudit_record.common.trees import Tree
+from landaudit_record.engine.landaudit import BUILT
+from landaudit_record.policy import importing, policies, policy_text
+from landaudit_record.policy.importing import Following, Own
 from landaudit_record.recorder.writing import Limits
-from landaudit_record.rights import NEWEST_ABI, Rights
-from landaudit_record.trees import Tree
 
 from .recorded import write_lines
 from .stories import told
@@ -145,6 +148,7 @@ class Stories(unittest.TestCase):
                     if layers:
                         self.assertEqual([_of_policy(layer) for layer in policies.read(file).layers], layers)
 
+    @unittest.skipUnless(BUILT.exists(), f"{BUILT} is not built")
     def test_a_program_s_own_policy_in_its_place_is_what_it_had(self) -> None:
         tried = 0
         for seed in range(60):
@@ -176,7 +180,7 @@ class Stories(unittest.TestCase):
         return found
 
     def found(self, recording: Finished) -> tuple[importing.Found, Tree]:
-        tree = trying.tree_of(recording)
+        tree = auditor.tree_of(recording)
         return importing.found(recording, tree), tree
 
 
@@ -255,17 +259,17 @@ class Answers(InFolder):
         for seed in range(20):
             with tempfile.TemporaryDirectory() as folder, self.subTest(seed):
                 recording = finished.opened(str(told(Path(folder), seed, 200)))
-                tree = trying.tree_of(recording)
+                tree = auditor.tree_of(recording)
                 for own in importing.found(recording, tree).own:
                     if all(ruleset.is_layer for ruleset in own.layers):
                         policy = importing.policy(own, Path("P"))
                         member = of_program._member("rec", recording, tree, own, policy)
                         self.assertEqual(self.verdicts(recording, member.tried), self.verdicts(recording, None))
 
-    def verdicts(self, recording: Finished, tried: trying.Tried | None) -> list[tuple[str, int, str]]:
+    def verdicts(self, recording: Finished, tried: auditor.Tried | None) -> list[tuple[str, int, str]]:
         """The refused calls of an audit, but for those on rulesets."""
         with tempfile.TemporaryDirectory() as folder:
-            audit = trying.Auditing(BUILT, recording, Path(folder), True, trying.Progress())
+            audit = auditor.Auditing(BUILT, recording, Path(folder), True, auditor.Progress())
             return [(it.record["op"], it.record["pid"], str(it.record.get("path"))) for walk in
                     audit.walks(range(NEWEST_ABI, NEWEST_ABI + 1), tried, only_refused=True) for it in walk
                     if it.answered and it.record["op"] not in ON_RULESETS]

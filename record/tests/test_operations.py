@@ -12,10 +12,10 @@ from itertools import product
 from pathlib import Path
 from typing import Any
 
-from landaudit_record.jsonl import Record
-from landaudit_record.landaudit import BUILT
-from landaudit_record.operations import DESCRIPTOR_CALLS, MAKING, OPERATIONS, Operation
-from landaudit_record.rights import FS, NET, NEWEST_ABI
+from landaudit_record.common.jsonl import Record
+from landaudit_record.common.operations import DESCRIPTOR_CALLS, MAKING, OPERATIONS, Operation
+from landaudit_record.common.rights import FS, NET, NEWEST_ABI
+from landaudit_record.engine.landaudit import BUILT
 
 from .recorded import write_lines
 

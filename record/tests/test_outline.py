@@ -8,8 +8,10 @@ import unittest
 from collections.abc import Iterator
 from typing import Any
 
-from landaudit_record import comments, exporting, outline
-from landaudit_record.problems import UNREADABLE, Problem
+from landaudit_record.common import comments, outline
+from landaudit_record.common.numbered import Numbered
+from landaudit_record.common.problems import UNREADABLE, Problem
+from landaudit_record.policy.forms import c
 
 from .test_policies import read
 
@@ -129,7 +131,7 @@ class Places(unittest.TestCase):
 class Comments(unittest.TestCase):
     def exported(self, text: str) -> list[str]:
         """The comments that the exported code of a policy has of its own."""
-        lines = exporting.c_code(read(text), comments.read(text))
+        lines = c.written(read(text), comments.read(text), False).lines
         return [line.strip() for line in lines if "of mine" in line]
 
     def test_a_line_of_a_text_is_no_comment(self) -> None:
@@ -140,14 +142,14 @@ class Comments(unittest.TestCase):
         rule = RULE.replace('"/a"', '"""/a\n[[layer]]\n"""')
         other = "# of mine\n" + RULE
         self.assertEqual(self.exported(LAYER + rule + other), ["/* of mine */"])
-        self.assertEqual(comments.read(LAYER + rule + other).on_rule(1, "path_beneath 2"), ["of mine"])
+        self.assertEqual(comments.read(LAYER + rule + other).on_rule(1, Numbered("path_beneath", 2)), ["of mine"])
 
     def test_rules_of_both_kinds_by_turns(self) -> None:
         port = '[[layer.net_port]]\nallowed_access = ["all"]\nport = 1\n'
         accepted = "# d\n[[accepted]]\n# e\ncall = 'x'\n"
         found = comments.read(f"{LAYER}# a\n{RULE}# b\n{port}# c\n{RULE}{accepted}# f\n{LAYER}# g\n")
-        self.assertEqual(found.parts, {(1, "path_beneath 1"): ["a"], (1, "net_port 1"): ["b"],
-                                       (1, "path_beneath 2"): ["c"], (2, ""): ["f", "g"]})
+        self.assertEqual(found.parts, {(1, Numbered("path_beneath", 1)): ["a"], (1, Numbered("net_port", 1)): ["b"],
+                                       (1, Numbered("path_beneath", 2)): ["c"], (2, None): ["f", "g"]})
 
 
 if __name__ == "__main__":

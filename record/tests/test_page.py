@@ -13,19 +13,26 @@ from pathlib import Path
 from typing import Any
 from urllib.parse import unquote
 
-from landaudit_record import by_abi, page, policies, summary
-from landaudit_record.answers import Closed, Missing
-from landaudit_record.page import icicle, matrix, recorded, tree
-from landaudit_record.page.counting import Counts, Paths, asked
-from landaudit_record.page.markup import element
-from landaudit_record.reading import Place
-from landaudit_record.summary import Accepted, Refusal, RefusingLayer, Summary
-from landaudit_record.trees import Tree, upwards
-from landaudit_record.trying import Tried
-from landaudit_record.wording import quoted
+from landaudit_record.audit import by_abi, summary
+from landaudit_record.audit.auditor import Tried
+from landaudit_record.audit.moot import FAILED_TOO, Unasked
+from landaudit_record.audit.summary import Accepted, Refusal, RefusingLayer, Summary
+from landaudit_record.audit.warnings import OfLog
+from landaudit_record.common import rights
+from landaudit_record.common.trees import Tree, upwards
+from landaudit_record.common.wording import quoted
+from landaudit_record.engine.answers import Closed, Missing
+from landaudit_record.engine.reading import Place
+from landaudit_record.engine.subjects import Subject
+from landaudit_record.policy import policies
+from landaudit_record.summaries import page
+from landaudit_record.summaries.page import icicle, matrix, recorded, tree
+from landaudit_record.summaries.page.counting import Counts, Paths, asked
+from landaudit_record.summaries.page.markup import element
 
 from .pages import Element, read
 from .recorded import records, write_lines
+from .worded import subject
 
 #: Names that would be markup, script, or another page, if they were not told as text.
 HOSTILE = (
@@ -44,10 +51,10 @@ HOSTILE = (
     "\udcff\udc80",
     "x" * 4096,
 )
-ABOUT = page.About("rec", "policy.toml", False)
+ABOUT = page.Title("rec", "policy.toml", False)
 #: Elements that a page is made of, and the attributes that its elements may have.
 ELEMENTS = {
-    "", "html", "head", "meta", "title", "style", "script", "body", "header", "h1", "h2", "p", "nav", "fieldset",
+    "", "html", "i", "head", "meta", "title", "style", "script", "body", "header", "h1", "h2", "p", "nav", "fieldset",
     "legend", "label", "input", "span", "ul", "li", "a", "main", "div", "b", "svg", "rect", "text", "section", "table",
     "thead", "tbody", "tr", "th", "td", "details", "summary", "code", "button", "footer", "article", "h3", "dl", "dt",
     "dd", "pre", "s",
@@ -61,15 +68,15 @@ ATTRIBUTES = {
 
 def refusal(place: str, call: str = "open r", error: str = "EACCES", right: str = "read_file") -> Refusal:
     """A kind of refused calls, by one layer of the policy."""
-    return Refusal(call, place, error, (RefusingLayer(1, 1, (Missing((right,), place),)),), None)
+    return Refusal(call, Subject((place,)), error, (RefusingLayer(1, 1, (Missing((right,), place),)),), None)
 
 
 READ, CUT = refusal("/a/f"), refusal("/b/g", "open w trunc", right="truncate")
-CALL = Refusal("connect", "port 443", "EACCES", (RefusingLayer(1, 1, (Closed(("connect_tcp",), 443),)),
-                                               RefusingLayer(2, None, (Closed(("connect_tcp",), 443),))), None)
+CALL = Refusal("connect", subject("port 443"), "EACCES", (RefusingLayer(1, 1, (Closed(("connect_tcp",), 443),)),
+                                                        RefusingLayer(2, None, (Closed(("connect_tcp",), 443),))), None)
 
 
-def summed(abi: int, refused: dict[Refusal, Counter[str]], moot: dict[str, Counter[str]] | None = None) -> Summary:
+def summed(abi: int, refused: dict[Refusal, Counter[str]], moot: dict[Unasked, Counter[Subject]] | None = None) -> Summary:
     """A summary with a hundred calls allowed."""
     found = Summary(abi, Counter(allowed=100), refusals=refused, moot=moot or {})
     found.verdicts["refused"] = sum(programs.total() for programs in refused.values())
@@ -82,13 +89,13 @@ def three() -> list[Summary]:
     older = summed(2, {READ: Counter({"/bin/sort": 3})})
     middle = summed(3, {READ: Counter({"/bin/sort": 3}), CUT: Counter({"/bin/cut": 1234})})
     newer = summed(4, {CUT: Counter({"/bin/cut": 1234}), CALL: Counter({"/bin/nc": 2, "/bin/sort": 9})},
-                   {"is not in the tree": Counter({"/c": 7, "/d": 2})})
-    older.warnings = {"a ruleset is refused": 2}
+                   {Unasked("absent"): Counter({subject("/c"): 7, subject("/d"): 2})})
+    older.warnings = {OfLog("a ruleset is refused"): 2}
     for one in (older, middle, newer):
         one.unsaid = Counter({"a call with no words": 4, "another <class>": 1})
         one.missing = ("2 calls could not be recorded",)
         one.untraced = ("readlink(2) is not recorded",)
-        one.accepted = Counter({Accepted("ioctl", "/dev/null", "shells ask"): one.abi})
+        one.accepted = Counter({Accepted("ioctl", subject("/dev/null"), "shells ask"): one.abi})
         one.verdicts["refused"] += one.abi
     return [older, middle, newer]
 
@@ -156,8 +163,8 @@ class Data(unittest.TestCase):
     def test_kernels_and_releases_are_those_of_the_documents(self) -> None:
         lines = (Path(__file__).resolve().parents[2] / "docs" / "QUESTIONS.md").read_text(encoding="utf-8").splitlines()
         rows = [[cell.strip() for cell in line.split("|")[1:4]] for line in lines if line.startswith("| ")]
-        told = {int(abi): (kernel, re.sub(r" \(.*\)", "", release)) for abi, kernel, release in rows if abi in "12345"}
-        self.assertEqual(told, {abi: (kernel, matrix.RELEASES.get(abi, "")) for abi, kernel in matrix.KERNELS.items()})
+        told = {int(abi): (kernel, re.sub(r" \(.*\)", "", release)) for abi, kernel, release in rows if abi.isdecimal()}
+        self.assertEqual(told, {abi: (of.linux, of.release) for abi, of in rights.ABIS.items()})
 
     def test_the_matrix_says_what_changes(self) -> None:
         steps = by_abi.as_data(by_abi.steps(self.summaries))
@@ -240,16 +247,16 @@ class Hostile(unittest.TestCase):
 
     def setUp(self) -> None:
         found = summed(5, {refusal(f"/a/{name}"): Counter({f"/bin/{name}": 1}) for name in HOSTILE})
-        found.warnings = dict.fromkeys(HOSTILE, 1)
-        found.moot = {f"{name} why": Counter({name: 1}) for name in HOSTILE}
+        found.warnings = dict.fromkeys(map(OfLog, HOSTILE), 1)
+        found.moot = {Unasked(FAILED_TOO, error=name): Counter({Subject((name,)): 1}) for name in HOSTILE}
         found.unsaid = Counter(HOSTILE)
         found.missing = found.untraced = HOSTILE
-        found.accepted = Counter({Accepted("open r", name, name): 1 for name in HOSTILE})
+        found.accepted = Counter({Accepted("open r", Subject((name,)), name): 1 for name in HOSTILE})
         calls: Counter[Place] = Counter({(f"/a/{name}",): 1 for name in HOSTILE})
         found.not_allowed["refused"] = calls
         self.summary = found
         told = [[(HOSTILE[0], name) for name in HOSTILE]]
-        about = page.About(HOSTILE[0], HOSTILE[1], True, HOSTILE, told)
+        about = page.Title(HOSTILE[0], HOSTILE[1], True, HOSTILE, told)
         self.text = page.made(about, [found], Paths(calls, [found]), self.tried())
         self.page = read(self.text)
 
@@ -340,7 +347,7 @@ class Recorded(unittest.TestCase):
         # date -u -d @1000000000 prints this time.
         self.assertEqual(found, [("command", "sort -o 'a b'"), ("in", "/srv"), ("when", "2001-09-09 01:46 UTC"),
                                  ("kernel", "Linux 6.1.0"), ("user", "number 1000")])
-        shown = read(page.made(page.About("rec", None, False, (), [found]), three(), Paths(Counter(), three())))
+        shown = read(page.made(page.Title("rec", None, False, (), [found]), three(), Paths(Counter(), three())))
         self.assertEqual([one.text(4) for one in shown.all("dd")], [said for _, said in found])
 
     def test_who_recorded(self) -> None:

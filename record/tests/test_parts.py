@@ -10,8 +10,10 @@ from io import StringIO
 from pathlib import Path
 from unittest import mock
 
-from landaudit_record import cli, policies
-from landaudit_record.policies import Policy
+from landaudit_record import cli
+from landaudit_record.commands.record import convert
+from landaudit_record.policy import policies
+from landaudit_record.policy.policies import Policy
 from landaudit_record.recorder import converting, writing
 from landaudit_record.recorder.ports import Ports
 from landaudit_record.recorder.writing import LIMITS, Limits, Recording, Tree
@@ -48,7 +50,7 @@ class Parts(KeptLogs):
     """Recordings cut at every tenth record, against the same in one trace."""
 
     def policy(self, text: str) -> Policy:
-        path = Path(self._folder.name) / "policy.toml"
+        path = Path(self._folder) / "policy.toml"
         path.write_text(text)
         return policies.read(path)
 
@@ -64,9 +66,9 @@ class Parts(KeptLogs):
 
     @unittest.skipIf(wanting(), wanting() or "")
     def test_kept_logs(self) -> None:
-        ports = Ports(policies.read(LOGS / "ports.toml"))
+        ports = convert.ports_of(policies.read(LOGS / "ports.toml"))
         for log in sorted(path.name for path in LOGS.iterdir() if path.is_dir()):
-            one, cut = self.folder(log), self.folder(log).rename(Path(self._folder.name) / f"{log}-cut")
+            one, cut = self.folder(log), self.folder(log).rename(Path(self._folder) / f"{log}-cut")
             one = self.folder(log)
             converting.convert(one, ports)
             converting.convert(cut, ports, TENTH)
@@ -88,14 +90,14 @@ class Parts(KeptLogs):
 
     def suggested(self, recording: Path) -> str:
         """What is suggested for the policy that was read last."""
-        policy = str(Path(self._folder.name) / "policy.toml")
+        policy = str(Path(self._folder) / "policy.toml")
         with redirect_stdout(StringIO()) as out, redirect_stderr(StringIO()):
             cli.main(["suggest", str(recording), "--policy", policy])
         return out.getvalue()
 
     def told(self, seed: int, limits: Limits, calls: int = 100) -> Path:
         """The recording of a random story."""
-        return told(Path(tempfile.mkdtemp(dir=self._folder.name)), seed, calls, limits)
+        return told(Path(tempfile.mkdtemp(dir=self._folder)), seed, calls, limits)
 
     def test_what_a_part_begins_with_is_marked_and_the_rest_is_the_trace(self) -> None:
         one, cut = (self.told(1, limits) for limits in (LIMITS, TENTH))

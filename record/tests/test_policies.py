@@ -6,10 +6,11 @@ import tempfile
 import unittest
 from pathlib import Path
 
-from landaudit_record import policies
-from landaudit_record.policies import Access, Policy
-from landaudit_record.problems import UNREADABLE, Problem
-from landaudit_record.rights import FS, NET
+from landaudit_record.common.numbered import Numbered
+from landaudit_record.common.problems import UNREADABLE, Problem
+from landaudit_record.common.rights import FS, NET
+from landaudit_record.policy import policies
+from landaudit_record.policy.policies import Access, Policy
 
 EXAMPLE = """
 [[layer]]
@@ -41,9 +42,9 @@ class Reading(unittest.TestCase):
         self.assertEqual(layer.handled_access_fs, Access(grouped=frozenset(FS.since)))
         self.assertEqual(layer.handled_access_net, Access(outright=frozenset({"connect_tcp"})))
         (beneath,), (port,) = layer.path_beneath, layer.net_port
-        self.assertEqual((beneath.place, beneath.parents), ("path_beneath 1", ("/usr", "/lib")))
+        self.assertEqual((str(beneath.place), beneath.parents), ("path_beneath 1", ("/usr", "/lib")))
         self.assertEqual(beneath.allowed_access.rights, {"read_file", "read_dir", "execute"})
-        self.assertEqual((port.place, port.ports), ("net_port 1", (443,)))
+        self.assertEqual((str(port.place), port.ports), ("net_port 1", (443,)))
 
     def test_scopes_are_kept_in_a_layer_with_rights_and_alone(self) -> None:
         scoped = 'scoped = ["signal", "abstract_unix_socket"]\n'
@@ -65,8 +66,9 @@ class Reading(unittest.TestCase):
         rule = '[[layer.path_beneath]]\nallowed_access = ["read_file"]\nparent = "/a"\n'
         layers = read(READING + rule + rule + READING + rule).layers
         self.assertEqual([layer.number for layer in layers], [1, 2])
-        self.assertEqual([rule.place for rule in layers[0].path_beneath], ["path_beneath 1", "path_beneath 2"])
-        self.assertEqual([rule.place for rule in layers[1].path_beneath], ["path_beneath 1"])
+        self.assertEqual([rule.place for rule in layers[0].path_beneath],
+                         [Numbered("path_beneath", 1), Numbered("path_beneath", 2)])
+        self.assertEqual([rule.place for rule in layers[1].path_beneath], [Numbered("path_beneath", 1)])
 
     def test_groups_are_those_of_the_libraries(self) -> None:
         (layer,) = read('[[layer]]\nhandled_access_fs = ["write"]\n').layers

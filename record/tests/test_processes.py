@@ -4,7 +4,7 @@ from __future__ import annotations
 
 import unittest
 
-from landaudit_record.processes import shown_path
+from landaudit_record.engine.processes import shown_path
 
 
 class ShownPaths(unittest.TestCase):

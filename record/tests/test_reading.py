@@ -13,12 +13,15 @@ from pathlib import Path
 from typing import Any
 from unittest import mock
 
-from landaudit_record import jsonl, reading, summary
-from landaudit_record.jsonl import Record
-from landaudit_record.problems import Problem
-from landaudit_record.reading import Told, Walk
-from landaudit_record.summary import Summaries
+from landaudit_record.audit import summary
+from landaudit_record.audit.summary import Summaries
+from landaudit_record.common import jsonl
+from landaudit_record.common.jsonl import Record
+from landaudit_record.common.problems import Problem
+from landaudit_record.engine import reading
+from landaudit_record.engine.reading import Told, Walk
 
+from .drawn import by_chance
 from .recorded import (
     Object,
     Said,
@@ -50,9 +53,7 @@ class Written(unittest.TestCase):
     """Traces and reports in a folder, written in one form or another."""
 
     def setUp(self) -> None:
-        made = tempfile.TemporaryDirectory()
-        self.addCleanup(made.cleanup)
-        self.folder = Path(made.name)
+        self.folder = Path(self.enterContext(tempfile.TemporaryDirectory()))
 
     def walk(
         self, calls: Sequence[Call], form: str = COMPACT, number: int = 0, *, only_refused: bool = False
@@ -238,14 +239,12 @@ class Faults(Written):
 class OnlyRefused(Written):
     """Walks over reports of refused records alone."""
 
-    def test_what_is_refused_is_told_as_by_the_whole_report(self) -> None:
-        chance = random.Random(7)
-        for _ in range(25):
-            calls = list(_random_calls(chance))
-            for form in FORMS:
-                whole, some = (_refusals(self.walk(calls, form, only_refused=only)) for only in (False, True))
-                self.assertEqual(some, whole)
-                self.assertTrue(whole or len(calls) < 20)
+    @by_chance(examples=15)
+    def test_what_is_refused_is_told_as_by_the_whole_report(self, chance: random.Random) -> None:
+        calls = list(_random_calls(chance))
+        for form in FORMS:
+            whole, some = (_refusals(self.walk(calls, form, only_refused=only)) for only in (False, True))
+            self.assertEqual(some, whole)
 
     def test_states_of_processes_are_told_and_moot_records_are_not(self) -> None:
         fork = (op("fork", child=2, call=2), "allowed")
@@ -271,15 +270,14 @@ def _refusals(walk: Walk) -> list[tuple[object, ...]]:
 class AnyTrace(Written):
     """Summaries of random traces: nothing depends on how lines are written, nor on which records are taken together."""
 
-    def test_a_summary_is_the_same_by_kinds_and_singly(self) -> None:
-        chance = random.Random(42)
-        for _ in range(25):
-            calls = list(_random_calls(chance))
-            ways = [self.summed(calls, form, most) for form in FORMS for most in (1, 3, 1000)]
-            ways.append(self.summed(calls, singly=True))
-            for way in ways[1:]:
-                self.assertEqual(way, ways[0])
-            self.assertGreater(len(ways[0]), 0)
+    @by_chance(examples=20)
+    def test_a_summary_is_the_same_by_kinds_and_singly(self, chance: random.Random) -> None:
+        calls = list(_random_calls(chance))
+        ways = [self.summed(calls, form, most) for form in FORMS for most in (1, 3, 1000)]
+        ways.append(self.summed(calls, singly=True))
+        for way in ways[1:]:
+            self.assertEqual(way, ways[0])
+        self.assertGreater(len(ways[0]), 0)
 
     def summed(self, calls: list[Call], form: str = COMPACT, most: int = 1, *, singly: bool = False) -> str:
         """All that a summary says, with the order of what it says."""
@@ -289,7 +287,7 @@ class AnyTrace(Written):
         with mock.patch.object(reading, "MOST_KINDS", most), kinds:
             found.take(walk, ABIS)
         done = found.done(Counter())
-        return repr([(summary.as_data(one), one.not_allowed, one.untouched, one.brief) for one in done])
+        return repr([(summary.as_data(one), one.not_allowed, one.warnings) for one in done])
 
 
 def _random_calls(chance: random.Random) -> Iterator[Call]:

@@ -7,12 +7,13 @@ import tempfile
 import unittest
 from pathlib import Path
 
-from landaudit_record import reports
-from landaudit_record.answers import Answer, Condition, Missing, Reason, Refusing
-from landaudit_record.problems import Problem
-from landaudit_record.reports import Row
-from landaudit_record.rights import alone
-from landaudit_record.wording import span
+from landaudit_record.common import jsonl
+from landaudit_record.common.problems import Problem
+from landaudit_record.common.rights import alone
+from landaudit_record.common.wording import span
+from landaudit_record.engine import reports
+from landaudit_record.engine.answers import Answer, Condition, Missing, Reason, Refusing
+from landaudit_record.engine.reports import Row
 
 #: By docs/FORMATS.md, "The report as JSON", and its example.
 REPORT = """\
@@ -74,13 +75,13 @@ class Some(Written):
     def test_the_line_on_each_record_that_is_shown(self) -> None:
         with open(self.report(), "rb") as lines:
             shown = reports.Shown(lines)
-            self.assertEqual([shown.on(number) for number in range(1, 9)], [b""] * 5 + [*LINES[:2], b""])
-            self.assertEqual((shown.on(9), shown.line, shown.on(10)), (LINES[2], LINES[3], b""))
+            self.assertEqual(shown.block(1, 6) + shown.block(7, 2), [b""] * 5 + [*LINES[:2], b""])
+            self.assertEqual((shown.block(9, 1), shown.line, shown.block(10, 1)), ([LINES[2]], LINES[3], [b""]))
 
     def test_nothing_is_shown(self) -> None:
         with open(self.report(LINES[3].decode()), "rb") as lines:
             shown = reports.Shown(lines)
-            self.assertEqual((shown.on(1), shown.line), (b"", LINES[3]))
+            self.assertEqual((shown.block(1, 1), shown.line), ([b""], LINES[3]))
 
 
 class Bytes(unittest.TestCase):
@@ -93,6 +94,14 @@ class Bytes(unittest.TestCase):
         ends = reports.allowed_by_all(range(1, 6))
         self.assertEqual([line.endswith(ends) for line in LINES], [True, False, False, False])
         self.assertFalse(LINES[0].endswith(reports.allowed_by_all(range(2, 6))))
+
+    def test_the_abis_that_do_not_allow(self) -> None:
+        self.assertEqual([reports.abis_of_others(reports.split(line)[3]) for line in LINES[:3]],
+                         [frozenset(), frozenset({1}), frozenset(range(1, 6))])
+
+    def test_a_text_is_no_answer(self) -> None:
+        said = jsonl.line({"answers": [{"abi": [1, 1], "answer": "refused", "on": '"abi":[2,2],"answer":"refused"'}]})
+        self.assertEqual(reports.abis_of_others(said.encode()), {1})
 
     def test_of_one_abi(self) -> None:
         line = b'{"line":6,"pid":300,"op":"close","answers":[{"abi":[3,3],"answer":"%b"}]}\n'

@@ -10,9 +10,11 @@ import tempfile
 import unittest
 from pathlib import Path
 
-from landaudit_record import policies, resolving, surroundings, trees
-from landaudit_record.resolving import DISK, LinkLoop, NothingElse, Walked, walked
-from landaudit_record.trees import Tree
+from landaudit_record.audit import surroundings
+from landaudit_record.common import resolving, trees
+from landaudit_record.common.resolving import DISK, LinkLoop, NothingElse, Walked, walked
+from landaudit_record.common.trees import Tree
+from landaudit_record.policy import policies
 
 from .recorded import write_lines
 

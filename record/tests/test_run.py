@@ -10,7 +10,7 @@ import unittest
 from pathlib import Path
 from unittest import mock
 
-from landaudit_record import jsonl, stopping
+from landaudit_record.common import jsonl, stopping
 from landaudit_record.recorder import recordings, tracing
 from landaudit_record.recorder.tracing import Outcome
 
@@ -18,12 +18,17 @@ from .kept_logs import LOGS
 from .test_cli import said
 
 
-class Running(unittest.TestCase):
+class Untraced(unittest.TestCase):
+    """What `run` does around strace, which is not called."""
+
     def setUp(self) -> None:
         self.folder = Path(self.enterContext(tempfile.TemporaryDirectory())).resolve()
         self.out = self.folder / "rec"
         self.enterContext(mock.patch.object(tracing, "version", return_value="6.1"))
         self.enterContext(mock.patch.object(tracing, "may_trace"))
+
+
+class Running(Untraced):
 
     def test_a_directory_that_is_not_there_leaves_no_folder(self) -> None:
         status, error = said("run", str(self.out), "--watch", str(self.folder / "nope"), "--", "ls")
@@ -160,7 +165,7 @@ class Signals(unittest.TestCase):
             os.kill(os.getpid(), signal.SIGTERM)
             raise AssertionError("the signal came too late")
 
-        with mock.patch("landaudit_record.commands.convert.run", side_effect=ended) as convert:
+        with mock.patch("landaudit_record.commands.record.convert.run", side_effect=ended) as convert:
             status, error = said("convert", "rec")
         self.assertEqual((status, error), (128 + signal.SIGTERM, "landaudit-record: ended by SIGTERM\n"))
         self.assertEqual(convert.call_count, 1)
@@ -181,7 +186,7 @@ class Signals(unittest.TestCase):
             self.assertIsNot(signal.getsignal(signal.SIGTERM), signal.SIG_DFL)
 
     def test_an_interrupt_is_one(self) -> None:
-        with mock.patch("landaudit_record.commands.convert.run", side_effect=KeyboardInterrupt):
+        with mock.patch("landaudit_record.commands.record.convert.run", side_effect=KeyboardInterrupt):
             self.assertEqual(said("convert", "rec"), (130, "landaudit-record: ended by SIGINT\n"))
 
 

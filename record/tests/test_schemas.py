@@ -15,21 +15,31 @@ from collections.abc import Callable, Iterable, Iterator, Sequence
 from pathlib import Path
 from typing import Any
 
-from landaudit_record import by_abi, cli, jsonl
-from landaudit_record.commands import audit
-from landaudit_record.answers import Closed, Gained, Kept, Missing, Mounting
-from landaudit_record.landaudit import BUILT
-from landaudit_record.policy_commands import check
+from landaudit_record import cli
+from landaudit_record.audit import by_abi
+from landaudit_record.audit.moot import Unasked
+from landaudit_record.audit.summary import Accepted, Refusal, RefusingLayer, Summary, as_data
+from landaudit_record.audit.warnings import OfLog
+from landaudit_record.commands.record import audit
+from landaudit_record.common import jsonl
+from landaudit_record.engine.answers import Closed, Condition, Gained, Kept, Missing, Mounting
+from landaudit_record.engine.landaudit import BUILT
+from landaudit_record.policy import checking_data, differing_data, differing_rows
+from landaudit_record.policy.differing_layers import Mounts, Room, Unscoped
+from landaudit_record.policy.regions import Area, Region
+from landaudit_record.policy.reviewing import Review
+from landaudit_record.policy.widenings import Widening
 from landaudit_record.recorder import converting
 from landaudit_record.recorder.ports import Ports
-from landaudit_record.summary import Accepted, Refusal, RefusingLayer, Summary, as_data
+from landaudit_record.summaries.reporting import linted
 
 from .json_schema import DIALECT, DOCS, Schema, Validator
 from .kept_logs import LOGS, KeptLogs
 from .stand_in import StandIn
+from .worded import subject
 from .test_page import HOSTILE
 
-AUDIT, CHECK = (Validator.of(f"{name}.schema.json") for name in ("audit", "check"))
+AUDIT, CHECK, DIFF = (Validator.of(f"{name}.schema.json") for name in ("audit", "check", "diff"))
 PACKAGE = Path(cli.__file__).parent
 #: What landaudit-witness wrote on kept runs.
 HEARD = Path(__file__).parent / "heard"
@@ -90,6 +100,12 @@ abi = "4-5"
 [[allowed]]
 call = "bind"
 port = 80
+[[nothing]]
+rights = ["read"]
+under = "/etc"
+[[never]]
+both = ["read_file", "read_dir"]
+abi = 5
 """
 
 
@@ -107,12 +123,14 @@ class Schemas(unittest.TestCase):
     """The two schemas against documents that they must refuse, and against the document that describes members."""
 
     def test_each_member_is_described(self) -> None:
-        for name in ("audit", "check", "recording"):
+        for name in ("audit", "check", "diff", "lint", "recording"):
             schema = json.loads((DOCS / f"{name}.schema.json").read_text(encoding="utf-8"))
             self.assertEqual([member for member, one in members(schema) if not one.get("description")], [])
 
     def test_the_versions_are_those_of_the_programs(self) -> None:
-        for name, number in (("audit", audit.FORMAT), ("check", check.FORMAT)):
+        formats = {"audit": audit.FORMAT, "check": checking_data.FORMAT, "diff": differing_data.FORMAT,
+                   "lint": linted.FORMAT}
+        for name, number in formats.items():
             schema = json.loads((DOCS / f"{name}.schema.json").read_text(encoding="utf-8"))
             self.assertEqual(schema["properties"]["format"]["const"], number)
 
@@ -132,10 +150,18 @@ class Schemas(unittest.TestCase):
             with self.subTest(why):
                 self.assertNotEqual(CHECK.faults(document), [])
 
+    def test_what_is_no_comparison(self) -> None:
+        for why, spoil in SPOILED_DIFFS.items():
+            document = a_diff()
+            self.assertEqual((DIFF.faults(document), DIFF.undescribed(document)), ([], []))
+            spoil(document)
+            with self.subTest(why):
+                self.assertNotEqual(DIFF.faults(document), [])
+
     def test_a_member_that_is_gone(self) -> None:
         """Each member of each object is needed, but for those that only some objections have."""
         optional = {"rights", "path", "directory", "port", "opened", "recordings"}
-        for validator, whole in ((AUDIT, an_audit()), (CHECK, A_CHECK)):
+        for validator, whole in ((AUDIT, an_audit()), (CHECK, A_CHECK), (DIFF, a_diff())):
             for at, without in less(whole):
                 if at.rpartition("/")[2] not in optional and not re.search("(^|/)(programs|at|unsaid)/", at):
                     with self.subTest(at):
@@ -174,29 +200,50 @@ def _paths(value: Any) -> Iterator[list[Any]]:
 
 
 def a_summary(abi: int, names: Sequence[str]) -> Summary:
-    """A summary that has something of everything, with these names of files."""
+    """A summary with an entry in each list, and these names of files."""
     found = Summary(abi, Counter(allowed=9, moot=1), path_calls=9, moot_path_calls=1)
     layers = tuple(RefusingLayer(number, None if number > 1 else 1, OBJECTIONS) for number in (1, 2))
     for name in names:
-        found.refusals[Refusal("open r", f"/a/{name}", "EACCES", layers, None)] = Counter({name: 2, "-": 1})
-    found.refusals[Refusal("restrict", "-", "E2BIG", (), "the process has 16 layers already")] = Counter({"/bin/a": 1})
+        found.refusals[Refusal("open r", subject(f"/a/{name}"), "EACCES", layers, None)] = Counter({name: 2, "-": 1})
+    found.refusals[Refusal("restrict", subject("-"), "E2BIG", (), Condition("full"))] = Counter({"/bin/a": 1})
     found.verdicts["refused"] = sum(programs.total() for programs in found.refusals.values())
-    found.accepted[Accepted("ioctl", "/dev/null", "")] = 1
-    found.moot["is not in the tree"] = Counter({"/c": 1})
-    found.warnings, found.unsaid, found.missing = {f"warning {abi}": 1}, Counter({"a class": 2}), ("2 calls",)
+    found.accepted[Accepted("ioctl", subject("/dev/null"), "")] = 1
+    found.moot[Unasked("absent")] = Counter({subject("/c"): 1})
+    found.warnings, found.unsaid, found.missing = {OfLog(f"warning {abi}"): 1}, Counter({"a class": 2}), ("2 calls",)
     found.untraced = ("readlink(2) is not recorded",)
     return found
 
 
 def an_audit(names: Sequence[str] = ("f", "g")) -> dict[str, Any]:
-    """What an audit of one recording prints that has something of everything."""
+    """What an audit of one recording prints that has an entry in each list."""
     older, newer = a_summary(4, names), a_summary(5, names)
     del older.refusals[next(iter(older.refusals))], newer.refusals[next(reversed(newer.refusals))]
     data: dict[str, Any] = {
-        "format": 1, "recording": "rec", "policy": None, "as_recorded": False, **as_data(newer),
+        "format": 1, "recording": "rec", "policy": None, "as_recorded": False, "status": 1, **as_data(newer),
         "abis": by_abi.as_data(by_abi.steps([older, newer])),
     }
     found: dict[str, Any] = json.loads(json.dumps(data))
+    return found
+
+
+#: A difference of each kind.
+DIFFERENCES: tuple[differing_rows.What, ...] = (
+    differing_rows.Rights(("read_file", "read_dir"), Area("/a", ("/a/b",), ("/a/c",))),
+    differing_rows.Objects(("refer",), 2, ("/a", "/b"), "/c"),
+    differing_rows.Objects(("ioctl_dev",), 1, (), None),
+    differing_rows.Ports(("bind_tcp",), (1, 2, 3, 80), every=True),
+    differing_rows.Moves(("reg", "dir"), (Area("/", ("/a",)),), ("/a",), (Area("/b"),)),
+    differing_rows.Gains(("execute",), 1, "/b", (Region("/c", as_file=True),)),
+    Mounts(), Unscoped("signal"), Room(1, 2),
+)
+
+
+def a_diff() -> dict[str, Any]:
+    """What a comparison prints that has an entry in each list."""
+    rows = tuple(differing_rows.Row(what, frozenset({2, 3})) for what in DIFFERENCES)
+    known = Widening("why", frozenset({"execute"}), ("/a",))
+    review = Review(Path("old.toml"), None, Path("new.toml"), range(1, 6), 9, rows, rows, ((known, rows[:1]),), (known,))
+    found: dict[str, Any] = json.loads(json.dumps(differing_data.as_data(review)))
     return found
 
 
@@ -213,10 +260,21 @@ A_CHECK: dict[str, Any] = {
         "grants": [{"text": "layer 1: path_beneath 1 on /a grants read_file", "layer": 1, "rule": "path_beneath 1",
                     "on": "/a", "rights": ["read_file"]}],
     }],
+    "questions": [{
+        "kind": "nothing", "rights": ["write"], "under": ["/a"], "abis": [4, 5], "holds": False,
+        "passes": [{
+            "abis": [4], "text": "truncate under /a", "rights": ["truncate"],
+            "area": {"path": "/a", "as_file": False, "but_for": ["/a/b"], "but_for_files": []},
+            "grants": [{"text": "layer 1: path_beneath 1 on / grants truncate", "layer": 1, "rule": "path_beneath 1",
+                        "on": "/", "rights": ["truncate"]}],
+        }],
+        "not_asked": [{"abis": [4], "rights": ["ioctl_dev"]}],
+    }],
 }
 
 Spoil = Callable[[dict[str, Any]], object]
 SPOILED_AUDITS: dict[str, Spoil] = {
+    "no status of an audit": lambda data: data.update(status=2),
     "another version": lambda data: data.update(format=2),
     "no number": lambda data: data.update(refused="31"),
     "true is no number": lambda data: data.update(refused=True),
@@ -240,13 +298,31 @@ SPOILED_AUDITS: dict[str, Spoil] = {
 }
 SPOILED_CHECKS: dict[str, Spoil] = {
     "another version": lambda data: data.update(format=2),
-    "no cases": lambda data: data.update(results=[]),
+    "neither cases nor questions": lambda data: data.update(results=[], questions=[]),
+    "another question": lambda data: data["questions"][0].update(kind="all"),
+    "holds, and something passes": lambda data: data["questions"][0].update(holds=True),
+    "does not hold, and nothing passes": lambda data: data["questions"][0].update(passes=[]),
+    "an area that is no path": lambda data: data["questions"][0]["passes"][0]["area"].update(path="a"),
     "another answer": lambda data: data["results"][0].update(must_be="moot"),
     "refused by no layer": lambda data: data["results"][0]["answers"][0].update(layers=[]),
     "refused without an error": lambda data: data["results"][0]["answers"][0].update(error=None),
     "allowed with an error": lambda data: data["results"][0]["answers"][1].update(error="EACCES"),
     "held is a word": lambda data: data["results"][0].update(holds="yes"),
     "no rights": lambda data: data["results"][0]["grants"][0].update(rights=[]),
+}
+
+
+SPOILED_DIFFS: dict[str, Spoil] = {
+    "another version": lambda data: data.update(format=2),
+    "an old policy, and what is allowed without one": lambda data: data.update(old_allows="nothing"),
+    "neither": lambda data: data.update(old=None),
+    "no ABIs": lambda data: data["more"][0].update(abis=[]),
+    "an unknown difference": lambda data: data["more"][0].update(kind="right"),
+    "rights without an area": lambda data: data["more"][0].pop("area"),
+    "a port past the last one": lambda data: data["more"][3].update(ports=[[1, 65536]]),
+    "half a range": lambda data: data["more"][3].update(ports=[[1]]),
+    "a move to nowhere": lambda data: data["less"][4].update(to=[]),
+    "accepted without a reason": lambda data: data["accepted"][0].update(reason=""),
 }
 
 
@@ -375,7 +451,7 @@ class Built(KeptLogs):
 
     def file(self, name: str, text: str) -> Path:
         """A file in the test's folder."""
-        path = Path(self._folder.name) / name
+        path = Path(self._folder) / name
         path.write_text(text, encoding="utf-8")
         return path
 
@@ -390,10 +466,22 @@ class Built(KeptLogs):
                     self.assertEqual((AUDIT.faults(data), AUDIT.undescribed(data)), ([], []))
                     self.assertTrue(data["refusals"] or data["as_recorded"])
 
+    def test_comparisons(self) -> None:
+        policy = self.file("policy.toml", POLICY)
+        other = POLICY.replace('"read"', '"read", "execute"').replace("[80, 443]", "[1, 2, 3]")
+        kinds = set()
+        for words in ((self.file("old.toml", other), policy), (policy, self.file("old.toml", other)),
+                      (policy, "--old-allows", "nothing"), (policy, "--old-allows", "everything", "--abi", "1")):
+            data = self.called(cli.POLICY, "diff", *words)
+            self.assertEqual((DIFF.faults(data), DIFF.undescribed(data)), ([], []))
+            kinds |= {one["kind"] for one in (*data["more"], *data["less"])}
+        self.assertLessEqual({"rights", "ports", "moves", "mounts", "scope"}, kinds)
+
     def test_a_check(self) -> None:
         data = self.called(cli.POLICY, "check", self.file("policy.toml", POLICY), self.file("cases.toml", CASES))
         self.assertEqual((CHECK.faults(data), CHECK.undescribed(data)), ([], []))
-        self.assertEqual((data["held"] + data["failed"], len(data["results"])), (8, 8))
+        self.assertEqual((data["held"] + data["failed"], len(data["results"]), len(data["questions"])), (10, 8, 2))
+        self.assertEqual([(one["kind"], one["holds"]) for one in data["questions"]], [("nothing", True), ("never", False)])
         by_case = {f"{one['call']} {one['place']}": one for one in data["results"]}
         self.assertEqual([by_case[case]["holds"] for case in ("open r /etc/passwd", "open r /usr")], [True, False])
         (layer,) = by_case["open r /etc/passwd"]["answers"][0]["layers"]

@@ -6,7 +6,7 @@ import tempfile
 import unittest
 from pathlib import Path
 
-from landaudit_record import sensitive
+from landaudit_record.policy import sensitive
 
 READ = frozenset({"read_file"})
 
@@ -17,19 +17,19 @@ def warned(place: str, *rights: str) -> str:
 
 class Warnings(unittest.TestCase):
     def test_everything(self) -> None:
-        self.assertEqual(warned("/", "make_reg"), "warning: make_reg on everything that there is")
+        self.assertEqual(warned("/", "make_reg"), "make_reg on everything that there is")
 
     def test_what_is_the_kernels(self) -> None:
         for place in ("/proc", "/proc/meminfo", "/proc/sys/kernel/pid_max"):
-            self.assertRegex(warned(place), r"\Awarning: /proc: .*every process")
-        self.assertRegex(warned("/sys/devices/system/cpu"), r"\Awarning: /sys: .*devices\Z")
+            self.assertRegex(warned(place), r"\A/proc: .*every process")
+        self.assertRegex(warned("/sys/devices/system/cpu"), r"\A/sys: .*devices\Z")
 
     def test_secrets_and_what_is_beneath(self) -> None:
         for place, secret in (("/etc/shadow", "/etc/shadow"), ("/etc/ssl/private/a.pem", "/etc/ssl/private"),
                               ("/home/me/.ssh/known_hosts", "/home/me/.ssh"), ("/srv/web.key", "/srv/web.key"),
                               ("/home/me/.gnupg", "/home/me/.gnupg")):
             with self.subTest(place):
-                self.assertEqual(warned(place), f"warning: {secret} holds secrets")
+                self.assertEqual(warned(place), f"{secret} holds secrets")
 
     def test_a_directory_over_secrets(self) -> None:
         self.assertIn("reaches /etc/shadow, /etc/gshadow, /etc/ssl/private", warned("/etc"))
@@ -38,7 +38,7 @@ class Warnings(unittest.TestCase):
             self.assertEqual(warned(home), "")
             keys = Path(home, ".ssh")
             keys.mkdir()
-            self.assertEqual(warned(home), f"warning: this reaches {keys}")
+            self.assertEqual(warned(home), f"this reaches {keys}")
 
     def test_rights_that_reach_no_file_that_is_there(self) -> None:
         self.assertEqual(warned("/etc", "read_dir"), "")

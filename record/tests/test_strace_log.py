@@ -7,8 +7,8 @@ import unittest
 from pathlib import Path
 
 from landaudit_record.recorder import strace_log
+from landaudit_record.recorder.unwritten import NotUnderstood
 from landaudit_record.recorder.strace_log import Call, Ended, Event, Superseded, Unread
-from landaudit_record.recorder.unsaid import NotUnderstood
 
 
 def read(*lines: str) -> list[Event]:

@@ -9,14 +9,17 @@ from collections import Counter
 from collections.abc import Iterator, Sequence
 from pathlib import Path
 
-from landaudit_record import policies, suggestion_text
-from landaudit_record.jsonl import Record
-from landaudit_record.policies import Policy
-from landaudit_record.reading import Walk
-from landaudit_record.rights import FS, alone
-from landaudit_record.suggesting import Recorded, Suggestion, suggest, with_rules
-from landaudit_record.trees import Tree
-from landaudit_record.wants import Rule
+from landaudit_record.common import comments
+from landaudit_record.common.jsonl import Record
+from landaudit_record.common.rights import FS, alone
+from landaudit_record.common.trees import Tree
+from landaudit_record.engine.reading import Walk
+from landaudit_record.policy import policies
+from landaudit_record.policy.policies import Policy
+from landaudit_record.suggest import suggestion_text
+from landaudit_record.suggest.missing_rights import Rule
+from landaudit_record.suggest.remarks import Remark, RemarkKind
+from landaudit_record.suggest.suggesting import Recorded, Suggestion, suggest, with_rules
 
 from .recorded import (
     MOUNTING,
@@ -33,6 +36,7 @@ from .recorded import (
     write_lines,
     write_report,
 )
+from .worded import said
 
 TREE = Tree(
     {
@@ -188,7 +192,7 @@ class Remarks(unittest.TestCase):
     """What a rule is for, where it is not on the path that is asked for, and what to be warned of."""
 
     def remarks(self, *calls: Call) -> list[tuple[str, ...]]:
-        return [rule.remarks for rule in suggested([*layer(), *calls]).rules[1]]
+        return [said(rule) for rule in suggested([*layer(), *calls]).rules[1]]
 
     def test_a_rule_on_the_path_itself_has_none(self) -> None:
         self.assertEqual(self.remarks(reading("/a/f"), listing("/b", 2), reading("/b/moved", 3)), [(), ()])
@@ -218,7 +222,7 @@ class Remarks(unittest.TestCase):
     def test_names_that_are_made_up(self) -> None:
         tree = Tree({**TREE.kinds, "/a/x.Ab3dEf": "reg"}, made={*TREE.made, "/a/x.Ab3dEf"})
         (rule,) = suggested([*layer(), reading("/a/x.Ab3dEf")], recorded=Recorded(tree)).rules[1]
-        self.assertEqual((rule.place, rule.remarks), ("/a", ("(for names that differ in each run, as x.Ab3dEf)",)))
+        self.assertEqual((rule.place, said(rule)), ("/a", ("(for names that differ in each run, as x.Ab3dEf)",)))
 
     def test_names_beneath_a_made_up_one(self) -> None:
         make = (opened("/a/x.Ab3dEf/~new~", "w", create=True, shown="/a/x.Ab3dEf/n"),
@@ -226,13 +230,13 @@ class Remarks(unittest.TestCase):
         tree = Tree({**TREE.kinds, "/a/x.Ab3dEf": "dir"}, made={*TREE.made, "/a/x.Ab3dEf"})
         (rule,) = suggested([*layer(), make], recorded=Recorded(tree)).rules[1]
         told = "(for names that differ in each run, as x.Ab3dEf, x.Ab3dEf/n)"
-        self.assertEqual((rule.place, rule.remarks), ("/a", (told,)))
+        self.assertEqual((rule.place, said(rule)), ("/a", (told,)))
 
     def test_a_name_that_looks_so_and_was_there(self) -> None:
         tree = Tree({**TREE.kinds, "/a/x.Ab3dEf": "dir", "/a/x.Ab3dEf/f": "reg"})
         (rule,) = suggested([*layer(), reading("/a/x.Ab3dEf/f")], recorded=Recorded(tree)).rules[1]
         told = "(/a/x.Ab3dEf looks like a name that differs in each run: then grant on /a)"
-        self.assertEqual((rule.place, rule.remarks), ("/a/x.Ab3dEf/f", (told,)))
+        self.assertEqual((rule.place, said(rule)), ("/a/x.Ab3dEf/f", (told,)))
 
     def test_a_warning(self) -> None:
         make = (opened("/~new~", "w", create=True, shown="/n"), refused(missing_on("/", "make_reg")))
@@ -263,7 +267,7 @@ class SeveralRecordings(unittest.TestCase):
         calls = [[*layer(), reading(f"/r/x-{part}/sock")] for part in ("8f3a1c", "77b0de")]
         (rule,) = suggested_of([Recorded(tree) for tree in trees], calls).rules[1]
         self.assertEqual((rule.place, rule.calls), ("/r", 2))
-        self.assertEqual(rule.remarks, ("(for names that differ in each run, as x-77b0de/sock, x-8f3a1c/sock)",))
+        self.assertEqual(said(rule), ("(for names that differ in each run, as x-77b0de/sock, x-8f3a1c/sock)",))
 
     def test_files_that_were_named_to_the_program_stay(self) -> None:
         trees = [Tree({"/": "dir", "/w": "dir", f"/w/{name}": "reg"}) for name in ("left", "mode")]
@@ -461,6 +465,57 @@ class Text(unittest.TestCase):
         rule = Rule("/a", frozenset({"read_file"}), 2)
         written = list(suggestion_text.lines(Suggestion({2: [rule]}, NONE, NONE, 1, True), policy(DENY + DENY)))
         self.assertRegex(written[0], "^# 1 rule for layer 2: paste them under the .*layer.* of that number")
+
+    RULES = [Rule("/a/f", frozenset({"read_file"}), 3),
+             Rule("/b", frozenset({"read_file"}), 2, (Remark(RemarkKind.ALSO, "why"),)),
+             Rule("/c", frozenset({"read_file"}), 1), Rule((80, 81), frozenset({"bind_tcp"}), 1)]
+
+    def test_rules_with_equal_rights_are_one_but_for_those_with_remarks(self) -> None:
+        written = "\n".join(suggestion_text.written(self.RULES))
+        self.assertEqual(written, """
+# 1 to 3 calls each
+[[layer.path_beneath]]
+allowed_access = ["read_file"]
+parent = [
+    "/a/f",
+    "/c",
+]
+
+# 2 calls
+# also why
+[[layer.path_beneath]]
+allowed_access = ["read_file"]
+parent = "/b"
+
+# 1 call
+[[layer.net_port]]
+allowed_access = ["bind_tcp"]
+port = [80, 81]
+""")
+        same = [Rule(f"/f{number}", frozenset({"read_file"}), 2) for number in range(2)]
+        written = "\n".join(suggestion_text.written(same))
+        self.assertTrue(written.startswith("\n# 2 calls each\n"), written)
+        self.assertEqual(policy(DENY + written).layers[0].path_beneath[0].parents, ("/f0", "/f1"))
+
+    def test_the_whole_policy(self) -> None:
+        text = f'# Mine.\n\n{DENY}include = "base"\n'
+        found = Suggestion({1: self.RULES}, NONE, NONE, 1, True, groups={1: {"tmp": 2}})
+        whole = "\n".join(suggestion_text.whole(found, policy(text), comments.read(text)))
+        self.assertTrue(whole.startswith("# Mine.\n\n# suggested tmp for 2 calls\n[[layer]]\n"), whole)
+        self.assertIn("# suggested for 2 calls\n# also why\n[[layer.path_beneath]]\n", whole)
+        self.assertIn('\ninclude = ["base", "tmp"]\n', whole)
+        again, meant = policy(whole).layers, with_rules(policy(text), found.rules, found.groups).layers
+        self.assertEqual([rule.ports for rule in again[0].net_port], [(80, 81)])
+        self.assertEqual({(rule.parents, rule.allowed_access.rights) for rule in again[0].path_beneath},
+                         {(rule.parents, rule.allowed_access.rights) for rule in meant[0].path_beneath})
+        self.assertEqual(again[0].path_beneath[0].parents, ("/a/f", "/c"))
+
+    def test_many_paths_of_one_directory_are_told(self) -> None:
+        for number, told in ((7, False), (8, True)):
+            rules = [Rule(f"/etc/php/{name}.ini", frozenset({"read_file"}), 1) for name in range(number)]
+            said = list(suggestion_text.ending(Suggestion({1: rules}, NONE, NONE, 1, True)))
+            hint = f"{number} of the paths are in /etc/php: --rules N grants on directories in their place"
+            self.assertEqual(hint in said, told)
 
     def test_what_stays_refused_is_said(self) -> None:
         found = suggested([*layer(), MOUNT])

@@ -14,14 +14,18 @@ from itertools import product
 from pathlib import Path
 from unittest import mock
 
-from landaudit_record import layout, summary, summary_text
-from landaudit_record.answers import Missing
-from landaudit_record.jsonl import Record
-from landaudit_record.problems import Problem
-from landaudit_record.reading import Walk, judged
-from landaudit_record.rights import FS, NEWEST_ABI, alone
-from landaudit_record.summary import RefusingLayer, Summary
-from landaudit_record.summary_text import Beside, Style
+from landaudit_record.audit import summary
+from landaudit_record.audit.summary import RefusingLayer, Summary
+from landaudit_record.audit.warnings import NoLayer
+from landaudit_record.common import layout
+from landaudit_record.common.jsonl import Record
+from landaudit_record.common.problems import Problem
+from landaudit_record.common.rights import FS, NEWEST_ABI, alone
+from landaudit_record.engine.answers import Missing
+from landaudit_record.engine.reading import Walk, judged
+from landaudit_record.engine.subjects import Subject
+from landaudit_record.summaries import summary_text
+from landaudit_record.summaries.summary_text import Beside, Style
 
 from .recorded import (
     Object,
@@ -254,7 +258,7 @@ class Warnings(unittest.TestCase):
     ABSENT = ({**READ, "path": "/none"}, moot("absent", path="/none"))
 
     def warnings(self, *calls: Call, abi: int = 5) -> list[str]:
-        return list(summed([NNP, LAYER[0], *calls], abi).warnings)
+        return list(map(str, summed([NNP, LAYER[0], *calls], abi).warnings))
 
     def test_a_rule_whose_parent_is_not_listed(self) -> None:
         (said,) = self.warnings((rule("/none", "read_file", parent="/bin/none"), moot("absent", path="/none")))
@@ -270,7 +274,7 @@ class Warnings(unittest.TestCase):
         added = rule("/a/made", "read_file")
         added |= {"path": "/~new~", "policy": {**added["policy"], "made": "/a"}}
         found = summed([(added, moot("absent", path="/~new~"))], tried=True)
-        (said,) = found.warnings
+        (said,) = map(str, found.warnings)
         self.assertIn("path_beneath 1, parent /a/made: the run makes it itself", said)
         self.assertIn("grant it on /a", said)
         self.assertEqual((found.records, found.moot), (1, {}))
@@ -295,7 +299,7 @@ class Warnings(unittest.TestCase):
 
     def test_a_recording_in_which_nothing_asks_for_a_layer(self) -> None:
         calls = [NNP, RUN, (READ, "allowed")]
-        self.assertEqual(list(summed(calls).warnings), [summary.NO_LAYER])
+        self.assertEqual(list(summed(calls).warnings), [NoLayer()])
         self.assertEqual(list(summed(calls, tried=True).warnings), [])
         self.assertEqual(list(summed([*OWN, *calls]).warnings), [])
 
@@ -488,7 +492,8 @@ class AtEighty(unittest.TestCase):
         found = Summary(5, Counter(refused=2 * len(places)))
         for index, place in enumerate(places):
             missing = Missing(self.WRITES, os.path.dirname(place))
-            refusal = summary.Refusal("open rw create", place, "EACCES", (RefusingLayer(1, 1, (missing,)),), None)
+            layers = (RefusingLayer(1, 1, (missing,)),)
+            refusal = summary.Refusal("open rw create", Subject((place,)), "EACCES", layers, None)
             program = "/usr/bin/x86_64-linux-gnu-as" if index % 2 else self.COMPILER
             found.refusals[refusal] = Counter({program: 2 + index % 2})
         return text(found, width=80).splitlines()
@@ -498,10 +503,11 @@ class AtEighty(unittest.TestCase):
         self.assertEqual(lines[3:], [
             "refused, the most frequent first (2 kinds)",
             "  all: error EACCES, layers policy's 1",
+            "  $D is /srv/build/objects",
             "  programs: x86_64-linux-gnu-as, cc1",
-            "  times  call            place                   why",
-            "      3  open rw create  /srv/b…ects/ccb0Tpq1.s  write_file, read_file, make_reg",
-            "      2  open rw create  /srv/b…ects/cc4aUeXw.s  write_file, read_file, make_reg",
+            "  times  call            place          why",
+            "      3  open rw create  $D/ccb0Tpq1.s  write_file, read_file, make_reg on $D",
+            "      2  open rw create  $D/cc4aUeXw.s  write_file, read_file, make_reg on $D",
         ])
 
     def test_groups_have_their_rights_and_say_the_programs_once(self) -> None:

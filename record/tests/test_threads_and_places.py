@@ -11,7 +11,7 @@ import socket
 import unittest
 from pathlib import Path
 
-from landaudit_record import finished, jsonl
+from landaudit_record.common import finished, jsonl
 from landaudit_record.recorder import converting, recordings, tracing
 from landaudit_record.recorder.calls import descriptors, landlock
 from landaudit_record.recorder.scene import BY_UNSEEN_LAYER, MOVING

@@ -8,16 +8,21 @@ import random
 import tempfile
 import unittest
 from pathlib import Path
+from unittest import mock
 
-from landaudit_record import applying, cli, comments, fitting, policies, policy_text
-from landaudit_record.jsonl import Record
-from landaudit_record.landaudit import BUILT
-from landaudit_record.policies import Policy
-from landaudit_record.rights import FILE_RIGHTS, FS, NEWEST_ABI
-from landaudit_record.tightening import units, without
-from landaudit_record.trees import Tree
+from landaudit_record import cli
+from landaudit_record.common import comments
+from landaudit_record.common.jsonl import Record
+from landaudit_record.common.rights import FILE_RIGHTS, FS, NEWEST_ABI
+from landaudit_record.common.trees import Tree
+from landaudit_record.engine import landaudit_rules
+from landaudit_record.engine.landaudit import BUILT
+from landaudit_record.policy import applying, called, fitting, policies, policy_text
+from landaudit_record.policy.policies import Policy
+from landaudit_record.tighten.tightening import units, without
 
 from . import brute
+from .drawn import by_chance
 from .random_policies import Maker
 from .recorded import write_lines
 
@@ -64,17 +69,16 @@ class Text(unittest.TestCase):
         written = policy_text.joined(policy, [tree])
         return self.read("\n".join(policy_text.lines(written, comments.Comments(), lambda layer, rule: "")))
 
-    def test_what_is_granted_is_as_before(self) -> None:
-        for seed in range(60):
-            with self.subTest(seed):
-                maker = Maker(random.Random(seed))
-                made = maker.policy(2, 8)
-                tree = Tree(maker.tree(made.paths))
-                whole = self.read(made.toml())
-                before = policy_text.apart(whole, [tree])
-                self.assertEqual(self.granted(before, tree), self.granted(whole, tree))
-                before = without(before, [unit for unit in units(before, NEWEST_ABI) if maker.of.random() < 0.3])
-                self.assertEqual(self.granted(self.again(before, tree), tree), self.granted(before, tree))
+    @by_chance(examples=30)
+    def test_what_is_granted_is_as_before(self, chance: random.Random) -> None:
+        maker = Maker(chance)
+        made = maker.policy(2, 8)
+        tree = Tree(maker.tree(made.paths))
+        whole = self.read(made.toml())
+        before = policy_text.apart(whole, [tree])
+        self.assertEqual(self.granted(before, tree), self.granted(whole, tree))
+        before = without(before, [unit for unit in units(before, NEWEST_ABI) if chance.random() < 0.3])
+        self.assertEqual(self.granted(self.again(before, tree), tree), self.granted(before, tree))
 
     def test_rules_from_which_nothing_is_taken_are_written_as_they_were(self) -> None:
         """Where a directory and a file have the same words, each group stands for what its object can have."""
@@ -189,7 +193,7 @@ port = 443
         return '[[layer]]\nhandled_access_fs = ["all"]\n' + "".join(texts)
 
     def left(self, text: str, *folders: Path) -> list[tuple[str, ...]]:
-        """The rules on paths that are left of a policy: the parents of each behind its rights."""
+        """The rules on paths that are left of a policy: the rights of each, and then its parents."""
         self.policy.write_text(text)
         status, out, errors = self.said(*folders)
         self.assertEqual(status, 0, errors)
@@ -198,7 +202,7 @@ port = 443
         return [(*FS.ordered(rule.allowed_access.rights), *rule.parents) for rule in layer.path_beneath]
 
     def test_each_right_on_each_path_is_tried_by_itself(self) -> None:
-        """What `sort` needs of three directories: nothing of one, and less of another than of the first."""
+        """`sort` uses the rights on the first of three directories, fewer on the second, and none on the third."""
         tree = [{"path": path, "kind": "dir"} for path in ("/usr", "/etc", "/home")]
         tree += [{"path": path, "kind": "reg"} for path in ("/usr/sort", "/usr/libc", "/etc/passwd", "/etc/cache")]
         calls: list[Record] = [{"op": "exec", "path": "/usr/sort"}]
@@ -207,6 +211,15 @@ port = 443
         one = self.recording("one", tree, calls)
         text = self.rules(('["read", "execute"]', '["/etc", "/usr", "/home", "/usr"]'))
         self.assertEqual(self.left(text, one), [("read_file", "/etc"), ("execute", "read_file", "/usr")])
+
+    def test_landaudit_rules_runs_once_for_all_rights_that_are_tried_together(self) -> None:
+        self.policy.write_text(POLICY)
+        one = self.recording("one", TREE, CALLS)
+        with (mock.patch.object(called, "_said", {}),
+              mock.patch.object(landaudit_rules, "ask", wraps=landaudit_rules.ask) as asked):
+            head, _, _ = self.said(one)[1].partition("\n")
+        audits = int(head.rpartition("(")[2].split()[0])
+        self.assertLessEqual(asked.call_count, 1 + audits)
 
     def test_paths_with_the_same_rights_are_on_one_rule_in_their_order(self) -> None:
         tree = [{"path": path, "kind": "dir"} for path in ("/c", "/a", "/b", "/d")]

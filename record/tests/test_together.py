@@ -9,13 +9,16 @@ from collections import Counter
 from pathlib import Path
 from typing import Any
 
-from landaudit_record import together
-from landaudit_record.finished import READING_LINKS, Converted, Finished, Size
-from landaudit_record.rights import alone
-from landaudit_record.summary import Accepted, Refusal, Summary
+from landaudit_record.audit import together
+from landaudit_record.audit.moot import Unasked
+from landaudit_record.audit.summary import Accepted, Refusal, Summary
+from landaudit_record.audit.warnings import NoLayer, OfPolicy, RuleUnused
+from landaudit_record.common.finished import READING_LINKS, Converted, Finished, Size
+from landaudit_record.common.rights import alone
 
 from .recorded import PID, last_line, missing_on, refused, write_lines
 from .stand_in import TRACE, StandIn
+from .worded import subject
 
 #: Two records more than the first recording has, of which the policy refuses the last.
 SECOND = [
@@ -168,28 +171,31 @@ class United(unittest.TestCase):
         recording = Finished(Path(name), (), Counter(), Counter(), ended=True, untraced=untraced)
         return together.Member(name, recording, None)
 
-    def summary(self, *warnings: str, untouched: str) -> Summary:
-        return Summary(5, warnings={text: 1 for text in (*warnings, untouched)}, untouched={untouched})
+    def unused(self, path: str) -> RuleUnused:
+        return RuleUnused(OfPolicy(1, "path_beneath 1", path), subject(path), Unasked("absent"))
 
     def test_a_rule_that_one_of_them_touches_is_no_warning(self) -> None:
-        one, other = self.summary("a", untouched="x"), self.summary("a", untouched="y")
+        always = NoLayer()
+        one = Summary(5, warnings={always: 1, self.unused("/x"): 1})
+        other = Summary(5, warnings={always: 1, self.unused("/y"): 1})
         found = together.united([(self.member("r1"), one), (self.member("r2"), other)])
-        self.assertEqual(found.warnings, {"a": 2})
-        found = together.united([(self.member("r1"), one), (self.member("r2"), self.summary(untouched="x"))])
-        self.assertEqual(found.warnings, {"a": 1, "x": 2})
+        self.assertEqual(found.warnings, {always: 2})
+        other = Summary(5, warnings={self.unused("/x"): 1})
+        found = together.united([(self.member("r1"), one), (self.member("r2"), other)])
+        self.assertEqual(found.warnings, {always: 1, self.unused("/x"): 2})
 
     def test_counts_are_added(self) -> None:
-        kind, known = Refusal("exec", "/a", "EACCES", (), None), Accepted("exec", "/b", "fine")
+        kind, known = Refusal("exec", subject("/a"), "EACCES", (), None), Accepted("exec", subject("/b"), "fine")
         one, other = Summary(5, path_calls=3), Summary(5, path_calls=4)
         for summary, programs in ((one, {"p": 2}), (other, {"p": 1, "q": 3})):
             summary.refusals[kind] = Counter(programs)
             summary.verdicts["refused"] = sum(programs.values())
             summary.accepted[known] += 1
-            summary.moot["why"] = Counter({"/a": 3})
+            summary.moot[Unasked("absent")] = Counter({subject("/a"): 3})
         found = together.united([(self.member("r1"), one), (self.member("r2"), other)])
         self.assertEqual((found.refusals[kind], found.recordings[kind]), ({"p": 3, "q": 3}, ["r1", "r2"]))
         self.assertEqual((found.records, found.path_calls, found.accepted[known]), (6, 7, 2))
-        self.assertEqual(found.moot["why"].total(), 6)
+        self.assertEqual(found.moot[Unasked("absent")].total(), 6)
 
     def test_what_was_not_traced_is_told_once(self) -> None:
         members = [self.member(name, READING_LINKS) for name in ("r1", "r2")]

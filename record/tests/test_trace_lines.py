@@ -8,9 +8,9 @@ import unittest
 from pathlib import Path
 from typing import Any
 
-from landaudit_record import trace_lines
-from landaudit_record.operations import OPERATIONS
-from landaudit_record.trace_lines import HEAD, body, closing, head, heads, line_of, told, written
+from landaudit_record.common import trace_lines
+from landaudit_record.common.operations import OPERATIONS
+from landaudit_record.common.trace_lines import HEAD, body, closing, head, heads, line_of, told, written
 
 
 def whole(op: str, kernel: str | None = None, **members: Any) -> Any:

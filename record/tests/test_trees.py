@@ -7,9 +7,9 @@ import unittest
 from pathlib import Path
 from typing import Any
 
-from landaudit_record import trees
-from landaudit_record.problems import Problem
-from landaudit_record.trees import LinkLoop, Tree
+from landaudit_record.common import trees
+from landaudit_record.common.problems import Problem
+from landaudit_record.common.trees import LinkLoop, Tree
 
 from .recorded import write_lines
 

@@ -6,12 +6,13 @@ import unittest
 from collections import Counter
 from pathlib import Path
 
-from landaudit_record import jsonl, reports
-from landaudit_record.answers import ALLOWED, REFUSED, Answer, Refusing
-from landaudit_record.comparing import agree
-from landaudit_record.finished import Finished
-from landaudit_record.kernel_calls import judged_calls
-from landaudit_record.processes import Process
+from landaudit_record.audit.comparing import agree
+from landaudit_record.audit.kernel_calls import judged_calls
+from landaudit_record.common import jsonl
+from landaudit_record.common.finished import Finished
+from landaudit_record.engine import reports
+from landaudit_record.engine.answers import ALLOWED, REFUSED, Answer, Refusing
+from landaudit_record.engine.processes import Process
 from landaudit_record.recorder.calls import programs
 from landaudit_record.recorder.names import MADE_OR_THERE, OF_KIND, REPLACED_OR_NOT, UNKNOWN_WAY
 

@@ -9,11 +9,11 @@ import unittest
 from pathlib import Path
 from typing import Any
 
-from landaudit_record import jsonl
-from landaudit_record.jsonl import Record
+from landaudit_record.common import jsonl
+from landaudit_record.common.jsonl import Record
 from landaudit_record.recorder import converting, witness
 from landaudit_record.recorder.calls.mounts import CHANGES_THE_TREE
-from landaudit_record.recorder.calls.others import INTO_ANOTHER
+from landaudit_record.recorder.calls.ptrace import INTO_ANOTHER
 from landaudit_record.recorder.ports import Ports
 from landaudit_record.recorder.unrecorded import AT_ANOTHER, LOST, MISSED, NOT_ENDED, NOT_RECORDED, UNHEARD
 
@@ -29,7 +29,7 @@ def node(path: str, inode: int, flags: str) -> list[Any]:
 
 
 def event(hook: str, path: str | None = None, *, inode: int = 7, **members: Any) -> Record:
-    """An event of process 10, by docs/RECORDERS.md, "What landaudit-witness writes"."""
+    """An event of process 10, by docs/recording.schema.json."""
     base: Record = {"time": 1, "pid": 10, "tid": 10, "comm": "p", "hook": hook, "answer": 0, **members}
     if path is not None:
         base |= {"path": path, "chain": [node(path, inode, "o"), node("/", 2, "mr")]}
@@ -155,6 +155,12 @@ class Unrecorded(WrittenLogs):
                  event("path_rmdir", "/w/d")]
         self.assertEqual(self.heard(asked, *lines), [])
         self.assertEqual(self.heard(asked), [NOT_RECORDED + one["hook"] for one in asked])
+
+    def test_a_call_that_seems_to_end_before_it_is_asked(self) -> None:
+        """A file server or a device may answer so, after Landlock was asked."""
+        for error in ("EROFS (Read-only file system)", "ENOSYS (Function not implemented)", "EBADF (Bad file descriptor)"):
+            made = event("path_mkdir", "/w/m")
+            self.assertEqual(self.heard([made], f'mkdir("/w/m", 0700) = -1 {error}'), [NOT_RECORDED + "path_mkdir"])
 
     def test_another_object_at_the_same_name(self) -> None:
         twice = [opened("/w/f", inode=7), opened("/w/f", inode=8)]

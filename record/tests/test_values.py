@@ -5,7 +5,7 @@ from __future__ import annotations
 import unittest
 
 from landaudit_record.recorder import values
-from landaudit_record.recorder.unsaid import NotUnderstood
+from landaudit_record.recorder.unwritten import NotUnderstood
 from landaudit_record.recorder.values import Descriptor
 
 

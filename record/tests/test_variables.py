@@ -10,10 +10,15 @@ from io import StringIO
 from pathlib import Path
 from unittest import mock
 
-from landaudit_record import accepting, cases, cli, comments, policies, policy_text, variables
-from landaudit_record.policies import Policy
-from landaudit_record.problems import UNREADABLE, USAGE, Problem
-from landaudit_record.variables import Given
+from landaudit_record import cli
+from landaudit_record.audit import accepting
+from landaudit_record.common import comments, variables
+from landaudit_record.common.problems import UNREADABLE, USAGE, Problem
+from landaudit_record.common.variables import Given
+from landaudit_record.policy import cases, policies, policy_text
+from landaudit_record.policy.policies import Policy
+
+from .worded import subject
 
 LAYER = '[[layer]]\nhandled_access_fs = ["all"]\nhandled_access_net = ["all"]\n'
 RULE = '[[layer.path_beneath]]\nallowed_access = ["read"]\nparent = '
@@ -25,9 +30,7 @@ class InFolder(unittest.TestCase):
     """A folder for files."""
 
     def setUp(self) -> None:
-        folder = tempfile.TemporaryDirectory()
-        self.addCleanup(folder.cleanup)
-        self.folder = Path(folder.name)
+        self.folder = Path(self.enterContext(tempfile.TemporaryDirectory()))
 
     def file(self, text: str, name: str = "P.toml") -> Path:
         path = self.folder / name
@@ -83,7 +86,7 @@ class Values(InFolder):
         found = cases.read(file, Given({"PORT": "22"}))
         self.assertEqual([case.place for case in found.cases], [there, "port 22"])
         text = '[[accepted]]\ncall = "open r"\npath = "${DIR}/x"\nreason = "it is"\n'
-        self.assertEqual(accepting.read(self.file(text), Given({"DIR": "/d"}))[0].place, "/d/x")
+        self.assertEqual(accepting.read(self.file(text), Given({"DIR": "/d"}))[0].subject, subject("/d/x"))
 
 
 class Faults(InFolder):

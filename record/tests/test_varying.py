@@ -6,8 +6,8 @@ import tempfile
 import unittest
 from pathlib import Path
 
-from landaudit_record import varying
-from landaudit_record.trees import ROOT, Tree
+from landaudit_record.common.trees import ROOT, Tree
+from landaudit_record.suggest import varying
 
 NOBODY: tuple[set[int], set[int]] = (set(), set())
 

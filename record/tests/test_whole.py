@@ -14,9 +14,11 @@ from io import StringIO
 from pathlib import Path
 from unittest import mock
 
-from landaudit_record import cli, finished, trying
-from landaudit_record.finished import CONVERTED, Converted, Size
-from landaudit_record.problems import NOT_ALL_JUDGED, UNREADABLE, USAGE, Problem
+from landaudit_record import cli
+from landaudit_record.audit import auditor
+from landaudit_record.common import finished
+from landaudit_record.common.finished import CONVERTED, Converted, Size
+from landaudit_record.common.problems import NOT_ALL_JUDGED, UNREADABLE, USAGE, Problem
 from landaudit_record.recorder import converting, recordings
 from landaudit_record.recorder.ports import Ports
 from landaudit_record.recorder.writing import Limits, Recording, Tree
@@ -27,12 +29,12 @@ from .stand_in import WIDE
 from .stories import names
 
 RECORD = Path(__file__).resolve().parents[1]
-#: Answers that all is allowed.
+#: Answers that all is allowed, but not what a call may be otherwise.
 ALLOWS = f"""#!/usr/bin/env python3
 import sys
 sys.path.insert(0, {str(RECORD)!r})
-from tests.recorded import allow_all
-allow_all(sys.argv)
+from tests.recorded import allow_all, missing_on, refused
+allow_all(sys.argv, otherwise=refused(missing_on("/p", "truncate")))
 """
 
 
@@ -40,7 +42,7 @@ class Whole(KeptLogs):
     def setUp(self) -> None:
         super().setUp()
         self.recording = self.folder("forks")
-        self.landaudit = Path(self._folder.name) / "landaudit"
+        self.landaudit = Path(self._folder) / "landaudit"
         self.landaudit.write_text(ALLOWS)
         self.landaudit.chmod(0o755)
 
@@ -129,9 +131,9 @@ class Whole(KeptLogs):
 
     def test_apply_takes_one_trace_of_several(self) -> None:
         self.convert_it(Limits(own=20))
-        policy = Path(self._folder.name) / "policy.toml"
+        policy = Path(self._folder) / "policy.toml"
         policy.write_text('[[layer]]\nhandled_access_net = ["bind_tcp"]\n')
-        errors, out = StringIO(), Path(self._folder.name) / "tried.jsonl"
+        errors, out = StringIO(), Path(self._folder) / "tried.jsonl"
         with redirect_stderr(errors):
             self.assertEqual(cli.main(["apply", str(policy), str(self.recording), "--out", str(out)]), USAGE)
         first = self.recording / "trace-1.jsonl"
@@ -169,6 +171,16 @@ class Whole(KeptLogs):
         data = json.loads(self.audited("--json")[1])
         self.assertEqual(data["not_judged"], ["2 calls that a policy may refuse could not be recorded: io_uring (2)"])
 
+    def test_a_call_that_may_be_refused(self) -> None:
+        with Recording(self.recording, Tree(names())) as recording:
+            recording.write("start", 10, 1, nnp=True)
+            for more in ({}, {"otherwise": True}):
+                recording.write("truncate", 10, 2, "ok", path="/p", unknown="made or there before", **more)
+            recording.finish(ended=True)
+        status, out, _ = self.audited()
+        self.assertEqual(status, NOT_ALL_JUDGED)
+        self.assertIn("1 allowed, 0 refused, 1 may be refused", out)
+
     def test_calls_that_were_not_traced_stand_beside_each_audit(self) -> None:
         said = "readlink(2) into other processes is not recorded (run --readlink)"
         about = json.loads((self.recording / recordings.ABOUT).read_text())
@@ -182,7 +194,7 @@ class Whole(KeptLogs):
                 self.assertEqual(json.loads(self.audited("--json")[1])["not_traced"], [] if readlink else [said])
 
     def test_a_policy_with_scopes_is_told_of_calls_that_they_may_refuse(self) -> None:
-        policy = Path(self._folder.name) / "policy.toml"
+        policy = Path(self._folder) / "policy.toml"
         policy.write_text('[[layer]]\nhandled_access_net = ["bind_tcp"]\nscoped = ["signal"]\n')
         with Recording(self.recording, Tree(names())) as recording:
             recording.write("start", 10, 1, nnp=True)
@@ -191,11 +203,11 @@ class Whole(KeptLogs):
             recording.finish(ended=True)
         self.assertEqual(self.audited()[0], 0)
         status, out, _ = self.audited("--policy", str(policy))
-        last = "NOT ALL IS JUDGED: 1 call that scoped = signal may refuse can't be judged: a signal to another process"
+        last = "NOT ALL IS JUDGED: 1 call that scoped = signal may refuse can't be judged: the target is not known"
         self.assertEqual((status, out.splitlines()[-1]), (NOT_ALL_JUDGED, last))
 
     def test_a_recording_by_hand_says_what_it_left_out(self) -> None:
-        folder = Path(self._folder.name) / "by-hand"
+        folder = Path(self._folder) / "by-hand"
         folder.mkdir()
         write_lines(folder / "tree.jsonl", [])
         write_lines(folder / "trace.jsonl", [{"op": "start", "pid": 1}])
@@ -206,14 +218,14 @@ class Whole(KeptLogs):
     def test_a_folder_that_can_not_be_written(self) -> None:
         self.convert_it()
         before = self.names()
-        made = trying.tempfile.TemporaryDirectory
+        made = auditor.tempfile.TemporaryDirectory
 
         def elsewhere(*, prefix: str, dir: Path | None = None) -> object:
             if dir is not None:
                 raise OSError(errno.EROFS, os.strerror(errno.EROFS))
             return made(prefix=prefix)
 
-        with mock.patch.object(trying.tempfile, "TemporaryDirectory", elsewhere):
+        with mock.patch.object(auditor.tempfile, "TemporaryDirectory", elsewhere):
             status, out, errors = self.audited()
         self.assertEqual((status, self.names()), (0, before))
         self.assertIn("records:", out)

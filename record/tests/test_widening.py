@@ -1,4 +1,4 @@
-"""At most so many rules: what is put together, what that grants more, and how that is counted."""
+"""Suggestions of a limited number of rules: which are united, what that grants besides, and how it is counted."""
 
 from __future__ import annotations
 
@@ -9,14 +9,18 @@ from dataclasses import replace
 from pathlib import Path
 from unittest import mock
 
-from landaudit_record import sensitive, wants, widening
-from landaudit_record.objects import Count, Objects
-from landaudit_record.trees import ROOT, Tree, upwards
-from landaudit_record.wants import Lacking, Rule, Wanted
+from landaudit_record.common.trees import ROOT, Tree, upwards
+from landaudit_record.policy import sensitive
+from landaudit_record.suggest import missing_rights, widening
+from landaudit_record.suggest.missing_rights import CallId, Lacking, Rule, Wanted
+from landaudit_record.suggest.objects import Count, Objects
+from landaudit_record.suggest.remarks import RemarkKind
+
+from .worded import said
 
 
 def asked(*rights: str, call: int = 1) -> Lacking:
-    return {right: {(0, call)} for right in rights}
+    return {right: {CallId(0, call)} for right in rights}
 
 
 class Disk(unittest.TestCase):
@@ -71,13 +75,13 @@ class Widening(Disk):
     def rules(self, most: int, paths: dict[str, Lacking], ports: dict[int, Lacking] | None = None) -> list[Rule]:
         wanted = Wanted({self.path(name): rights for name, rights in paths.items()}, [], ports or {})
         found = widening.rules(wanted, Objects([]), most)
-        return [replace(rule, remarks=tuple(it for it in rule.remarks if it.startswith("also "))) for rule in found]
+        return [replace(rule, remarks=tuple(it for it in rule.remarks if it.kind is RemarkKind.ALSO)) for rule in found]
 
     def granted(self, most: int, *names: str) -> dict[str, tuple[str, ...]]:
         """What is granted where reading some files is asked for: under which names, and what more."""
         found = self.rules(most, {name: asked("read_file", call=n) for n, name in enumerate(names)})
         self.assertTrue(all(rule.rights == {"read_file"} for rule in found))
-        return {os.path.relpath(str(rule.place), self.top): rule.remarks for rule in found}
+        return {os.path.relpath(str(rule.place), self.top): said(rule) for rule in found}
 
     def test_where_there_is_room_all_stays_as_it_is(self) -> None:
         names = ("few/f0", "some/f0", "many/f0")
@@ -112,24 +116,24 @@ class Widening(Disk):
         found = self.rules(1, {"few/f0": asked("read_file"), "few/f1": asked("execute", "read_file", call=2)})
         self.assertEqual([(rule.place, rule.rights, rule.calls) for rule in found],
                          [(self.path("few"), {"execute", "read_file"}, 2)])
-        self.assertEqual(found[0].remarks, (f"also 1 file under {self.path('few')} (execute)",))
+        self.assertEqual(said(found[0]), (f"also 1 file under {self.path('few')} (execute)",))
 
     def test_a_directory_that_has_a_rule_takes_up_others(self) -> None:
         found = self.rules(1, {"some": asked("make_reg"), "some/f0": asked("write_file", call=2)})
         self.assertEqual([rule.place for rule in found], [self.path("some")])
         self.assertEqual(found[0].rights, {"make_reg", "write_file"})
-        self.assertEqual(found[0].remarks, (f"also 4 files under {self.path('some')} (write_file)",))
+        self.assertEqual(said(found[0]), (f"also 4 files under {self.path('some')} (write_file)",))
 
     def test_directories_are_counted_for_their_rights(self) -> None:
         (self.top / "few" / "d" / "e").mkdir(parents=True)
         (rule,) = self.rules(1, {"few/d/e": asked("read_dir"), "few/f0": asked("read_file", call=2)})
-        self.assertEqual(rule.remarks, (f"also 1 file under {self.path('few')} (read_file)",
+        self.assertEqual(said(rule), (f"also 1 file under {self.path('few')} (read_file)",
                                         f"also 2 directories under {self.path('few')} (read_dir)"))
 
     def test_the_root_comes_last_and_is_warned_of(self) -> None:
         wanted = Wanted({"/usr/x": asked("read_file"), "/proc/x": asked("read_file", call=2)}, [], {})
         (rule,) = widening.rules(wanted, Objects([]), 1)
-        self.assertEqual(rule.remarks, ("also everything else under / (read_file)",
+        self.assertEqual(said(rule), ("also everything else under / (read_file)",
                                         "warning: read_file on everything that there is"))
         wanted.paths["/usr/y"] = asked("read_file", call=3)
         self.assertEqual({rule.place for rule in widening.rules(wanted, Objects([]), 2)}, {"/usr", "/proc/x"})
@@ -162,7 +166,7 @@ class Widening(Disk):
         self.assertEqual({rule.place for rule in two if not isinstance(rule.place, str)}, {(80, 443), (8080,)})
         (rule, *_) = self.rules(2, {"few/f0": asked("read_file")}, ports)
         self.assertEqual((rule.place, rule.rights, rule.calls), ((80, 443, 8080), {"bind_tcp", "connect_tcp"}, 3))
-        self.assertEqual(rule.remarks, ("also bind_tcp on 2 ports: 80, 443", "also connect_tcp on 1 port: 8080"))
+        self.assertEqual(said(rule), ("also bind_tcp on 2 ports: 80, 443", "also connect_tcp on 1 port: 8080"))
 
     def test_all_that_is_asked_for_is_granted(self) -> None:
         paths = {f"{name}/f{n}": asked(*rights, call=n) for name in ("few", "some", "many") for n in range(2)
@@ -175,7 +179,7 @@ class Widening(Disk):
                     over = [rule for rule in found if str(rule.place) in upwards(self.path(name))]
                     self.assertLessEqual(set(rights), {right for rule in over for right in rule.rights})
                 granted = {str(rule.place): asked(*rule.rights) for rule in found}
-                self.assertEqual(wants.narrowed(granted), granted)
+                self.assertEqual(missing_rights.narrowed(granted), granted)
 
 
 if __name__ == "__main__":

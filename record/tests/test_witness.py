@@ -9,13 +9,14 @@ import unittest
 from pathlib import Path
 from unittest import mock
 
-from landaudit_record.problems import USAGE, WANTING, Problem
+from landaudit_record.common.problems import USAGE, WANTING, Problem
 from landaudit_record.recorder import listening, tracing, witness
 from landaudit_record.recorder.listening import Running
 from landaudit_record.recorder.tracing import Outcome
 
 from .kept_logs import LOGS
 from .test_cli import said
+from .test_run import Untraced
 
 #: Says that it listens, waits for the end of its input, and writes an event and a last line.
 LISTENS = """#!/bin/sh
@@ -100,13 +101,7 @@ class Alone(unittest.TestCase):
                 self.assertEqual((said("run", str(self.out), *words)[0], self.out.exists()), (USAGE, False))
 
 
-class Beside(unittest.TestCase):
-    def setUp(self) -> None:
-        self.folder = Path(self.enterContext(tempfile.TemporaryDirectory())).resolve()
-        self.out = self.folder / "rec"
-        self.enterContext(mock.patch.object(tracing, "version", return_value="6.1"))
-        self.enterContext(mock.patch.object(tracing, "may_trace"))
-
+class Beside(Untraced):
     def run_with(self, script: str) -> tuple[int, str]:
         """The status of a recording with a script as its witness, and what was said."""
         program = self.folder / "landaudit-witness"

@@ -8,8 +8,8 @@ from dataclasses import replace
 from pathlib import Path
 from typing import Any
 
-from landaudit_record import jsonl
-from landaudit_record.finished import Converted
+from landaudit_record.common import jsonl
+from landaudit_record.common.finished import Converted
 from landaudit_record.recorder import converting, recordings
 from landaudit_record.recorder.ports import Ports
 
@@ -47,9 +47,7 @@ class WrittenLogs(unittest.TestCase):
     mounts: list[list[str]] = []
 
     def setUp(self) -> None:
-        folder = tempfile.TemporaryDirectory()
-        self.addCleanup(folder.cleanup)
-        self.out = Path(folder.name)
+        self.out = Path(self.enterContext(tempfile.TemporaryDirectory()))
 
     def convert(self, *lines: str) -> list[jsonl.Record]:
         """The records that lines become, without those of the start and of the first program."""

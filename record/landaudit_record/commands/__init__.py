@@ -1,4 +1,1 @@
-"""The subcommands, one module each: NAME, HELP, EXAMPLE, add_arguments(parser), run(arguments) -> status."""
-
-#: The modules, which have the names of their subcommands.
-NAMES = ("run", "convert", "apply", "audit", "compare", "suggest", "tighten", "denials")
+"""The subcommands of landaudit-record and landaudit-policy."""

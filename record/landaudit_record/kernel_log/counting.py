@@ -6,9 +6,11 @@ from collections import Counter
 from collections.abc import Iterator
 from dataclasses import dataclass, field
 
-from ..answers import Closed, Missing, Objection
-from ..summary import Brief, Refusal, RefusingLayer, Summary
-from ..wording import counted, some_of
+from ..audit.summary import Refusal, RefusingLayer, Summary
+from ..audit.warnings import OfLog
+from ..common.wording import counted, some_of
+from ..engine.answers import Closed, Missing, Objection
+from ..engine.subjects import ARROW, Subject
 from .denials import Access, Denial, Domain, Log, Maker
 from .matching import Matched, RuleAbove
 
@@ -57,8 +59,7 @@ def count(log: Log, matched: Matched | None = None) -> Counted:
     found.summary.verdicts["refused"] = sum(programs.total() for programs in found.summary.refusals.values())
     found.summary.missing = tuple(log.not_known())
     for text in _warnings(found):
-        found.summary.warnings[text] = 1
-        found.summary.brief[text] = Brief(text)
+        found.summary.warnings[OfLog(text)] = 1
     return found
 
 
@@ -99,7 +100,7 @@ def _refusal(found: Counted, denial: Denial) -> Refusal:
     call = denial.call
     name = NOT_SAID if call is None else call.name
     error = NOT_SAID if call is None else call.error or NOT_SAID
-    return Refusal(name, _place(denial.accesses), error, layers, None)
+    return Refusal(name, _subject(denial.accesses), error, layers, None)
 
 
 def _layer(found: Counted, domain: str, objections: list[Objection]) -> LoggedLayer:
@@ -122,11 +123,15 @@ def _name(maker: Maker) -> str:
     return maker.comm or maker.program
 
 
-def _place(accesses: tuple[Access, ...]) -> str:
+def _subject(accesses: tuple[Access, ...]) -> Subject:
     """What a call is about: the directories of a move or link in their order, or all that it reached."""
-    places = list(dict.fromkeys(access.place for access in accesses))
-    moved = all(isinstance(access.objection, Missing) for access in accesses)
-    return (" -> " if moved else ", ").join(places)
+    objections = [access.objection for access in accesses]
+    match objections:
+        case [Closed(port=port)]:
+            return Subject(port=port)
+    places = tuple(dict.fromkeys(access.place for access in accesses))
+    moved = all(isinstance(objection, Missing) for objection in objections)
+    return Subject(places, between=ARROW if moved else ", ")
 
 
 def _warnings(found: Counted) -> Iterator[str]:

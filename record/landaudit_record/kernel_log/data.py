@@ -5,10 +5,10 @@ from __future__ import annotations
 from collections.abc import Iterator
 from typing import Any
 
-from .. import answers
-from ..rights import FS, NET
-from ..summary import Refusal
-from ..wants import Rule
+from ..audit.summary import Refusal
+from ..common.rights import FS, NET
+from ..engine import answers
+from ..suggest.missing_rights import Rule
 from .counting import Counted, LoggedLayer
 from .denials import Domain
 from .granting import Granted, Target
@@ -34,13 +34,13 @@ def as_data(found: Counted, granted: Granted) -> dict[str, Any]:
         "all_the_same": [_kind(found, refusal, programs) for refusal, programs in found.succeeded.items()],
         "domains": [_domain(domain, matched) for domain in log.domains.values()],
         "rules_above": [
-            {"layer": rule.layer, "rule": rule.rule, "place": rule.place, "rights": list(rule.rights),
+            {"layer": rule.layer, "rule": str(rule.rule), "place": rule.place, "rights": list(rule.rights),
              "lacking": dict(lacking.most_common())}
             for rule, lacking in found.above.items()
         ],
         "rules": [_rule(target, rule) for target, rules in granted.rules.items() for rule in rules],
         "without_rule": {why: dict(calls.most_common()) for why, calls in _without_rule(granted)},
-        "warnings": list(summary.warnings),
+        "warnings": list(map(str, summary.warnings)),
         "not_logged": list(summary.missing),
     }
 
@@ -56,7 +56,7 @@ def _kind(found: Counted, refusal: Refusal, programs: Any) -> dict[str, Any]:
     return {
         "times": programs.total(),
         "call": refusal.call,
-        "place": refusal.place,
+        "place": str(refusal.subject),
         "error": None if refusal.error == "-" else refusal.error,
         "layers": [_layer(layer) for layer in refusal.layers if isinstance(layer, LoggedLayer)],
         "programs": dict(programs.most_common()),
@@ -93,7 +93,7 @@ def _rule(target: Target, rule: Rule) -> dict[str, Any]:
         place: dict[str, Any] = {"allowed_access": FS.ordered(rule.rights), "parent": rule.place}
     else:
         place = {"allowed_access": NET.ordered(rule.rights), "port": list(rule.place)}
-    return {**made_by, **place, "calls": rule.calls, "remarks": list(rule.remarks)}
+    return {**made_by, **place, "calls": rule.calls, "remarks": list(map(str, rule.remarks))}
 
 
 def _without_rule(granted: Granted) -> Iterator[tuple[str, Any]]:

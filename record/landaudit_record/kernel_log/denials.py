@@ -13,11 +13,11 @@ from collections.abc import Iterable, Iterator, Mapping
 from dataclasses import dataclass, field, replace
 from enum import Enum
 
-from ..answers import Objection
-from ..wording import counted
+from ..common.wording import counted
+from ..engine.answers import Objection
 from . import calls
 from .objecting import objection, place_of
-from .records import OF_LANDLOCK, Cut, Kind, Line, Lost, Record, Stamp, Unread
+from .records import OF_LANDLOCK, Cut, Line, Lost, Record, RecordType, Stamp, Unread
 
 #: The records of other events that are kept, in case a record of Landlock comes behind that of its call.
 _MOST_WAITING = 10_000
@@ -56,7 +56,7 @@ class Making(Enum):
 
 
 @dataclass(frozen=True)
-class Call:
+class DeniedCall:
     """The call that was denied, by the kernel's record of it: its name, its program, and how it ended."""
 
     name: str
@@ -77,7 +77,7 @@ class Denial:
 
     stamp: Stamp
     accesses: tuple[Access, ...]
-    call: Call | None = None
+    call: DeniedCall | None = None
     command: tuple[str, ...] = ()
 
     @property
@@ -163,7 +163,7 @@ class _Event:
 
     accesses: list[Access] = field(default_factory=list)
     domains: list[Record] = field(default_factory=list)
-    others: dict[Kind, Record] = field(default_factory=dict)
+    others: dict[RecordType, Record] = field(default_factory=dict)
 
     def __len__(self) -> int:
         return len(self.accesses) + len(self.domains) + len(self.others)
@@ -195,7 +195,7 @@ class _Reader:
                     self._watch_limit(line.stamp.milliseconds, place)
                 if line.kind in OF_LANDLOCK:
                     self._of_landlock(line, place)
-                elif line.kind is not Kind.OTHER:
+                elif line.kind is not RecordType.OTHER:
                     self._other(line)
 
     def _count(self, time: int) -> None:
@@ -215,7 +215,7 @@ class _Reader:
         if event is None:
             self.events[record.stamp] = event = self._waiting.pop(record.stamp, _Event())
         try:
-            if record.kind is Kind.ACCESS:
+            if record.kind is RecordType.ACCESS:
                 found = objection(record.fields)
                 event.accesses.append(Access(_domain(record), found, place_of(found, record.fields)))
             else:
@@ -291,20 +291,20 @@ def read(logs: Iterable[Iterable[tuple[str, Line]]]) -> Log:
 def _denial(stamp: Stamp, event: _Event) -> Denial:
     """A denial of an event's records; those of its call are let go, since a log may have very many."""
     others, event.others = event.others, {}
-    record = others.get(Kind.SYSCALL) or others.get(Kind.URINGOP)
-    title = others.get(Kind.PROCTITLE)
+    record = others.get(RecordType.SYSCALL) or others.get(RecordType.URINGOP)
+    title = others.get(RecordType.PROCTITLE)
     said = "" if title is None else title.fields.get("proctitle", "")
     command = tuple(said.rstrip("\0").split("\0")) if said else ()
     return Denial(stamp, tuple(event.accesses), None if record is None else _call(record), command)
 
 
-def _call(record: Record) -> Call:
+def _call(record: Record) -> DeniedCall:
     """The call of its record."""
     fields = record.fields
     exit_code = _number(fields.get("exit"))
     error = None if exit_code is None or exit_code >= 0 else errno.errorcode.get(-exit_code)
     name = _name_of_call(record)
-    return Call(
+    return DeniedCall(
         name,
         fields.get("exe"),
         fields.get("comm"),
@@ -327,7 +327,7 @@ def _making(name: str, fields: Mapping[str, str]) -> Making:
 
 def _name_of_call(record: Record) -> str:
     """The name of a call: as auditd names it, else by its number."""
-    if record.kind is Kind.URINGOP:
+    if record.kind is RecordType.URINGOP:
         return f"io_uring {record.fields.get('uring_op', '-')}"
     number = _number(record.fields.get("syscall"))
     added = record.added.get("SYSCALL", "")

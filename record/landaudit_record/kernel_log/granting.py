@@ -14,13 +14,14 @@ from collections import Counter, defaultdict
 from collections.abc import Iterable, Iterator, Mapping
 from dataclasses import dataclass, field, replace
 
-from .. import varying, wants
-from ..answers import Closed, Missing, Objection
-from ..placing import Cause, Spot
-from ..rights import FILE_RIGHTS, FS, NET
-from ..trees import directory_of
-from ..wants import Lacking, OnPaths, Rule, Wanted
-from ..wording import some_of
+from ..common.rights import FILE_RIGHTS, FS, NET
+from ..common.trees import directory_of
+from ..common.wording import some_of
+from ..engine.answers import Closed, Missing, Objection
+from ..suggest import missing_rights, varying
+from ..suggest.missing_rights import Lacking, OnPaths, Rule, Wanted
+from ..suggest.placing import Cause, RulePlace
+from ..suggest.remarks import Remark, RemarkKind
 from .counting import maker_of
 from .denials import LONGEST_COMMAND, Access, Denial, Log, Making
 from .matching import Matched
@@ -34,7 +35,7 @@ _ON_NAMES = _MAKING | _REMOVING | {"refer"}
 _OF_LISTS = frozenset({"read_dir"})
 #: The calls that move or link, and the operations of io_uring that do (io_uring.h).
 _MOVES = frozenset({"rename", "renameat", "renameat2", "link", "linkat", "io_uring 35", "io_uring 39"})
-NO_NAME = "(the log has the directory and not the name in it: this grants it for all names there"
+NO_NAME = "the log has the directory and not the name in it: this grants it for all names there"
 
 
 @dataclass(frozen=True)
@@ -70,7 +71,7 @@ class _Wanted:
 
     paths: OnPaths = field(default_factory=dict)
     ports: dict[int, Lacking] = field(default_factory=dict)
-    spots: list[Spot] = field(default_factory=list)
+    spots: list[RulePlace] = field(default_factory=list)
     asked_by: defaultdict[str, set[str]] = field(default_factory=lambda: defaultdict(set))
 
 
@@ -94,7 +95,8 @@ def grant(log: Log, matched: Matched | None = None) -> Granted:
             for access in denial.accesses:
                 target = _target(access, log, matched)
                 place = _place(access, denial, matched)
-                _want(wanted.setdefault(target, _Wanted()), access.objection, place, (0, number), _command(denial))
+                call = missing_rights.CallId(0, number)
+                _want(wanted.setdefault(target, _Wanted()), access.objection, place, call, _command(denial))
     found.rules = {target: list(_rules(wanted[target])) for target in sorted(wanted, key=lambda it: it.layer or 0)}
     return found
 
@@ -148,7 +150,7 @@ def _command(denial: Denial) -> str:
     return words if length < LONGEST_COMMAND - 1 else f"{words}.."
 
 
-def _place(access: Access, denial: Denial, matched: Matched | None) -> Spot | None:
+def _place(access: Access, denial: Denial, matched: Matched | None) -> RulePlace | None:
     """Where the rule for what is lacking on a path can be."""
     objection = access.objection
     if not isinstance(objection, Missing):
@@ -156,38 +158,40 @@ def _place(access: Access, denial: Denial, matched: Matched | None) -> Spot | No
     path, made = objection.path, denial.call is not None and denial.call.making is Making.NEW
     process = varying.of_process(path)
     if process is not None:
-        return Spot(directory_of(process), path, Cause.OF_PROCESS)
+        return RulePlace(directory_of(process), path, Cause.OF_PROCESS)
     if path.endswith(_REMOVED):
-        return Spot(directory_of(path), path.removesuffix(_REMOVED), Cause.MADE)
+        return RulePlace(directory_of(path), path.removesuffix(_REMOVED), Cause.MADE)
     if matched is not None and matched.is_made(access, denial.stamp.milliseconds):
         making = denial.call is not None and denial.call.making is not Making.NO
-        return Spot(directory_of(path), path, Cause.MADE if making else Cause.REPLACED)
+        return RulePlace(directory_of(path), path, Cause.MADE if making else Cause.REPLACED)
     if made and set(objection.rights) <= FILE_RIGHTS:
-        return Spot(directory_of(path), path, Cause.MADE)
-    return Spot(path, path)
+        return RulePlace(directory_of(path), path, Cause.MADE)
+    return RulePlace(path, path)
 
 
-def _want(wanted: _Wanted, objection: Objection, spot: Spot | None, call: wants.Call, command: str) -> None:
+def _want(
+    wanted: _Wanted, objection: Objection, spot: RulePlace | None, call: missing_rights.CallId, command: str
+) -> None:
     """Adds what one objection lacks, at the place of its rule."""
     match objection:
         case Missing(rights=rights) if spot is not None:
             wanted.spots.append(spot)
-            wants.unite(wanted.paths, {spot.place: {right: {call} for right in rights}})
+            missing_rights.unite(wanted.paths, {spot.place: {right: {call} for right in rights}})
             if command:
                 wanted.asked_by[spot.place].add(command)
         case Closed(rights=rights, port=port):
-            wants.unite(wanted.ports, {port: {right: {call} for right in rights}})
+            missing_rights.unite(wanted.ports, {port: {right: {call} for right in rights}})
 
 
 def _rules(wanted: _Wanted) -> Iterator[Rule]:
     """The rules for what is lacking; those on directories say which commands asked for a name there."""
-    for rule in wants.rules(Wanted(wanted.paths, wanted.spots, wanted.ports)):
+    for rule in missing_rights.rules(Wanted(wanted.paths, wanted.spots, wanted.ports)):
         yield replace(rule, remarks=(*_on_names(rule, wanted.asked_by), *rule.remarks))
 
 
-def _on_names(rule: Rule, asked_by: Mapping[str, Iterable[str]]) -> Iterator[str]:
+def _on_names(rule: Rule, asked_by: Mapping[str, Iterable[str]]) -> Iterator[Remark]:
     """A remark on a rule that is on a directory because of a name in it."""
     if isinstance(rule.place, str) and rule.rights & _ON_NAMES:
         commands = sorted(asked_by.get(rule.place, ()))
-        yield f"{NO_NAME}{f'; asked by: {some_of(commands)}' if commands else ''})"
+        yield Remark(RemarkKind.PURPOSE, f"{NO_NAME}{f'; asked by: {some_of(commands)}' if commands else ''}")
 

@@ -13,10 +13,11 @@ from dataclasses import dataclass, field, replace
 from functools import cache
 from itertools import combinations
 
-from ..answers import Closed, Missing, Mounting, Objection, Scoped, Tracing, Unplaced
-from ..policies import Layer, PathRule, Policy, PortRule
-from ..rights import FS, NET
-from ..trees import upwards
+from ..common.numbered import Numbered
+from ..common.rights import FS, NET
+from ..common.trees import upwards
+from ..engine.answers import Closed, Missing, Mounting, Objection, Scoped, Tracing, Unplaced
+from ..policy.policies import Layer, PathRule, Policy, PortRule
 from .denials import Access, Denial, Domain, Log, Maker
 
 
@@ -25,7 +26,7 @@ class RuleAbove:
     """A rule on a path or above it, or on a port, which grants other rights there: its layer, name and place."""
 
     layer: int
-    rule: str
+    rule: Numbered
     place: str
     rights: tuple[str, ...]
 

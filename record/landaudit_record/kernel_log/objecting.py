@@ -9,8 +9,8 @@ from __future__ import annotations
 import re
 from collections.abc import Mapping
 
-from ..answers import Closed, Missing, Mounting, Objection, Scoped, Tracing, Unplaced
-from ..policies import HIGHEST_PORT
+from ..engine.answers import Closed, Missing, Mounting, Objection, Scoped, Tracing, Unplaced
+from ..policy.policies import HIGHEST_PORT
 from .records import Cut
 
 _OF_FILES, _OF_NETWORK, _OF_SCOPE = "fs.", "net.", "scope."

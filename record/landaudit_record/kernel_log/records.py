@@ -17,7 +17,7 @@ from enum import IntEnum
 from functools import cached_property
 
 
-class Kind(IntEnum):
+class RecordType(IntEnum):
     """The types of records that tell of a denial (linux/audit.h); another type is OTHER."""
 
     OTHER = 0
@@ -29,14 +29,14 @@ class Kind(IntEnum):
 
 
 #: The types that only Landlock has.
-OF_LANDLOCK = frozenset({Kind.ACCESS, Kind.DOMAIN})
+OF_LANDLOCK = frozenset({RecordType.ACCESS, RecordType.DOMAIN})
 _BY_NAME = {
-    "SYSCALL": Kind.SYSCALL,
-    "PROCTITLE": Kind.PROCTITLE,
-    "URINGOP": Kind.URINGOP,
-    "LANDLOCK_ACCESS": Kind.ACCESS,
-    "LANDLOCK_DOMAIN": Kind.DOMAIN,
-    **{f"{form}{kind.value}{end}": kind for kind in Kind for form, end in (("", ""), ("UNKNOWN[", "]"))},
+    "SYSCALL": RecordType.SYSCALL,
+    "PROCTITLE": RecordType.PROCTITLE,
+    "URINGOP": RecordType.URINGOP,
+    "LANDLOCK_ACCESS": RecordType.ACCESS,
+    "LANDLOCK_DOMAIN": RecordType.DOMAIN,
+    **{f"{form}{kind.value}{end}": kind for kind in RecordType for form, end in (("", ""), ("UNKNOWN[", "]"))},
 }
 _STAMP = rb"audit\(([0-9]{1,11})\.([0-9]{3}):([0-9]{1,20})\) ?: ?(.*)"
 #: A record as auditd writes it, and as the kernel prints it.
@@ -71,7 +71,7 @@ class Stamp:
 class Record:
     """A record: what it is of, its text, and whether the kernel printed it itself."""
 
-    kind: Kind
+    kind: RecordType
     stamp: Stamp
     text: bytes = b""
     printed: bool = False
@@ -147,9 +147,9 @@ def _record(line: bytes, place: str) -> Line | None:
             return Unread(place, "has no audit(TIME:SERIAL) as the kernel writes it: give the log as auditd or "
                                  "journalctl -k writes it")
         return None
-    kind = _BY_NAME.get(os.fsdecode(match[1]), Kind.OTHER)
+    kind = _BY_NAME.get(os.fsdecode(match[1]), RecordType.OTHER)
     stamp = Stamp(int(match[2]) * 1000 + int(match[3]), int(match[4]))
-    if kind is Kind.OTHER:
+    if kind is RecordType.OTHER:
         return Record(kind, stamp, printed=by_auditd is None)
     record = Record(kind, stamp, match[5], by_auditd is None)
     try:

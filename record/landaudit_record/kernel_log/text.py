@@ -7,13 +7,15 @@ from collections.abc import Iterator, Sequence
 from dataclasses import dataclass
 from datetime import UTC, datetime
 
-from .. import layout, suggestion_text, summary_text
-from ..layout import Column, table, words
-from ..policies import Policy
-from ..rights import NEWEST_ABI, OLDEST_ABI
-from ..summary import Summary
-from ..summary_text import Style
-from ..wording import counted, plain
+from ..audit.summary import Summary
+from ..common import layout
+from ..common.layout import Column, table, words
+from ..common.rights import NEWEST_ABI, OLDEST_ABI
+from ..common.wording import counted, plain
+from ..policy.policies import Policy
+from ..suggest import suggestion_text
+from ..summaries import summary_text
+from ..summaries.summary_text import Style
 from .counting import NOT_SAID, Counted, maker_of, of_maker
 from .denials import Domain, Log
 from .granting import Granted
@@ -110,7 +112,7 @@ def _above(found: Counted, style: Style) -> Iterator[str]:
     if found.matched is None or not found.above:
         return
     yield from summary_text.heading(f"rules of {found.matched.policy.path} on these or above them", style)
-    said = ((str(rule.layer), rule.rule, rule.place, ", ".join(rule.rights), lacking(some))
+    said = ((str(rule.layer), str(rule.rule), rule.place, ", ".join(rule.rights), lacking(some))
             for rule, some in by_weight(found.above))
     rows = [[words(cell) for cell in row] for row in said]
     columns = (Column("layer", number=True), Column("rule"), Column("place", short=True),
@@ -159,7 +161,7 @@ def rules(granted: Granted, found: Counted, policy: Policy | None) -> Iterator[s
     else:
         yield f"# {ONE_STEP}"
     yield from (f"# {plain(text)}" for text in staying(granted, policy))
-    yield from (f"# warning: {plain(text)}" for text in found.summary.warnings)
+    yield from (f"# warning: {plain(str(warning))}" for warning in found.summary.warnings)
     yield from (f"# {NOT_ALL} {plain(text)}" for text in found.summary.missing)
 
 

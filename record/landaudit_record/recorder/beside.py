@@ -26,9 +26,9 @@ from pathlib import Path
 from . import disk
 from .disk import Observed, Program, Seen
 from .formats import Format
+from .unwritten import NotUnderstood
 from .mounted import MOUNTS, mounts
 from .names import MOST_LINKS
-from .unsaid import NotUnderstood
 from .values import is_in_memory, unescaped
 
 #: The least time between two readings of the log, in seconds: many lines are read together.
@@ -241,7 +241,7 @@ class Beside:
 
     def _joined(self, number: bytes | None, base: bytes | None, path: bytes) -> str:
         """An absolute path. If the log does not name the working directory of a call, the last one that it named is
-        taken: if that is another one, nothing is seen that is of use.
+        taken; if that is the wrong one, the look is of no use.
         """
         directory = unescaped((base or b"").decode("latin-1"))
         if number == _HERE and directory.startswith("/"):

@@ -5,20 +5,20 @@ from __future__ import annotations
 from pathlib import Path
 from typing import Any
 
-from ..finished import Converted
-from ..problems import Problem
+from ..common.finished import Converted
+from ..common.problems import Problem
+from ..common.progress import Progress
 from . import disk, hearing, strace_log, unrecorded
-from .calls import HANDLERS, arguments, others
+from .calls import HANDLERS, arguments, ptrace
+from .unwritten import NOT_UNDERSTOOD, CannotSay
 from .modes import NOBODY_KNOWN
 from .mounted import Places
 from .names import Doubts, Names, UnknownWay
 from .ports import Ports
 from .processes import Handle, Place, Process, Thread
-from .progress import Progress
 from .recordings import BESIDE, OBJECTS, WITNESS, About, read_about, read_before
 from .scene import Scene
 from .strace_log import Call, Ended, Superseded, Unread
-from .unsaid import NOT_UNDERSTOOD, CannotSay
 from .writing import LIMITS, Limits, Recording, Tree
 
 CORE_FILE = "a core file that the kernel was to write"
@@ -103,11 +103,11 @@ def _take_call(scene: Scene, about: About, call: Call) -> None:
         scene.call = call
         if scene.through:
             scene.through.clear()
-        looked = scene.near.is_look(call.text) and others.look(scene, thread, call)
+        looked = scene.near.is_look(call.text) and ptrace.look(scene, thread, call)
         if handler is not None:
             handler(scene, thread, call)
         if scene.through and not looked:
-            others.passed_by_links(scene, thread, call)
+            ptrace.passed_by_links(scene, thread, call)
     except CannotSay as reason:
         scene.recording.drop()
         asks = reason.asks and not (isinstance(reason, UnknownWay) and call.error in arguments.NOT_REACHED)

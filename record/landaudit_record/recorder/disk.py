@@ -15,7 +15,7 @@ from struct import Struct
 from sys import maxsize
 from typing import BinaryIO
 
-from .. import jsonl
+from ..common import jsonl
 from .formats import HEAD, Format, first_of
 from .modes import Mode
 

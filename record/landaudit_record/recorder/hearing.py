@@ -12,23 +12,23 @@ from dataclasses import dataclass, field
 from pathlib import Path
 from typing import Any
 
-from .. import jsonl
-from ..finished import FOREIGN_RULESET, Converted
-from ..problems import Problem
-from ..rights import FS, NET
+from ..common import jsonl
+from ..common.finished import FOREIGN_RULESET, OF_SCOPES, OWNERS, Converted
+from ..common.problems import Problem
+from ..common.progress import Progress
+from ..common.reach import ABSTRACT, PTRACE, SIGNAL
+from ..common.rights import FS, NET
+from ..common.trace_lines import FIRST_MADE_UP
 from . import witness
 from .calls.descriptors import FOREIGN, LET_THROUGH
-from .calls.landlock import named
-from .calls.others import INTO_ANOTHER
-from .calls.scopes import ABSTRACT, SIGNAL
+from .calls.landlock import can_be_judged, named, scopes_of
+from .calls.ptrace import INTO_ANOTHER
 from .identities import Identities
+from .unwritten import CannotSay, NotAsked
 from .names import Node
-from .processes import FIRST_MADE_UP
-from .progress import Progress
 from .recordings import About
 from .scene import DEVICES
 from .unrecorded import NOT_RECORDED, described, tell_gaps
-from .unsaid import CannotSay, NotAsked
 from .witness import Heard, text
 from .writing import LIMITS, Limits, Recording, Tree
 
@@ -63,7 +63,7 @@ def convert(folder: Path, about: About, limits: Limits = LIMITS) -> Converted:
         tell_gaps(recording, heard, has_layers=True)
         if heard.end is not None and heard.end["left"]:
             recording.leave_out(RUNS_ON, 0, 0, f"{heard.end['left']}", asks=True)
-        return recording.finish(heard.end is not None, hearing.further_names(), (ABSTRACT,))
+        return recording.finish(heard.end is not None, hearing.further_names(), (ABSTRACT, OWNERS))
 
 
 def _last_uses(heard: Heard) -> dict[int, int]:
@@ -254,12 +254,16 @@ class Hearing:
         return other is None or at is None or other.layers[: len(process.layers)] != process.layers
 
     def _looked(self, line: int, event: jsonl.Record, process: _Process) -> None:
+        self._reaches(PTRACE, line, event, process)
         if self._may_refuse(process, event["target"]):
-            self._leave_out(INTO_ANOTHER, line, event)
+            self._recording.leave_out(INTO_ANOTHER, line, event["pid"], described(event), asks=True, reach=True)
 
     def _signaled(self, line: int, event: jsonl.Record, process: _Process) -> None:
-        if self._may_refuse(process, event["target"]):
-            self._recording.leave_to_scope(SIGNAL, line, process.pid, described(event))
+        self._reaches(SIGNAL, line, event, process)
+
+    def _reaches(self, asks: str, line: int, event: jsonl.Record, process: _Process) -> None:
+        if event["target"] != process.pid:
+            self._recording.reaches(asks, process.pid, [event["target"]], line, described(event))
 
     # Files
 
@@ -363,11 +367,12 @@ class Hearing:
     # Layers
 
     def _create(self, line: int, event: jsonl.Record, process: _Process) -> None:
+        scoped, alone = scopes_of(event["scoped"]), not (event["fs"] or event["net"])
         if event["answer"] == 0:
-            handled = {"fs": named(event["fs"], FS), "net": named(event["net"], NET)}
-            self._rulesets[event["ruleset"]] = _Ruleset({name: rights for name, rights in handled.items() if rights})
-        if event["scoped"]:
-            self._recording.leave_out("scopes of a ruleset", line, process.pid, described(event))
+            handled = {"fs": named(event["fs"], FS), "net": named(event["net"], NET), "scoped": scoped}
+            self._rulesets[event["ruleset"]] = _Ruleset({name: words for name, words in handled.items() if words})
+        if not can_be_judged(scoped, alone=alone):
+            self._recording.leave_out(OF_SCOPES, line, process.pid, described(event), asks=True)
 
     def _add_rule(self, line: int, event: jsonl.Record, process: _Process) -> None:
         ruleset = self._rulesets.get(event["ruleset"])

@@ -10,8 +10,8 @@ from __future__ import annotations
 from collections.abc import Sequence
 from typing import Any
 
+from .unwritten import CannotSay, NotAsked
 from .names import KINDS, Node
-from .unsaid import CannotSay, NotAsked
 from .witness import text
 
 NO_WAY = "an object to which no path leads: it was opened by a handle, or its mount is detached"

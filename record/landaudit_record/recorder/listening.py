@@ -10,7 +10,7 @@ from contextlib import contextmanager
 from dataclasses import dataclass
 from pathlib import Path
 
-from ..stopping import SIGNALS
+from ..common.stopping import SIGNALS
 from . import tracing
 from .tracing import Outcome
 from .witness import Witness

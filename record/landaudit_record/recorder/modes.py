@@ -6,8 +6,8 @@ from collections.abc import Callable, Iterator, Mapping
 from dataclasses import dataclass, replace
 from typing import Any
 
-from ..operations import MAKING, REMOVING, USING
-from ..trees import ROOT, directory_of, upwards
+from ..common.operations import MAKING, REMOVING, USING
+from ..common.trees import ROOT, directory_of, upwards
 
 READ, WRITE, RUN = 4, 2, 1
 ROOT_USER = 0
@@ -24,7 +24,7 @@ class Mode:
 
 
 @dataclass(frozen=True, slots=True)
-class Asker:
+class Credentials:
     """The user and groups of a process without privileges."""
 
     uid: int
@@ -52,10 +52,10 @@ class User:
     known: bool = True
 
     @property
-    def asker(self) -> Asker | None:
+    def asker(self) -> Credentials | None:
         """The user and groups, if modes count for them."""
         counts = self.known and not self.overrides
-        return Asker(self.uid, self.groups | {self.gid}) if counts else None
+        return Credentials(self.uid, self.groups | {self.gid}) if counts else None
 
     def become(self, uid: int) -> User:
         """The same as another user: root's privileges come and go with the number 0 (capabilities(7))."""
@@ -72,7 +72,7 @@ NOBODY_KNOWN = User(0, 0, frozenset(), True, known=False)
 
 
 def refuse(
-    asker: Asker, mode_of: Callable[[str], Mode | None], op: str, members: Mapping[str, Any], runs: bool
+    asker: Credentials, mode_of: Callable[[str], Mode | None], op: str, members: Mapping[str, Any], runs: bool
 ) -> bool:
     """Whether modes refuse a call on paths; `runs` says that a file is opened to be run."""
     for path, wanted in _wanted(op, members, runs):

@@ -94,6 +94,8 @@ class Places:
 
         A directory that does not show the same at all of them, because something is mounted below it, has none.
         """
+        if not self._several:
+            return []
         here = self._of(path)
         device, root = self._at.get(here, ("", ""))
         if device not in self._several:

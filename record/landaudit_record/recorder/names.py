@@ -15,8 +15,8 @@ from typing import Protocol
 
 from . import values
 from .disk import WHITEOUT, Disk, Program, Seen
+from .unwritten import CannotSay
 from .mounted import Places
-from .unsaid import CannotSay
 
 MOST_LINKS = 40
 #: Under this directory, links do not lead where their targets say (proc(5)).
@@ -425,8 +425,14 @@ class Names:
                 node.start = start
                 self._starts[start] = node
         self._name(directory, name, node)
-        self.turns += node.kind == "dir"
+        if node.kind == "dir":
+            self._turn(directory)
         return node
+
+    def _turn(self, directory: Node) -> None:
+        """Counts that a directory got or lost a name in another one, unless this is in /proc: see `Objects`."""
+        if directory.origin is None or not directory.origin.startswith(_IN_PROC):
+            self.turns += 1
 
     def _unmake(self, path: str, node: Node) -> None:
         """Corrects that an object was not at a path when the run began."""
@@ -464,7 +470,7 @@ class Names:
         if directory.start is not None:
             self._starts.setdefault(f"{directory.start}/{names[-1]}", None)
         if any(one is not None and one.kind == "dir" and not one.shares for one in (before, node)):
-            self.turns += 1
+            self._turn(directory)
         self._name(directory, names[-1], node)
 
     def never(self, path: str) -> None:

@@ -1,32 +1,31 @@
-"""What a policy says about ports, for a strace that can't read it from the calls (before 6.7)."""
+"""What a policy says about ports, and its scopes, for a strace that can't read it from the calls (before 6.7)."""
 
 from __future__ import annotations
 
-from collections.abc import Iterator
+from collections.abc import Iterator, Sequence
 from itertools import cycle
-
-from ..policies import Policy
-from ..rights import NET
 
 
 class Ports:
-    """The rights for ports that each layer handles, and the rules on ports, in the policy's order, repeated."""
+    """The rights for ports and the scopes of each layer, and the rules on ports, in the policy's order, repeated."""
 
-    def __init__(self, policy: Policy | None = None) -> None:
-        layers = policy.layers if policy is not None else ()
-        self._handled: Iterator[list[str]] = cycle([NET.ordered(layer.handled_access_net.rights) for layer in layers])
-        self._rules: Iterator[tuple[list[str], int]] = cycle(
-            [
-                (NET.ordered(rule.allowed_access.rights), port)
-                for layer in layers
-                for rule in layer.net_port
-                for port in rule.ports
-            ]
-        )
+    def __init__(
+        self,
+        handled: Sequence[list[str]] = (),
+        rules: Sequence[tuple[list[str], int]] = (),
+        scoped: Sequence[list[str]] = (),
+    ) -> None:
+        self._handled: Iterator[list[str]] = cycle(handled)
+        self._scoped: Iterator[list[str]] = cycle(scoped)
+        self._rules: Iterator[tuple[list[str], int]] = cycle(rules)
 
     def handled(self) -> list[str] | None:
         """The rights for ports that the next ruleset handles; None without a policy."""
         return next(self._handled, None)
+
+    def scopes(self) -> list[str]:
+        """The scopes of the next ruleset; none without a policy."""
+        return next(self._scoped, [])
 
     def rule(self) -> tuple[list[str], int] | None:
         """The next rule: its rights and its port."""

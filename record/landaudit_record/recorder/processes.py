@@ -4,10 +4,9 @@ from __future__ import annotations
 
 from dataclasses import dataclass, field
 
+from ..common.trace_lines import FIRST_MADE_UP
 from .modes import NOBODY_KNOWN, User
 from .names import Node
-
-FIRST_MADE_UP = 1_000_001
 
 
 @dataclass(slots=True)
@@ -18,7 +17,8 @@ class Handle:
     or adopted it; `adopted` is the kind with which it is adopted when it is first needed; `ruleset` is the
     number that the trace has for the Landlock ruleset that it is; `tcp` is the family of a TCP socket. `foreign` says
     that the process did not open it, so nobody knows what Landlock kept with it; `placeless` says that it is in a mount
-    that has no place in the tree, `unsure` that nothing says whether it is open on a device.
+    that has no place in the tree, `unsure` that nothing says whether it is open on a device, `letters` that it is a UNIX
+    socket for datagrams.
     """
 
     path: str | None = None
@@ -31,6 +31,7 @@ class Handle:
     foreign: bool = False
     placeless: bool = False
     unsure: bool = False
+    letters: bool = False
 
     def copy(self) -> Handle:
         """The same for another number or process; a fork copies all, and `dataclasses.replace` takes long."""
@@ -45,6 +46,7 @@ class Handle:
             self.foreign,
             self.placeless,
             self.unsure,
+            self.letters,
         )
 
     def duplicate(self, *, close_on_exec: bool) -> Handle:

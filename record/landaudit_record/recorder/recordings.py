@@ -11,13 +11,13 @@ from dataclasses import asdict, dataclass, field
 from pathlib import Path
 from typing import Any
 
-from .. import jsonl
+from ..common import jsonl
+from ..common.finished import LOOKING, READING_LINKS, SIGNALS
+from ..common.problems import Problem
 from . import disk, mounted
 from .disk import Seen
 from .formats import Format
 from .modes import NOBODY_KNOWN, ROOT_USER, User
-from ..finished import LOOKING, READING_LINKS, SIGNALS
-from ..problems import Problem
 
 ABOUT = "recording.json"
 #: A ruleset, as the target of its descriptor in /proc (proc(5)).

@@ -9,17 +9,17 @@ from contextlib import suppress
 from dataclasses import dataclass, replace
 from typing import Any
 
-from ..living import Members
+from ..common.restoring import Members
 from . import modes
 from .disk import Disk
+from .unwritten import CannotSay, NotAsked
 from .looks import Near
 from .modes import NOBODY_KNOWN
 from .names import OWN_FILES, Found, Names, Node, join, split
 from .ports import Ports
-from .recordings import RULESET
 from .processes import Handle, Place, Process, Thread
+from .recordings import RULESET
 from .strace_log import Birth, Births, Call
-from .unsaid import CannotSay, NotAsked
 from .values import Descriptor
 from .writing import Recording, Tree
 
@@ -91,8 +91,9 @@ class Scene:
     result is to be doubted.
     `placeless` says whether there was a descriptor that is in a mount without a place. `through` are the processes
     whose links in /proc a path of this call goes through, `near` says which paths may, `reads_links` whether
-    readlink(2) was traced, and `hides` whether all of a process in /proc is only for those who may trace it. `abstract`
-    has the process that bound an abstract name of UNIX sockets, `ended` the processes that ended last.
+    readlink(2) was traced, and `hides` whether all of a process in /proc is only for those who may trace it. `sockets`
+    has the makers of UNIX sockets, each with the moment, and `abstract` those of the sockets that have an abstract name
+    (None if nobody knows who made it); `ended` are the processes that ended last.
     """
 
     def __init__(
@@ -122,7 +123,8 @@ class Scene:
         self.through: set[int] = set()
         self.reads_links = reads_links
         self.hides = hides
-        self.abstract: dict[str, int] = {}
+        self.sockets: dict[str, tuple[int, int]] = {}
+        self.abstract: dict[str, tuple[int, int] | None] = {}
         self.ended: dict[int, Process] = {}
         self.ruled: list[tuple[str, Node]] = []
         self.handles: dict[str, str] = {}
@@ -198,9 +200,11 @@ class Scene:
         """Writes a record that only keeps the state right, without the kernel's answer."""
         self.recording.add(op, thread.process.pid, call.line, None, members)
 
-    def leave_out(self, thread: Thread, call: Call, reason: str, *, asks: bool = False) -> None:
-        """Counts a call that trace and tree can't express; `asks` is as in `Recording.leave_out`."""
-        self.recording.leave_out(reason, call.line, thread.process.pid, call.text, asks=asks)
+    def leave_out(
+        self, thread: Thread, call: Call, reason: str, *, asks: bool = False, reach: bool = False
+    ) -> None:
+        """Counts a call that trace and tree can't express; `asks` and `reach` are as in `Recording.leave_out`."""
+        self.recording.leave_out(reason, call.line, thread.process.pid, call.text, asks=asks, reach=reach)
 
     def further_names(self) -> dict[str, list[str]]:
         """The further names of each object on which the program puts a rule, by the one on which the record puts it."""
@@ -350,9 +354,9 @@ class Scene:
 
     def is_unsure(self, of: Descriptor) -> bool:
         """Whether nothing says if a descriptor is open on a device: neither the log nor the disk knows its path."""
-        if of.path is None or of.in_memory or self.device(of) is not None:
+        if of.path is None or of.in_memory or of.device is not None or self.names.at(of.path) is not None:
             return False
-        return self.names.at(of.path) is None and self.disk.look(of.path) is None
+        return self.device(of) is None and self.disk.look(of.path) is None
 
     def _kind(self, of: Descriptor) -> str:
         if self.device(of) is not None:

@@ -18,10 +18,10 @@ from functools import lru_cache
 from pathlib import Path
 from typing import TextIO
 
+from ..common.problems import Problem
 from . import values
+from .unwritten import NotUnderstood
 from .looks import DROPPED, Near
-from .unsaid import NotUnderstood
-from ..problems import Problem
 
 #: Calls that take effect at their beginning: they free numbers, or look up what a number stands for.
 AT_BEGINNING = frozenset({"close", "close_range", "ftruncate", "ftruncate64", "ioctl"})

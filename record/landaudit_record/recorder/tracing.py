@@ -14,10 +14,11 @@ from dataclasses import dataclass
 from pathlib import Path
 from types import FrameType
 
-from ..problems import WANTING, Problem
-from ..stopping import SIGNALS
+from ..common.problems import WANTING, Problem
+from ..common.stopping import SIGNALS
 from .freeing import Freeing
 from .looks import LOOKS, READLINKS
+from .quieting import quiet
 
 OLDEST = (6, 1)
 
@@ -31,7 +32,7 @@ HARMLESS_SIGNALS = ("SIGCHLD", "SIGCONT", "SIGURG", "SIGWINCH")
 #: The calls that a conversion reads; `?` before a name that a strace, or a machine, may not know.
 CALLS = """
 execve execveat clone clone3 fork vfork unshare setns chdir fchdir chroot
-open openat ?openat2 creat close ?close_range dup dup2 dup3 fcntl ?fcntl64 socket bind connect ioctl
+open openat ?openat2 creat close ?close_range dup dup2 dup3 fcntl ?fcntl64 socket socketpair bind connect ioctl
 ftruncate ?ftruncate64 truncate ?truncate64
 mknod mknodat mkdir mkdirat symlink symlinkat unlink unlinkat rmdir rename renameat renameat2 link linkat
 mount ?umount umount2 pivot_root ?move_mount ?fsconfig ?fsmount ?open_tree ?open_tree_attr prctl
@@ -123,7 +124,8 @@ def run(log: Path, command: list[str], *, readlink: bool = False) -> Outcome:
     passing = Passing()
     with passing.installed():
         # Files that Python opens itself are not inherited (PEP 446), so these are the descriptors that it was given.
-        tracer = subprocess.Popen(command_line(log, command, readlink=readlink), close_fds=False)
+        words, environment = quiet(command_line(log, command, readlink=readlink), os.environ)
+        tracer = subprocess.Popen(words, env=environment, close_fds=False)
         passing.reached = lambda: _traced_by(tracer.pid)
         with Freeing(tracer.pid, lambda: _traced_by(tracer.pid)) as freeing:
             tracer.returncode = _wait(tracer.pid)

@@ -11,10 +11,10 @@ from collections import Counter, defaultdict, deque
 from collections.abc import Callable, Iterator
 from pathlib import Path
 
-from .. import jsonl
-from ..operations import DESCRIPTOR_CALLS, JUDGED, MAKING, MOVES, PATH_CALLS
+from ..common import jsonl
+from ..common.operations import DESCRIPTOR_CALLS, JUDGED, MAKING, MOVES, PATH_CALLS
 from . import witness
-from .calls.others import INTO_ANOTHER
+from .calls.ptrace import INTO_ANOTHER
 from .witness import Heard, text
 from .writing import Recording, Tree
 
@@ -45,6 +45,7 @@ def tell(folder: Path, recording: Recording) -> None:
         asked.take(record)
     looks = {entry["pid"] for entry in recording.left_out() if entry.get("class") == INTO_ANOTHER}
     signals = {entry["pid"] for entry in recording.left_out() if entry.get("scope") == SIGNAL}
+    signals |= recording.reaching(SIGNAL)
     check = Check(recording, asked, looks, signals)
     check.tell(heard)
     own = [{"call": call, "landlock": answer} for call, answer in check.own.items()]

@@ -12,8 +12,8 @@ import sys
 from collections.abc import Iterator, Sequence
 from pathlib import Path
 
-from .. import jsonl
-from ..problems import WANTING, Problem
+from ..common import jsonl
+from ..common.problems import WANTING, Problem
 
 PROGRAM = "landaudit-witness"
 BUILT = Path(__file__).resolve().parents[3] / "witness" / "out" / PROGRAM

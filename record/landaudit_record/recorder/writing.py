@@ -7,22 +7,22 @@ import re
 import shutil
 import tempfile
 from collections import Counter
-from collections.abc import Container, Iterator, Mapping, Sequence
+from collections.abc import Container, Iterable, Iterator, Mapping, Sequence
 from dataclasses import dataclass
 from functools import lru_cache
 from pathlib import Path
 from types import TracebackType
 from typing import Any, Protocol, Self
 
-from .. import jsonl, trace_lines
-from ..finished import CONVERTED, Converted, Part, Size, files_of_parts, numbered
-from ..living import Living, Members
-from ..trees import ROOT, directory_of, upwards
-from ..wording import is_utf8
+from ..common import jsonl, trace_lines
+from ..common.finished import CONVERTED, REACH, Converted, Part, Size, files_of_parts, numbered
+from ..common.restoring import Living, Members
+from ..common.trace_lines import FIRST_MADE_UP
+from ..common.trees import ROOT, directory_of, upwards
+from ..common.wording import is_utf8
 from .names import OF_KIND, Node, join
-from .processes import FIRST_MADE_UP
-from .unsaid import CannotSay as CannotSay
-from .unsaid import NotUnderstood
+from .unwritten import CannotSay as CannotSay
+from .unwritten import NotUnderstood
 from .values import KEPT
 
 MOST_RECORDS = 1_000_000
@@ -36,6 +36,8 @@ LONGEST_CALL = 200
 DEEP = 100
 """For a path with more names than this, the directories above it are listed in steps of so many."""
 ABSENT = "~new~"
+IN_PROC = "/proc/"
+"""Under this directory names change all the time, so none is kept."""
 #: The beginning of the name of a folder in which a conversion writes until it is done.
 UNDONE = ".converting-"
 #: What a path must not have: another beginning than a slash, an empty name, `.`, `..`, a NUL.
@@ -45,7 +47,8 @@ _NO_PATH = re.compile(r"\A[^/]|\A\Z|/\.{0,2}(?:/|\Z)|\0")
 class Objects(Protocol):
     """All objects that a run met, by their names at this moment and when the run began.
 
-    `turns` counts how often a directory got or lost a name, which changes the names of what is beneath it.
+    `turns` counts how often a directory got or lost a name, which changes the names of what is beneath it; those in
+    /proc, which come and go with each process, need not count.
     """
 
     root: Node
@@ -108,7 +111,9 @@ class Tree:
             self._list_start(node)
             for further in self._names.further(node):
                 self._named(self._wanted(further), further, node)
-            text = self._places[real, node] = "/" if real == "/" else self._named(self._wanted(real), real, node)
+            text = "/" if real == "/" else self._named(self._wanted(real), real, node)
+            if not real.startswith(IN_PROC):
+                self._places[real, node] = text
             if node.others:
                 self._doubt(real, text, node)
         return text
@@ -275,6 +280,7 @@ class Recording:
             shutil.rmtree(left)
         self._undone = Path(tempfile.mkdtemp(prefix=UNDONE, dir=folder))
         self._unsaid = open(self._undone / "unsaid.jsonl", "w", encoding="utf-8")
+        self._reach = open(self._undone / REACH, "w", encoding="utf-8")
         self._committed = 0
         self.processes = 0
         self.unsaid: Counter[str] = Counter()
@@ -291,6 +297,7 @@ class Recording:
     def __exit__(self, kind: type[BaseException] | None, error: BaseException | None, at: TracebackType | None) -> None:
         self._trace.close()
         self._unsaid.close()
+        self._reach.close()
         shutil.rmtree(self._undone)
 
     @property
@@ -342,19 +349,36 @@ class Recording:
         """
         self._call[:] = [waiting for waiting in self._call if not _is_judged(waiting)]
 
-    def leave_out(self, reason: str, line: int, pid: int, call: str, *, asks: bool = False) -> None:
-        """Counts a call that could not be written; `asks` says that a policy may refuse it."""
-        self.unsaid[reason] += 1
+    def leave_out(
+        self, reason: str, line: int, pid: int, call: str, *, asks: bool = False, reach: bool = False
+    ) -> None:
+        """Counts a call that could not be written; `asks` says that a policy may refuse it. One that is judged by what
+        `reaches` wrote is only listed.
+        """
         entry: jsonl.Record = {"line": line, "pid": pid, "class": reason, "call": call[:LONGEST_CALL]}
         if asks:
-            self._holes[reason] += 1
             entry["asks"] = True
+        if reach:
+            entry["reach"] = True
+        else:
+            self.unsaid[reason] += 1
+            self._holes.update([reason] if asks else ())
         self._unsaid.write(jsonl.line(entry))
 
     def leave_to_scope(self, scope: str, line: int, pid: int, call: str) -> None:
-        """Counts a call that only a policy may refuse which has a scope."""
+        """Counts a call that only a policy may refuse which has a scope, and of which nobody knows whom it reaches."""
         self._scopes[scope] += 1
         self._unsaid.write(jsonl.line({"line": line, "pid": pid, "scope": scope, "call": call[:LONGEST_CALL]}))
+
+    @property
+    def moment(self) -> int:
+        """The number of records before the present call."""
+        return self._committed
+
+    def reaches(self, asks: str, pid: int, to: Iterable[int], line: int, call: str, **members: Any) -> None:
+        """Writes that a call reaches other processes, or a socket that one of them made."""
+        said = {"asks": asks, "pid": pid, "to": list(to), "after": self.moment, **members}
+        self._reach.write(jsonl.line({**said, "line": line, "call": call[:LONGEST_CALL]}))
 
     def written(self) -> Iterator[jsonl.Record]:
         """The records so far, in their order and once each."""
@@ -367,6 +391,11 @@ class Recording:
         """The calls that could not be written so far."""
         self._unsaid.flush()
         yield from (entry for _, entry in jsonl.numbered(self._undone / "unsaid.jsonl"))
+
+    def reaching(self, asks: str) -> set[int]:
+        """The processes that reached others so far."""
+        self._reach.flush()
+        return {said["pid"] for _, said in jsonl.numbered(self._undone / REACH) if said["asks"] == asks}
 
     def finish(
         self,
@@ -383,6 +412,7 @@ class Recording:
         self.commit()
         self._end_part()
         self._unsaid.close()
+        self._reach.close()
         for part in self._parts:
             part.spread(further or {})
         sizes = tuple(part.finish(self.tree) for part in self._parts)
@@ -394,7 +424,8 @@ class Recording:
         for made, place in zip(self._parts, numbered(self._folder, len(self._parts))):
             made.part.tree.replace(place.tree)
             made.part.trace.replace(place.trace)
-        (self._undone / "unsaid.jsonl").replace(self._folder / "unsaid.jsonl")
+        for name in ("unsaid.jsonl", REACH):
+            (self._undone / name).replace(self._folder / name)
         done.write(self._folder)
         return done
 

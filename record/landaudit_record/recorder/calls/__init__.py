@@ -7,20 +7,20 @@ from collections.abc import Callable, Mapping
 from ..processes import Thread
 from ..scene import Scene
 from ..strace_log import Call
-from . import beyond, descriptors, files, landlock, mounts, moves, opening, others, programs, scopes, users
+from . import descriptors, files, inexpressible, landlock, mounts, moves, opening, programs, ptrace, scopes, users
 
 Handler = Callable[[Scene, Thread, Call], None]
 
 
 HANDLERS: Mapping[str, Handler] = {
-    **beyond.HANDLERS,
+    **inexpressible.HANDLERS,
     **descriptors.HANDLERS,
     **files.HANDLERS,
     **landlock.HANDLERS,
     **mounts.HANDLERS,
     **moves.HANDLERS,
     **opening.HANDLERS,
-    **others.HANDLERS,
+    **ptrace.HANDLERS,
     **programs.HANDLERS,
     **scopes.HANDLERS,
     **users.HANDLERS,

@@ -5,12 +5,13 @@ from __future__ import annotations
 from collections.abc import Sequence
 
 from .. import values
+from ..unwritten import CannotSay, NotAsked
 from ..names import UnknownWay
 from ..processes import Thread
 from ..scene import NO_PATH, Scene, Spot
 from ..strace_log import Call
+from ..unwritten import CannotSay, NotAsked
 from ..values import Descriptor
-from ..unsaid import CannotSay, NotAsked
 from .invalid import is_invalid
 
 AT_EMPTY_PATH = 0x1000

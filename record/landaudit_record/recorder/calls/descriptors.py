@@ -13,26 +13,28 @@ import re
 from typing import Any
 
 from .. import values
+from ..unwritten import CannotSay, NotAsked
 from ..processes import Handle, Thread
 from ..scene import Scene
 from ..strace_log import Call
-from ..unsaid import CannotSay, NotAsked
 from . import arguments, files, opening, scopes
 
 F_DUPFD = 0
 F_SETFD = 2
+F_SETOWN, F_SETOWN_EX = 8, 15
 F_DUPFD_CLOEXEC = 1030
 FD_CLOEXEC = 1
 CLOSE_RANGE_UNSHARE, CLOSE_RANGE_CLOEXEC = 2, 4
 SOCK_CLOEXEC = 0o2000000
 AF_UNSPEC, AF_INET, AF_INET6 = 0, 2, 10
-SOCK_STREAM, SOCK_TYPE = 1, 0xF
+SOCK_STREAM, SOCK_DGRAM, SOCK_RAW, SOCK_TYPE = 1, 2, 3, 0xF
 IPPROTO_TCP = 6
 TIOCGPTPEER = 0x5441
 
 FIOCLEX, FIONCLEX = 0x5451, 0x5450
+FIOSETOWN, SIOCSPGRP = 0x8901, 0x8902
 
-#: Commands that the kernel allows on a device whatever the policy is (docs/FORMATS.md).
+#: Commands that the kernel allows on a device whatever the policy is (docs/RECORDERS.md, "driver").
 LET_THROUGH = frozenset(
     {
         FIOCLEX,
@@ -107,6 +109,8 @@ def _fcntl(scene: Scene, thread: Thread, call: Call) -> None:
     command = arguments.number_at(call, 1)
     if command in (F_DUPFD, F_DUPFD_CLOEXEC):
         _duplicated(scene, thread, call, command == F_DUPFD_CLOEXEC)
+    elif command in (F_SETOWN, F_SETOWN_EX):
+        scopes.owned(scene, thread, call)
     elif command == F_SETFD and call.ok:
         handle = scene.handle(thread, call, values.descriptor(call.arguments[0]))
         if handle is not None:
@@ -114,12 +118,22 @@ def _fcntl(scene: Scene, thread: Thread, call: Call) -> None:
 
 
 def _socket(scene: Scene, thread: Thread, call: Call) -> None:
-    if not call.ok or call.value is None:
-        return
+    if call.ok and call.value is not None:
+        scene.put(thread, call, call.value, _made_socket(call))
+        if arguments.number_at(call, 0) == files.AF_UNIX:
+            scopes.made(scene, thread, call)
+
+
+def _socketpair(scene: Scene, thread: Thread, call: Call) -> None:
+    for made in call.arguments[3].strip("[]").split(", ") if call.ok else ():
+        scene.put(thread, call, values.descriptor(made).number, _made_socket(call))
+
+
+def _made_socket(call: Call) -> Handle:
     domain, kind, protocol = (arguments.number_at(call, index) for index in range(3))
     tcp = domain in (AF_INET, AF_INET6) and kind & SOCK_TYPE == SOCK_STREAM and protocol in (0, IPPROTO_TCP)
-    handle = Handle(close_on_exec=bool(kind & SOCK_CLOEXEC), tcp=domain if tcp else None)
-    scene.put(thread, call, call.value, handle)
+    letters = domain == files.AF_UNIX and kind & SOCK_TYPE in (SOCK_DGRAM, SOCK_RAW)
+    return Handle(close_on_exec=bool(kind & SOCK_CLOEXEC), tcp=domain if tcp else None, letters=letters)
 
 
 def _bind(scene: Scene, thread: Thread, call: Call) -> None:
@@ -201,6 +215,8 @@ def _ioctl(scene: Scene, thread: Thread, call: Call) -> None:
     command = arguments.number_at(call, 1) & 0xFFFFFFFF
     if handle is not None and call.ok and command in (FIOCLEX, FIONCLEX):
         handle.close_on_exec = command == FIOCLEX
+    elif command in (FIOSETOWN, SIOCSPGRP):
+        scopes.owned(scene, thread, call)
     if handle is None or call.error == "EBADF" or (not handle.in_trace and handle.adopted == "other"):
         return
     if handle.foreign and handle.adopted == "device" and command not in LET_THROUGH:
@@ -248,6 +264,7 @@ HANDLERS = {
     "fcntl": _fcntl,
     "fcntl64": _fcntl,
     "socket": _socket,
+    "socketpair": _socketpair,
     "bind": _bind,
     "connect": _connect,
     "ioctl": _ioctl,

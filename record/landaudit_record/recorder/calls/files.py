@@ -6,11 +6,11 @@ import stat
 
 from .. import values
 from ..disk import kind_of
+from ..unwritten import CannotSay, NotAsked
 from ..names import KINDS, NO_DIRECTORIES, Node
 from ..processes import Thread
 from ..scene import Scene, Spot
 from ..strace_log import Call
-from ..unsaid import CannotSay, NotAsked
 from . import arguments
 
 AT_REMOVEDIR = 0x200

@@ -2,14 +2,13 @@
 
 from __future__ import annotations
 
+from ...common.finished import FOREIGN_RULESET, OF_SCOPES
+from ...common.rights import FS, NET, SCOPES, Family
 from .. import values
+from ..unwritten import CannotSay, NotAsked
 from ..processes import Handle, Thread
-from ...finished import FOREIGN_RULESET, OF_SCOPES
-from ...policies import SCOPES
-from ...rights import FS, NET, Family
 from ..scene import Scene
 from ..strace_log import Call
-from ..unsaid import CannotSay, NotAsked
 from . import arguments, users
 
 PR_SET_NO_NEW_PRIVS = 38
@@ -42,16 +41,21 @@ def _handled(scene: Scene, thread: Thread, call: Call) -> tuple[list[str] | None
     argument = call.arguments[0]
     files, ports, scoped = (_member(argument, name) for name in ("handled_access_fs", "handled_access_net", "scoped"))
     if "..." not in argument:
-        return named(files, FS), named(ports, NET), _scopes(scoped)
-    of_policy = scene.ports.handled()
+        return named(files, FS), named(ports, NET), scopes_of(scoped)
+    of_policy, scopes = scene.ports.handled(), scene.ports.scopes()
     if of_policy is None:
         scene.leave_out(thread, call, "what a ruleset handles beside files" + NOT_DECODED, asks=True)
-    return named(files, FS), of_policy or None, []
+    return named(files, FS), of_policy or None, scopes if arguments.number_at(call, 1) == SIZES[-1] else []
 
 
-def _scopes(bits: int) -> list[str]:
+def scopes_of(bits: int) -> list[str]:
     """The names of scopes by their bits, as `named` has those of rights."""
     return [SCOPES[bit] if bit < len(SCOPES) else f"bit_{bit}" for bit in range(64) if bits >> bit & 1]
+
+
+def can_be_judged(scoped: list[str], *, alone: bool) -> bool:
+    """Whether an audit knows what the scopes of a ruleset refuse: a trace has no ruleset that has them alone."""
+    return not scoped or (not alone and set(scoped) <= set(SCOPES))
 
 
 def _member(argument: str, name: str) -> int:
@@ -71,8 +75,8 @@ def _create_ruleset(scene: Scene, thread: Thread, call: Call) -> None:
         scene.close(thread, call, call.value)
         number = call.value if not thread.process.holds(call.value) else number
         scene.put(thread, call, call.value, Handle(close_on_exec=True, ruleset=number if can_be_said else None))
-    if scoped:
-        scene.leave_out(thread, call, OF_SCOPES)
+    if not can_be_judged(scoped, alone=not can_be_said):
+        scene.leave_out(thread, call, OF_SCOPES, asks=True)
     if can_be_said:
         scene.say(thread, call, "create", rs=number, fs=files, net=ports, scoped=scoped or None)
 

@@ -9,11 +9,11 @@ from __future__ import annotations
 from collections.abc import Callable
 
 from .. import values
+from ..unwritten import CannotSay, NotAsked
 from ..processes import Handle, Thread
 from ..scene import CLONE_NEWUSER, Scene
 from ..strace_log import Call
-from ..unsaid import CannotSay, NotAsked
-from . import arguments, others, users
+from . import arguments, ptrace, users
 
 MS_NOUSER = 1 << 31
 MNT_EXPIRE = 4
@@ -113,7 +113,7 @@ def from_a_place(handler: Handler, base: int | None) -> Handler:
 def _setns(scene: Scene, thread: Thread, call: Call) -> None:
     """Another mount namespace has other objects under the same names; other namespaces change no path."""
     behind = values.descriptor(call.arguments[0]).behind or ""
-    others.by_pidfd(scene, thread, call)
+    ptrace.by_pidfd(scene, thread, call)
     if call.ok and (behind.startswith("user:") or _has(call, 1, CLONE_NEWUSER)):
         users.lose(thread)
     if call.ok and (behind.startswith("mnt:") or _has(call, 1, CLONE_NEWNS)):

@@ -4,11 +4,11 @@ from __future__ import annotations
 
 from typing import Any
 
+from ..unwritten import CannotSay, NotAsked
 from ..names import KINDS, NO_DIRECTORIES, REPLACED_OR_NOT, Node
 from ..processes import Thread
 from ..scene import Scene, Spot
 from ..strace_log import Call
-from ..unsaid import CannotSay, NotAsked
 from . import arguments
 
 RENAME_NOREPLACE = 1

@@ -8,11 +8,11 @@ from dataclasses import dataclass, replace
 from typing import Any
 
 from .. import values
+from ..unwritten import CannotSay, NotAsked
 from ..names import MADE_OR_THERE, OF_KIND, Node, join, split
 from ..processes import Handle, Thread
 from ..scene import Scene, Spot
 from ..strace_log import Call
-from ..unsaid import CannotSay, NotAsked
 from ..values import Descriptor
 from . import arguments
 

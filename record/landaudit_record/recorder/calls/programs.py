@@ -6,10 +6,10 @@ from dataclasses import replace
 
 from .. import formats, values
 from ..disk import MOST_INTERPRETERS, Program
+from ..unwritten import CannotSay, NotAsked
 from ..processes import Thread
 from ..scene import CLONE_FILES, CLONE_FS, CLONE_NEWUSER, Scene, Spot
 from ..strace_log import Call
-from ..unsaid import CannotSay, NotAsked
 from . import arguments, users
 from .descriptors import OWN_TABLE
 
@@ -91,6 +91,8 @@ def _interpreters(scene: Scene, thread: Thread, call: Call, program: Spot) -> li
     An interpreter that was opened when its format was registered is not asked about, but its loader is.
     """
     found: list[Spot] = []
+    if call.error == "ENOENT" and _is_inaccessible(thread, call):
+        return found
     spot, called = program, _called(call)
     for _ in range(MOST_INTERPRETERS):
         how = scene.names.program(spot.real)
@@ -104,6 +106,16 @@ def _interpreters(scene: Scene, thread: Thread, call: Call, program: Spot) -> li
         if spot.node is None:
             return found
     return found
+
+
+def _is_inaccessible(thread: Thread, call: Call) -> bool:
+    """Whether an interpreter could not find a program, since the descriptor that names it is close-on-exec: then the
+    kernel opens none (execveat(2), ENOENT).
+    """
+    if call.name != "execveat" or _called(call).startswith("/"):
+        return False
+    handle = thread.process.table.get(values.descriptor(call.arguments[0]).number)
+    return handle is not None and handle.close_on_exec
 
 
 def _called(call: Call) -> str:

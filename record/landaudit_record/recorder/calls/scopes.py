@@ -1,23 +1,27 @@
 """Calls that a ruleset with scopes may refuse (ABI 6): signals, and connections to abstract UNIX sockets.
 
 A process may reach processes under its own layers, as with the rule on ptrace. A trace has no records for these calls:
-they are counted by the scope that may refuse them.
+whom they reach is written beside it, and if nobody knows that, they are counted by the scope that may refuse them.
 """
 
 from __future__ import annotations
 
+import re
 from collections.abc import Callable
 
+from ...common.reach import ABSTRACT, SIGNAL
 from .. import values
 from ..processes import Thread
 from ..scene import Scene
 from ..strace_log import Call
-from . import arguments, others
+from . import arguments, ptrace
 
-SIGNAL, ABSTRACT = "signal", "abstract_unix_socket"
-#: How strace begins an abstract name, and how a refusal by a scope ends.
+#: How strace begins an abstract name, a name that the kernel chose (unix(7)), and how a refusal by a scope ends.
 _AT = "@"
+_CHOSEN = re.compile("@[0-9a-f]{5}")
 _REFUSED = "EPERM"
+#: The index of the address of sendto(2).
+_ADDRESS = 4
 
 Handler = Callable[[Scene, Thread, Call], None]
 
@@ -27,45 +31,81 @@ def _signals(index: int) -> Handler:
 
     def sent(scene: Scene, thread: Thread, call: Call) -> None:
         pid = values.pid(call.arguments[index])
-        _count(scene, thread, call, SIGNAL, to_all=pid in (0, -1), pid=abs(pid))
+        if not _is_asked(thread, call):
+            return
+        if pid > 0:
+            ptrace.reached(scene, thread, call, SIGNAL, [pid])
+        else:
+            _count(scene, thread, call, SIGNAL)
 
     return sent
 
 
 def _by_pidfd(scene: Scene, thread: Thread, call: Call) -> None:
-    pid = others.pid_behind(call)
-    if pid is not None:
-        _count(scene, thread, call, SIGNAL, pid=pid)
+    pid = ptrace.pid_behind(call)
+    if pid is not None and _is_asked(thread, call):
+        ptrace.reached(scene, thread, call, SIGNAL, [pid])
 
 
-def _count(scene: Scene, thread: Thread, call: Call, scope: str, *, pid: int, to_all: bool = False) -> None:
-    """Counts a call that reaches another process, or that a layer may have refused.
+def _is_asked(thread: Thread, call: Call) -> bool:
+    """Whether a call reached its goal, or a layer may have refused it."""
+    return call.ok or (thread.process.confined and call.error == _REFUSED)
 
-    With `to_all`, the call is for a group of processes, to which other processes belong too.
-    """
-    reached = call.ok or (thread.process.confined and call.error == _REFUSED)
-    if reached and (to_all or others.may_refuse(scene, thread, pid)):
-        scene.recording.leave_to_scope(scope, call.line, thread.process.pid, call.text)
+
+def _count(scene: Scene, thread: Thread, call: Call, scope: str) -> None:
+    """Counts a call of which nobody knows whom it reaches."""
+    scene.recording.leave_to_scope(scope, call.line, thread.process.pid, call.text)
+
+
+def owned(scene: Scene, thread: Thread, call: Call) -> None:
+    """A process or a group gets the signals of a descriptor (F_SETOWN): the kernel says to nobody what it refuses."""
+    owner = call.arguments[2].strip("[]")
+    pid = values.pid(values.member(owner, "pid") or owner)
+    named = scene.threads.get(pid)
+    if call.ok and pid and (named is None or named.process is not thread.process):
+        _count(scene, thread, call, SIGNAL)
+
+
+def made(scene: Scene, thread: Thread, call: Call) -> None:
+    """A UNIX socket: it is under the layers that its process has now."""
+    behind = values.descriptor(f"{call.value}{call.note}").behind
+    if behind is not None:
+        scene.sockets[behind] = thread.process.pid, scene.recording.moment
 
 
 def bound(scene: Scene, thread: Thread, call: Call) -> None:
-    """An abstract name that a socket is bound to: the process has it."""
+    """An abstract name that a socket is bound to."""
     name = _abstract(call)
     if call.ok and name is not None:
-        scene.abstract[name] = thread.process.pid
+        scene.abstract[name] = scene.sockets.get(values.descriptor(call.arguments[0]).behind or "")
 
 
 def connected(scene: Scene, thread: Thread, call: Call) -> None:
-    """A connection to an abstract name, which another process may have."""
+    """A connection to an abstract name: of a socket of the recording, or of one outside of it."""
     name = _abstract(call)
-    if name is not None:
-        _count(scene, thread, call, ABSTRACT, to_all=name not in scene.abstract, pid=scene.abstract.get(name, 0))
+    if name is None or not _is_asked(thread, call):
+        return
+    maker = scene.abstract.get(name)
+    if maker is None and (name in scene.abstract or _CHOSEN.fullmatch(name)):
+        _count(scene, thread, call, ABSTRACT)
+        return
+    about = {} if maker is None else {"since": maker[1]}
+    to = [] if maker is None else [maker[0]]
+    scene.recording.reaches(ABSTRACT, thread.process.pid, to, call.line, call.text, name=name, **about)
+
+
+def sent(scene: Scene, thread: Thread, call: Call) -> None:
+    """Datagrams of a UNIX socket: the log does not have their addresses, but whether sendto(2) has one."""
+    if _is_asked(thread, call) and (call.name != "sendto" or arguments.number_at(call, _ADDRESS)):
+        _count(scene, thread, call, ABSTRACT)
 
 
 def _abstract(call: Call) -> str | None:
-    """The abstract name of a call's address, as strace writes it."""
+    """The abstract name of a call's address, after the sign by which strace and people write it."""
     name = values.member(call.arguments[1], "sun_path")
-    return name if name is not None and name.startswith(_AT) else None
+    if name is None or not name.startswith(_AT):
+        return None
+    return _AT + (values.text(name.removeprefix(_AT)) or "")
 
 
 HANDLERS: dict[str, Handler] = {

@@ -1,0 +1,1 @@
+"""The audit of a recording, with a policy or without, as values."""

@@ -1,0 +1,98 @@
+"""What changes from one ABI of a range to the next: which calls break there first, and which are no longer refused."""
+
+from __future__ import annotations
+
+from collections import Counter
+from collections.abc import Sequence
+from copy import deepcopy
+from dataclasses import dataclass, replace
+from typing import Any, NamedTuple
+
+from ..engine.answers import UNSURE
+from ..engine.subjects import Subject
+from .summary import Refusal, Summary
+from .warnings import Warned
+
+
+class Kind(NamedTuple):
+    """Refused calls that look the same to a program, whichever layer refuses them and why."""
+
+    call: str
+    subject: Subject
+    error: str
+
+
+@dataclass(frozen=True)
+class Step:
+    """An ABI, compared with the one before it in the range.
+
+    `breaks` are the kinds that are refused here and not there, all of them at the oldest ABI: the earliest first, since
+    there the program breaks, then the most frequent. `no_more` are those whose calls were refused there and are not
+    here, by whatever error. `warnings` are those that the newest ABI does not have.
+    """
+
+    abi: int
+    verdicts: Counter[str]
+    breaks: tuple[Kind, ...]
+    no_more: tuple[Kind, ...]
+    warnings: tuple[Warned, ...]
+
+
+def of_range(judged: Sequence[Summary], abis: range) -> list[Summary]:
+    """The summaries of a range by those that landaudit was asked for: a later ABI has the rights of the newest."""
+    later = (replace(deepcopy(judged[-1]), abi=abi) for abi in abis if abi > judged[-1].abi)
+    return [*(summary for summary in judged if summary.abi in abis), *later]
+
+
+def steps(summaries: Sequence[Summary]) -> list[Step]:
+    """The ABIs of a range, by the summary of each, the oldest first."""
+    newest = summaries[-1].warnings
+    found: list[Step] = []
+    before: dict[Kind, int] = {}
+    known: dict[Refusal, Kind] = {}
+    for summary in summaries:
+        kinds = _kinds(summary, known)
+        new = [item for item in kinds.items() if item[0] not in before]
+        breaks = [kind for kind, _ in [*new[:1], *sorted(new[1:], key=lambda item: -item[1])]]
+        gone = Counter({kind: times for kind, times in before.items() if kind not in kinds})
+        refused = {kind[:2] for kind in kinds} if gone else set()
+        no_more = [kind for kind, _ in gone.most_common() if kind[:2] not in refused]
+        warnings = tuple(warning for warning in summary.warnings if warning not in newest)
+        found.append(Step(summary.abi, summary.verdicts, tuple(breaks), tuple(no_more), warnings))
+        before = kinds
+    return found
+
+
+def _kinds(summary: Summary, known: dict[Refusal, Kind]) -> dict[Kind, int]:
+    """The kinds of an audit's refused calls, in the order of the trace, with how many there are of each; `known` has
+    the kinds of refusals that were met before.
+    """
+    found: dict[Kind, int] = {}
+    for refusal, programs in summary.refusals.items():
+        kind = known.get(refusal)
+        if kind is None:
+            kind = known[refusal] = Kind(refusal.call, refusal.subject, refusal.error)
+        found[kind] = found.get(kind, 0) + sum(programs.values())
+    return found
+
+
+def as_data(found: Sequence[Step]) -> list[dict[str, Any]]:
+    """The ABIs as data for programs; the keys stay."""
+    return [
+        {
+            "abi": step.abi,
+            "records": step.verdicts.total(),
+            "allowed": step.verdicts["allowed"],
+            "refused": step.verdicts["refused"],
+            "moot": step.verdicts["moot"],
+            "unsure": step.verdicts[UNSURE],
+            "breaks": [_kind_data(kind) for kind in step.breaks],
+            "refused_no_more": [_kind_data(kind) for kind in step.no_more],
+            "more_warnings": list(map(str, step.warnings)),
+        }
+        for step in found
+    ]
+
+
+def _kind_data(kind: Kind) -> dict[str, str]:
+    return {"call": kind.call, "place": str(kind.subject), "error": kind.error}

@@ -1,0 +1,86 @@
+"""Checks that a policy allows what it must allow and refuses what it must refuse."""
+
+from __future__ import annotations
+
+import argparse
+import json
+from pathlib import Path
+
+from ... import POLICIES
+from ...common import tap, variables
+from ...common.options import add_landaudit, add_policy, note
+from ...common.problems import NOT_ALL_JUDGED
+from ...common.resolving import DISK
+from ...common.wording import some_of
+from ...engine import landaudit
+from ...policy import cases, checking, checking_data, checking_text, parents, policies
+from ...policy.checking import Checked
+from ...policy.policies import Policy
+from ...summaries import reporting
+from ...summaries.reporting import checked as checked_report
+from ...summaries.page import checks
+
+NAME = "check"
+HELP = "check that a policy allows what it must allow, and refuses what it must refuse"
+EXAMPLE = "landaudit-policy check policy.toml cases.toml"
+CASES = """
+Cases are TOML: each [[refused]] or [[allowed]] has a call in the words of a
+trace (open r, open w create, exec, mknod fifo, rename, connect, ..) with path,
+from and to, or port; abi (one or a range) unless the case is about all ABIs;
+and kind for a path that is not on this machine. [[nothing]] and [[only]] have
+rights that may pass nowhere at or under some paths, or nowhere else; [[never]]
+has two rights that may not pass both."""
+
+
+def add_arguments(parser: argparse.ArgumentParser) -> None:
+    """Adds the arguments of the subcommand."""
+    parser.description = f"{HELP}\n{CASES}"
+    add_policy(parser)
+    parser.add_argument("cases", metavar="CASES.toml", type=Path, help="what the policy must allow and refuse")
+    variables.add_set(parser)
+    reporting.add_format(parser, "TAP, version 13")
+    parser.add_argument(
+        "--html", metavar="FILE", type=Path, help="also write the result to FILE, as a page for a browser"
+    )
+    add_landaudit(parser)
+
+
+def run(arguments: argparse.Namespace) -> int:
+    """Prints a line of TAP for each case with the reasons, or all cases in a format; the status is 1 if any fails."""
+    program = landaudit.find(arguments.landaudit)
+    values = variables.given(arguments)
+    given = cases.read(arguments.cases, values)
+    written = policies.read(arguments.policy, values)
+    values.check_used()
+    policy = _on_objects(written)
+    checked = checking.check(program, policy, given)
+    if arguments.format == reporting.JSON:
+        print(json.dumps(checking_data.as_data(checked), indent=2))
+    elif arguments.format == reporting.TEXT:
+        _print(checked)
+    else:
+        reporting.show(checked_report.report(checked, policy), arguments.format)
+    if arguments.html is not None:
+        checks.write(arguments.html, checked)
+    unasked = parents.with_other_names(policy, [path for one in given.questions for path in one.under])
+    if given.questions and unasked:
+        note([f"NOT ALL IS ASKED: {some_of(unasked)} has other names (hard links), on which the rule is too: name them "
+              "in the policy or as the path of a question"], POLICIES)
+    return 1 if checked.failed else NOT_ALL_JUDGED if given.questions and unasked else 0
+
+
+def _print(checked: Checked) -> None:
+    """Prints TAP."""
+    print(tap.VERSION)
+    print(tap.plan(len(checked.results)))
+    for number, result in enumerate(checked.results, start=1):
+        for line in tap.point(number, result.holds, checking_text.title(result), checking_text.about(result)):
+            print(line)
+
+
+def _on_objects(policy: Policy) -> Policy:
+    """The policy with what its parents lead to on this machine, with a note on each that leads nowhere."""
+    for parent in parents.each(policy, DISK):
+        if parent.led.blocked is not None:
+            note([f"{parent.place}: no rule, since {parent.led.blocked} is no directory on this machine"], POLICIES)
+    return parents.followed(policy, DISK)

@@ -1,0 +1,1 @@
+"""What all others use: values, files and texts that know nothing of a policy."""

@@ -1,0 +1,75 @@
+"""Work that is done in processes of their own, on what this process has when they begin."""
+
+from __future__ import annotations
+
+import contextlib
+import multiprocessing
+import signal
+from collections import deque
+from collections.abc import Callable, Iterable, Iterator
+from multiprocessing.connection import Connection
+from typing import Generic, TypeVar
+
+from . import stopping
+from .problems import WANTING, Problem
+
+Result = TypeVar("Result")
+_FORKING = multiprocessing.get_context("fork")
+
+
+def each(works: Iterable[Callable[[], Result]], most: int) -> Iterator[Result]:
+    """Does each work in a process of its own, at most some at once, and yields what they give, in their order."""
+    begun: deque[_Apart[Result]] = deque()
+    try:
+        for work in works:
+            begun.append(_Apart(work))
+            if len(begun) == most:
+                yield begun.popleft().result()
+        while begun:
+            yield begun.popleft().result()
+    finally:
+        for one in begun:
+            one.stop()
+
+
+class _Apart(Generic[Result]):
+    """One work in its process."""
+
+    def __init__(self, work: Callable[[], Result]) -> None:
+        self._receives, sends = _FORKING.Pipe(duplex=False)
+        self._process = _FORKING.Process(target=_do, args=(work, sends), daemon=True)
+        self._process.start()
+        sends.close()
+
+    def result(self) -> Result:
+        """Waits for what the work gives; what it raised is raised here."""
+        given: Result
+        try:
+            given, raised = self._receives.recv()
+        except EOFError:
+            raise Problem("a process of this program was killed: is there enough memory?", WANTING) from None
+        finally:
+            self.stop()
+        if raised is not None:
+            raise raised
+        return given
+
+    def stop(self) -> None:
+        """Ends the process, if it has not ended."""
+        self._process.kill()
+        self._process.join()
+        self._receives.close()
+
+
+def _do(work: Callable[[], Result], sends: Connection) -> None:
+    """Does a work, and sends what it gives, or what it raised; this process ends when the one that waits ends it."""
+    signal.signal(signal.SIGINT, signal.SIG_IGN)
+    for number in stopping.SIGNALS:
+        signal.signal(number, signal.SIG_DFL)
+    given, raised = None, None
+    try:
+        given = work()
+    except Exception as error:
+        raised = error
+    with contextlib.suppress(BrokenPipeError):
+        sends.send((given, raised))

@@ -1,0 +1,1 @@
+"""Runs landaudit and reads what it answers."""

@@ -1,0 +1,451 @@
+"""Reads a trace together with its report: each record with its answer, or only those that an audit shows.
+
+Most records are allowed and change nothing that a summary needs. `Walk` goes over a trace and its report once, for all
+ABIs of the report, and decodes only the lines of the other records; of those that a summary counts as one, it decodes
+the first (`Walk.kinds`). The first bytes of a line show what to do with it. The members of the most frequent records
+are read without decoding, if they are written as landaudit-record writes them.
+"""
+
+from __future__ import annotations
+
+from array import array
+from collections import Counter
+from collections.abc import Iterator
+from dataclasses import dataclass
+from itertools import accumulate, count, islice, zip_longest
+from pathlib import Path
+
+from ..common import jsonl
+from ..common.jsonl import Record
+from ..common.operations import OPERATIONS, PATH_CALLS, PORT_CALLS
+from ..common.problems import Problem
+from ..common.progress import Progress
+from ..common.trace_lines import (
+    AGAIN,
+    CHANGES,
+    COPIES,
+    FD,
+    HEAD,
+    KERNEL,
+    LET_THROUGH,
+    OTHERWISE,
+    OWN,
+    OWN_OF_OPENING,
+    POLICY,
+    STANDS_FOR,
+    UNKNOWN,
+    head,
+)
+from . import reports
+from .answers import Answer, Answered, Refusing
+from .following import NOWHERE, Followed
+from .processes import Process, Processes, shown
+from .subjects import NOTHING, Number, Subject
+
+Judged = tuple[Record, Answer, Process]
+#: What a call is about by name: its path or both paths, as a person knows them, or its port.
+Place = tuple[str, ...] | int
+
+#: The kernel's answers to the calls on paths about which it asked Landlock.
+ASKED_LANDLOCK = (None, "ok", "EACCES", "EPERM", "EXDEV")
+_STATES = frozenset({"create", "restrict", "start", "fork", "exit", "exec"})
+_RULES = frozenset({"add_path", "add_port"})
+_OPENS = frozenset({"open", "adopt", "dup"})
+#: The number of kinds of records that are counted before they are yielded.
+MOST_KINDS = 32_768
+#: Files are read in blocks of lines of about this many bytes.
+BLOCK = 1 << 18
+
+#: What there is to do with a line, by its operation: what _READ has is known only when the line is taken apart.
+_ON_PATH, _OPENS_NUMBER, _ON_PORT, _RULE, _STATE, _READ = 1, 2, 4, 8, 16, 32
+
+
+def _to_do(op: str) -> int:
+    families = {_ON_PATH: PATH_CALLS, _OPENS_NUMBER: _OPENS, _ON_PORT: PORT_CALLS, _RULE: _RULES, _STATE: _STATES}
+    return sum(to_do for to_do, ops in families.items() if op in ops)
+
+
+#: What a record would be if something else was there before the call. It is counted with the record before it.
+_OTHERWISE = 64
+#: A line that begins as no record that landaudit-record writes, if it is not in doubt.
+_ODD = 128
+_BEGINS = {head(op): _to_do(op) for op in OPERATIONS}
+_ASKED = tuple(f'{answer}"'.encode() for answer in ASKED_LANDLOCK if answer)
+#: Operations on numbers, as the report has them.
+_OPEN, _CLOSE, _ADOPT, _DUP = (b'"op":"%b"' % op for op in (b"open", b"close", b"adopt", b"dup"))
+_ON_NUMBERS = frozenset(b'"op":"%b"' % op.encode() for op, of in OPERATIONS.items() if "fd" in of.numbers)
+#: Where the number of the process begins in its member.
+_PID = len('"pid":')
+
+
+def judged(trace: Path, report: Path, abi: int) -> Iterator[Judged]:
+    """Each record, its answer at an ABI, and its process before the record. The process of a `start` is a new one."""
+    processes = Processes()
+    for found, row in zip_longest(jsonl.numbered(trace), reports.rows(report, abi)):
+        if found is None or row is None or (found[0], found[1]["pid"]) != (row.line, row.pid):
+            raise _other(trace, report)
+        record = found[1]
+        process = Process() if record["op"] == "start" else processes.of(record["pid"])
+        yield record, row.answer, process
+        processes.follow(record, row.answer)
+
+
+def _other(trace: Path, report: Path) -> Problem:
+    return Problem(f"{report} is not a report on {trace}: audit it again")
+
+
+@dataclass(frozen=True, slots=True)
+class Told:
+    """A record that some ABI does not allow, or that changes what is kept: its line, and its answers.
+
+    `answered` has the answers that are not `allowed`, each with the ABIs that give it; `program` is what the process
+    runs, None before its first program; `asked` says whether it is a call on a path that Landlock was asked about;
+    `missed` are the ABIs at which its descriptor would be open if its open had been allowed; `confined` says that the
+    process had a layer in the run.
+    """
+
+    line: int
+    record: Record
+    answered: tuple[Answered, ...]
+    program: str | None
+    asked: bool
+    missed: frozenset[int]
+    confined: bool
+
+    @property
+    def times(self) -> int:
+        """How many records it stands for."""
+        return int(self.record.get("stands_for", 1))
+
+
+#: A line of a trace: its number, the line, what there is to do with it, the report's line on it, and whether some ABI
+#: does not allow it.
+_Said = tuple[int, bytes, int, bytes, bool]
+#: The state of the process of a record before it: see Told.program, Told.missed and Told.confined.
+_Standing = tuple[str | None, frozenset[int], bool]
+#: What records have in common that a summary counts as one: state, members and answers.
+_Kind = tuple[_Standing, bytes, bytes]
+
+
+class Walk:
+    """One walk over a trace and its report over some ABIs.
+
+    The records at the beginning of a part that only restore what processes had are read and not yielded. `records` and
+    `path_calls` count the other records that were read, the latter those on paths about which Landlock was asked;
+    `files` are both files. With `only_refused` the report has only the refused records: then moot records count as
+    allowed, and no opening is missed. If the trace is `weighted`, a record stands for as many as it says.
+    """
+
+    def __init__(
+        self, trace: Path, report: Path, abis: range, progress: Progress | None = None, *, only_refused: bool = False,
+        weighted: bool = False
+    ) -> None:
+        self.files = trace, report
+        self._whole = not only_refused
+        self._weighted = weighted
+        self._progress = progress
+        self._abis = abis
+        self._allowed = reports.allowed_by_all(abis)
+        self._offsets = array("Q", [0])
+        self._processes = Followed()
+        self.records = 0
+        self.path_calls = 0
+        self.unsure: Counter[int] = Counter()
+        self._again = self._careful = True
+        self._together: list[_Said] = []
+
+    @property
+    def confines(self) -> bool:
+        """Whether a process asked for a layer."""
+        return self._processes.confines
+
+    def policy_of(self, layer: Refusing) -> int | None:
+        """The number in the tried policy of a layer that refuses a record; None if it is no policy's."""
+        return None if layer.line is None else self._processes.policy_of(layer.line)
+
+    def opened(self, line: int) -> str | None:
+        """The path to show for what the record on a line opened."""
+        with open(self.files[0], "rb") as trace:
+            trace.seek(self._offsets[line - 1])
+            return shown(jsonl.read(self.files[0], line, trace.readline()), "path")
+
+    def __iter__(self) -> Iterator[Told]:
+        """Each record that some ABI does not allow, or that changes what is kept."""
+        for said in self._lines():
+            _, _, to_do, _, differs = said
+            if differs or to_do >= _RULE:
+                told = self._taken_apart(said)
+                self.path_calls += told.times if told.asked and to_do == _READ else 0
+                yield told
+            elif self._whole:
+                self._follow_opening(said, self._members(said))
+
+    def kinds(self) -> Iterator[tuple[Told, int]]:
+        """Records that are not allowed under all ABIs, and those of the tried policy: of those that a summary counts as
+        one, the first, and how many there are. They are in the order of these first ones.
+
+        A kind is yielded again if many others came after it.
+        """
+        kinds: dict[_Kind, tuple[_Said, list[int]]] = {}
+        for said in self._lines():
+            kind = self._kind(said)
+            times = self._times(said[1])
+            if kind is None or not times:
+                continue
+            known = kinds.get(kind)
+            if known is not None:
+                known[1][0] += times
+                continue
+            if len(kinds) == MOST_KINDS:
+                yield from self._counted(kinds)
+                kinds.clear()
+            kinds[kind] = said, [times]
+        yield from self._counted(kinds)
+
+    def _counted(self, kinds: dict[_Kind, tuple[_Said, list[int]]]) -> Iterator[tuple[Told, int]]:
+        for (standing, *_), (said, (times,)) in kinds.items():
+            yield self._told(said, self._record(said), standing), times
+
+    def _lines(self) -> Iterator[_Said]:
+        """Reads both files, and yields the lines to decode. A long recording spends most of the time here."""
+        allowed, whole, processes, progress = self._allowed, self._whole, self._processes, self._progress
+        for first, lines, to_dos, answers in self._blocks():
+            records = path_calls = 0
+            for number, line, to_do, answer in zip(count(first), lines, to_dos, answers):
+                differs = not answer.endswith(allowed) if whole else answer != b""
+                if to_do == _ODD or self._careful:
+                    yield from self._with_care(number, line, to_do, answer, differs)
+                    continue
+                records += 1
+                if to_do & _ON_PATH and (line.endswith(LET_THROUGH) or _asked(line)):
+                    path_calls += 1
+                if differs or to_do >= _RULE or (to_do & _OPENS_NUMBER and processes.watched):
+                    yield number, line, to_do, answer, differs
+            self.records += records
+            self.path_calls += path_calls
+            if progress is not None:
+                progress.show(first, "answers read")
+        yield from self._united()
+
+    def _with_care(self, number: int, line: bytes, to_do: int, answer: bytes, differs: bool) -> Iterator[_Said]:
+        """Does as `_lines` with a line that may be blank, written again, in doubt, or stand for several records."""
+        if to_do == _ODD:
+            if not line.strip(jsonl.BLANKS):
+                return
+            to_do = _OTHERWISE if OTHERWISE in line and UNKNOWN in line else _READ
+        said = number, line, to_do, answer, differs
+        if to_do != _OTHERWISE:
+            yield from self._united()
+        self._again = self._again and AGAIN in line
+        if self._again:
+            self._taken_apart(said)
+        elif to_do == _OTHERWISE:
+            self._together.append(said)
+        else:
+            times = self._times(line)
+            self.records += times
+            if to_do == _READ and UNKNOWN in line:
+                self._together.append(said)
+            else:
+                self.path_calls += times if to_do & _ON_PATH and _asked(line) else 0
+                if differs or to_do >= _RULE or (to_do & _OPENS_NUMBER and self._processes.watched):
+                    yield said
+        self._careful = self._again or self._weighted or bool(self._together)
+
+    def _blocks(self) -> Iterator[tuple[int, list[bytes], list[int], list[bytes]]]:
+        """Reads both files in blocks: the number of the first line, the lines, what there is to do with each, and the
+        report's line on each, which is empty for a blank line and for a record that the report leaves out.
+        """
+        first, at, begins = 1, 0, _BEGINS.get
+        with open(self.files[0], "rb") as trace, open(self.files[1], "rb") as report:
+            shown = None if self._whole else reports.Shown(report)
+            while lines := trace.readlines(BLOCK):
+                self._offsets.extend(islice(accumulate(map(len, lines), initial=at), 1, None))
+                at = self._offsets[-1]
+                to_dos = [begins(line[:HEAD], _ODD) for line in lines]
+                if shown is not None:
+                    answers = shown.block(first, len(lines))
+                elif _ODD in to_dos:
+                    answers = [report.readline() if line.strip(jsonl.BLANKS) else b"" for line in lines]
+                else:
+                    answers = list(islice(report, len(lines)))
+                if len(answers) < len(lines):
+                    raise _other(*self.files)
+                yield first, lines, to_dos, answers
+                first += len(lines)
+            if not (report.readline() if shown is None else shown.line).startswith(reports.LAST):
+                raise _other(*self.files)
+
+    def _united(self) -> Iterator[_Said]:
+        """A record that may be another one, and what it would be then, each with what is known of the call."""
+        together, self._together = self._together, []
+        if not together:
+            return
+        answers, unsure = reports.united([answer for *_, answer, _ in together], self._abis)
+        times = self._times(together[0][1])
+        self.unsure.update({abi: times for abi in unsure})
+        for (number, line, to_do, answer, _), known in zip(together, answers):
+            if known or to_do != _OTHERWISE:
+                yield number, line, to_do, known or answer, bool(known)
+
+    def _times(self, line: bytes) -> int:
+        """How many records a line stands for."""
+        found = STANDS_FOR.search(line) if self._weighted else None
+        return 1 if found is None else int(found[1])
+
+    def _record(self, said: _Said) -> Record:
+        number, line, _, answer, _ = said
+        record = jsonl.read(self.files[0], number, line)
+        pid = record.get("pid")
+        if type(pid) is not int or not (answer.startswith(reports.head(number, pid)) or self._left_out(answer)):
+            raise _other(*self.files)
+        return record
+
+    def _left_out(self, answer: bytes) -> bool:
+        """Whether the report leaves a record out."""
+        return not self._whole and not answer
+
+    def _told(self, said: _Said, record: Record, standing: _Standing) -> Told:
+        number, _, _, _, differs = said
+        found = reports.not_allowed(self._members(said)[3]) if differs else ()
+        asked = record["op"] in PATH_CALLS and record.get("kernel") in ASKED_LANDLOCK
+        program, missed, confined = standing
+        return Told(number, record, found, program, asked, missed, confined)
+
+    def _taken_apart(self, said: _Said) -> Told:
+        """Decodes a record and its answer, and follows what they change."""
+        record, processes = self._record(said), self._processes
+        pid, fd = record["pid"], record.get("fd")
+        missed = processes.missed(pid, fd) if isinstance(fd, int) else NOWHERE
+        told = self._told(said, record, (processes.program(pid), missed, processes.confined(pid)))
+        not_allowed = frozenset(abi for abis, _ in told.answered for abi in abis) if self._whole else NOWHERE
+        processes.follow(told.line, record, not_allowed)
+        return told
+
+    def _kind(self, said: _Said) -> _Kind | None:
+        """Follows what a record changes, and gives its kind if a summary counts it."""
+        _, line, to_do, _, differs = said
+        members = self._members(said)
+        counts = differs or POLICY in line
+        if not counts and to_do < _STATE:
+            self._follow_opening(said, members)
+            return None
+        standing = None if to_do == _READ else self._standing(line, members, differs)
+        if standing is None or (to_do >= _STATE and not self._changes(line, _pid(members))):
+            told = self._taken_apart(said)
+            self.path_calls += told.times if told.asked and to_do == _READ else 0
+            counts = counts or "policy" in told.record
+            standing = told.program, told.missed, told.confined
+        own = OWN_OF_OPENING if members[2] == _OPEN else OWN
+        return (standing, own.sub(b"", line), members[3]) if counts else None
+
+    def _follow_opening(self, said: _Said, members: list[bytes]) -> None:
+        """Follows the opening of a number that may have been missed."""
+        if self._processes.misses(_pid(members)) and self._standing(said[1], members, False) is None:
+            self._taken_apart(said)
+
+    def _members(self, said: _Said) -> list[bytes]:
+        """The members of the report's line on a record: its number, process and operation, and the answers."""
+        members = reports.split(said[3])
+        if members[0] != b'{"line":%d' % said[0] or len(members) < 4:
+            raise _other(*self.files)
+        return members
+
+    def _standing(self, line: bytes, members: list[bytes], differs: bool) -> _Standing | None:
+        """The state of a record's process before the record; follows what the record does to numbers. The record is not
+        decoded for this; None if it is not written as landaudit-record writes it.
+        """
+        processes, (_, member, op, answers) = self._processes, members
+        if member + b"," not in line and member + b"}" not in line:
+            return None
+        pid, missed = _pid(members), NOWHERE
+        if op in _ON_NUMBERS:
+            found = (COPIES if op == _DUP else FD).search(line)
+            if found is None:
+                return None
+            missed = processes.missed(pid, int(found[1]))
+            if op == _OPEN:
+                processes.miss(pid, int(found[1]), reports.abis_of_others(answers) if differs else NOWHERE)
+            elif op == _DUP:
+                processes.miss(pid, int(found[2]), missed)
+            elif op == _CLOSE or op == _ADOPT:
+                processes.miss(pid, int(found[1]), NOWHERE)
+        return processes.program(pid), missed, processes.confined(pid)
+
+    def _changes(self, line: bytes, pid: int) -> bool:
+        """Follows what a record changes, if it is a frequent one and is written as landaudit-record writes it."""
+        found = CHANGES.fullmatch(line)
+        if found is None:
+            return False
+        op, child, path, role = found.groups()
+        match op:
+            case b"exit":
+                self._processes.end(pid)
+            case b"fork":
+                self._processes.fork(pid, int(child))
+            case b"exec" if role is None:
+                self._processes.run(pid, path.decode())
+        return True
+
+
+def _pid(members: list[bytes]) -> int:
+    """The process of a record, from the members of the report's line."""
+    return int(members[1][_PID:])
+
+
+def _asked(line: bytes) -> bool:
+    """Whether the kernel asked Landlock about a call that landaudit-record wrote, by the kernel's answer."""
+    at = line.rfind(KERNEL)
+    return at < 0 or line.startswith(_ASKED, at + len(KERNEL))
+
+
+def place_of(record: Record) -> Place | None:
+    """The paths or port that Landlock was asked about; None for other calls, and if Landlock was not asked."""
+    if record["op"] in PATH_CALLS and record.get("kernel") in ASKED_LANDLOCK:
+        return tuple(str(shown(record, member)) for member in OPERATIONS[record["op"]].paths)
+    return int(record["port"]) if record["op"] in PORT_CALLS else None
+
+
+def places(trace: Path) -> Counter[Place]:
+    """How many calls of a trace are about each path or port, in the order of the first ones.
+
+    Those that a part of a recording only writes again do not count.
+    """
+    found: Counter[Place] = Counter()
+    first: dict[bytes, tuple[int, bytes]] = {}
+    times: Counter[bytes] = Counter()
+
+    def count() -> None:
+        for kind, (number, line) in first.items():
+            record = jsonl.read(trace, number, line)
+            place = None if record.get("again") is True else place_of(record)
+            if place is not None:
+                found[place] += times[kind]
+
+    with open(trace, "rb") as lines:
+        for number, line in enumerate(lines, start=1):
+            if not _BEGINS.get(line[:HEAD], _READ) & (_ON_PATH | _ON_PORT | _READ) or not line.strip(jsonl.BLANKS):
+                continue
+            kind = OWN_OF_OPENING.sub(b"", line)
+            if kind not in first:
+                if len(first) == MOST_KINDS:
+                    count()
+                    first.clear()
+                    times.clear()
+                first[kind] = number, line
+            times[kind] += 1 if (said := STANDS_FOR.search(line)) is None else int(said[1])
+    count()
+    return found
+
+
+def subject_of(record: Record, opened: str | None = None) -> Subject:
+    """What a call is about: its path or paths, its port, or what its descriptor is open on, if that is known."""
+    if "from" in record:
+        return Subject((str(shown(record, "from")), str(shown(record, "to"))))
+    if "port" in record:
+        return Subject(port=record["port"])
+    path = shown(record, "path")
+    if path is None and "fd" in record and opened is None:
+        return Subject(number=Number("descriptor", record["fd"]))
+    path = path or opened
+    return Subject((path,)) if path else NOTHING

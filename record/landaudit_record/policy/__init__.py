@@ -1,0 +1,1 @@
+"""Policies: read, written, compared, put in force, and tried on calls that no program made."""

@@ -1,0 +1,238 @@
+"""What a policy must allow and what it must refuse: a TOML file of cases, in the words of a trace.
+
+    [[refused]]
+    call = "open r"
+    path = "/home/me/.ssh/id_ed25519"
+    [[allowed]]
+    call = "connect"
+    port = 443
+    abi = "4-5"
+
+A path has the kind that it has on this machine; if it does not exist, `kind` of the case says its kind. An object that
+a call makes does not exist before. Without `abi`, a case is about every ABI.
+
+The file may also have questions about all objects at once (`over_sets`).
+"""
+
+from __future__ import annotations
+
+from collections.abc import Iterator, Mapping
+from dataclasses import dataclass, field
+from pathlib import Path
+from typing import Any
+
+from ..common import resolving, variables
+from ..common.documents import Place, check_keys, tables, unknown
+from ..common.numbered import Numbered
+from ..common.operations import DESCRIPTOR_CALLS, EXCHANGE, JUDGED, MAKING, OPERATIONS, REMOVING
+from ..common.resolving import DISK, LinkLoop
+from ..common.trees import ROOT, Tree, directory_of, joined
+from ..common.variables import NOTHING_GIVEN, Given
+from ..recorder import disk
+from ..recorder.disk import MOST_INTERPRETERS
+from . import over_sets
+from .asking import Question, opening
+from .over_sets import ALL_ABIS as ALL_ABIS
+from .over_sets import abis_of
+from .policies import LONGEST_PATH, read_port
+
+KINDS = ("reg", "dir", "sym", "char", "block", "fifo", "sock")
+MODES = ("r", "w", "rw")
+MADE = ("reg", "char", "block", "fifo", "sock")
+#: What a case says of some calls besides the operation.
+WORDS = {
+    "open": [f" {mode}{flags}" for mode in MODES for flags in ("", " create", " trunc", " create trunc")],
+    "ioctl": [f" {mode}" for mode in MODES],
+    "mknod": [f" {kind}" for kind in MADE],
+}
+CALLS = tuple(word + rest for of in OPERATIONS.values() if of.name in JUDGED
+              for word in ((of.name, EXCHANGE) if EXCHANGE in of.optional else (of.name,))
+              for rest in WORDS.get(word, [""]))
+KEYS = ("call", "path", "kind", "from", "to", "to_kind", "port", "abi")
+NEW_NAME = "~new~"
+#: The place of a call that has none.
+NO_PLACE = "-"
+
+
+@dataclass(frozen=True)
+class Case:
+    """One case: whether its call must be refused, at which ABIs, the call and its place in words, and what is asked."""
+
+    refused: bool
+    abis: range
+    call: str
+    place: str
+    question: Question
+
+    @property
+    def must_be(self) -> str:
+        """What the answer must be."""
+        return "refused" if self.refused else "allowed"
+
+    @property
+    def text(self) -> str:
+        """The case in words; the call alone where it has no place."""
+        return self.call if self.place == NO_PLACE else f"{self.call} {self.place}"
+
+
+def _running(file: str) -> Question:
+    """What execve(2) asks about a file: the kernel opens it for reading and for execution."""
+    return opening(file, "r"), {"op": "close"}, {"op": "exec", "path": file}
+
+
+@dataclass
+class Cases:
+    """The cases of a file, in its order, those that must be refused first; the objects that they name; and the
+    questions."""
+
+    path: Path
+    cases: list[Case] = field(default_factory=list)
+    tree: Tree = field(default_factory=Tree)
+    questions: list[over_sets.SetQuestion] = field(default_factory=list)
+
+
+def read(path: Path, given: Given = NOTHING_GIVEN) -> Cases:
+    """The cases in a file; any error in it is a Problem that names its position and says what would be right."""
+    document, place = variables.read(path, given).table, Place(path)
+    check_keys(document, ("refused", "allowed", *over_sets.KINDS), place)
+    found = Cases(path)
+    for key in ("refused", "allowed"):
+        for number, table in enumerate(tables(document.get(key, []), key, place), start=1):
+            reader = _Reader(found.tree, table, place / Numbered(key, number))
+            found.cases.append(reader.case(refused=key == "refused"))
+    found.questions.extend(over_sets.read(document, place))
+    if not found.cases and not found.questions:
+        place.fault("no case: write one as [[refused]] or [[allowed]] with a call and its path or port")
+    return found
+
+
+@dataclass(frozen=True)
+class _Reader:
+    """Reads one case, and lists what it names in the tree."""
+
+    tree: Tree
+    table: Mapping[str, Any]
+    place: Place
+
+    def case(self, *, refused: bool) -> Case:
+        """The case."""
+        check_keys(self.table, KEYS, self.place)
+        call = self._call()
+        members = self._members(call)
+        question = self._question(call, members)
+        shown = " -> ".join(str(self.table[key]) for key in members if key in ("path", "from", "to"))
+        place = f"port {self.table['port']}" if "port" in members else shown or NO_PLACE
+        return Case(refused, abis_of(self.table, self.place), call, place, question)
+
+    def _call(self) -> str:
+        call = self.table.get("call")
+        if call is None:
+            self.place.fault("call is missing")
+        text = " ".join(call.split()) if isinstance(call, str) else call
+        if text not in CALLS:
+            (self.place / "call").fault(f"unknown call {unknown(str(text), CALLS)}")
+        return str(text)
+
+    def _members(self, call: str) -> tuple[str, ...]:
+        """The members that a call has besides its name; others are a fault."""
+        op = call.split()[0]
+        operation = OPERATIONS["rename" if op == EXCHANGE else op]
+        needed = ("path",) if op in DESCRIPTOR_CALLS else operation.paths + operation.ports
+        kinds = {"path": ("kind",), "from": ("kind", "to_kind")}.get(needed[0] if needed else "", ())
+        check_keys(self.table, ("call", *needed, *kinds, "abi"), self.place)
+        for key in needed:
+            if key not in self.table:
+                self.place.fault(f"{key} is missing: {call!r} needs it")
+        return needed
+
+    def _question(self, call: str, members: tuple[str, ...]) -> Question:
+        """The records that ask for the call."""
+        op, *words = call.split()
+        if members == ("path",):
+            return self._on_path(op, words)
+        if members == ("from", "to"):
+            return self._move(op)
+        if members == ("port",):
+            return ({"op": op, "port": read_port(self.table["port"], self.place / "port")},)
+        return ({"op": op},)
+
+    def _on_path(self, op: str, words: list[str]) -> Question:
+        if op == "open":
+            mode, *flags = words
+            makes = "create" in flags
+            path = self._there("path", "kind", follows=True, or_new=makes)
+            return (opening(path, mode, **{flag: True for flag in flags}),)
+        if op in MAKING:
+            return ({"op": op, "path": self._new("path"), **dict(zip(OPERATIONS[op].values, words))},)
+        path = self._there("path", "kind", follows=op not in REMOVING)
+        if op == "ftruncate":
+            return opening(path, "w"), {"op": op}
+        if op == "ioctl":
+            return opening(path, words[0]), {"op": op, "driver": True}
+        if op == "exec":
+            return tuple(record for file in self._run(path) for record in _running(file))
+        return ({"op": op, "path": path},)
+
+    def _run(self, path: str) -> Iterator[str]:
+        """The file that execve(2) runs, and those that run it: the programs after `#!`, and the loader."""
+        for _ in range(MOST_INTERPRETERS + 1):
+            yield path
+            named = disk.interpreter(path)
+            path = "" if named is None or not named.startswith("/") else resolving.walked(named, DISK).path
+            seen = disk.look(path) if path else None
+            if seen is None:
+                return
+            self._list(path, seen.kind, "path")
+
+    def _move(self, op: str) -> Question:
+        moved = self._there("from", "kind", follows=False)
+        there = self._there("to", "to_kind", follows=False, or_new=op != EXCHANGE)
+        if op == EXCHANGE:
+            return ({"op": "rename", "from": moved, "to": there, EXCHANGE: True},)
+        return ({"op": op, "from": moved, "to": there},)
+
+    def _there(self, key: str, kind_key: str, *, follows: bool, or_new: bool = False) -> str:
+        """The path of an object that exists, which is then listed; or of a new one if the call makes it."""
+        path = self._real(key, follows=follows)
+        given, seen = self.table.get(kind_key), disk.look(path)
+        if given is not None and given not in KINDS:
+            (self.place / kind_key).fault(f"unknown kind {unknown(str(given), KINDS)}")
+        if given is not None and seen is not None and given != seen.kind:
+            (self.place / kind_key).fault(f"{path} has kind {seen.kind!r} on this machine: leave out {kind_key}")
+        kind = given if seen is None else seen.kind
+        if kind is None and or_new:
+            return self._new(key)
+        if kind is None:
+            (self.place / key).fault(f'{path} is not on this machine: give its kind, as {kind_key} = "reg"')
+        self._list(path, kind, key)
+        return path
+
+    def _new(self, key: str) -> str:
+        """The path of an object that a call makes: Landlock judges it by its directory alone, so the name is a new one."""
+        path = self._real(key, follows=False)
+        directory = directory_of(path)
+        self._list(directory, "dir", key)
+        return joined(directory, path.rpartition("/")[2] + NEW_NAME)
+
+    def _real(self, key: str, *, follows: bool) -> str:
+        """A path without links, as the kernel walks it."""
+        path = self.table[key]
+        if not isinstance(path, str) or not path.startswith("/") or "\0" in path or len(path.encode()) > LONGEST_PATH:
+            (self.place / key).fault(f"{path!r} is not an absolute path: write it as \"/usr\"")
+        directory, _, name = path.rstrip("/").rpartition("/")
+        try:
+            if follows or name in ("", ".", ".."):
+                return resolving.walked(path, DISK).path
+            return joined(resolving.walked(directory or ROOT, DISK).path, name)
+        except LinkLoop:
+            (self.place / key).fault(f"{path} is a loop of symbolic links: name another path")
+
+    def _list(self, path: str, kind: str, key: str) -> None:
+        """Lists an object and the directories above it; one path has one kind in all cases."""
+        while True:
+            known = self.tree.kinds.setdefault(path, kind)
+            if known != kind:
+                (self.place / key).fault(f"{path} has kind {known!r} in another case, and kind {kind!r} here")
+            if path == ROOT:
+                return
+            path, kind = directory_of(path), "dir"

@@ -1,0 +1,83 @@
+"""Checks a policy against a file of cases, as values: what landaudit answers to each case, and to each question."""
+
+from __future__ import annotations
+
+from collections.abc import Iterator, Sequence
+from dataclasses import dataclass
+from pathlib import Path
+
+from ..common.problems import Problem
+from ..common.rights import NEWEST_ABI
+from ..engine.answers import MOOT, Answer
+from . import asking, cases, deciding, granting, parents
+from .cases import Case, Cases
+from .deciding import Decision
+from .granting import Grant
+from .policies import Policy
+
+
+@dataclass(frozen=True)
+class Outcome:
+    """A case with landaudit's answer at each of its ABIs, and the rules that grant one or more rights of the call."""
+
+    case: Case
+    answers: dict[int, Answer]
+    grants: Sequence[Grant]
+
+    @property
+    def holds(self) -> bool:
+        """Whether each answer is the one that the case wants."""
+        return all(found.allowed != self.case.refused for found in self.answers.values())
+
+    @property
+    def passes_somewhere(self) -> bool:
+        """Whether an ABI lets the call pass."""
+        return any(found.allowed for found in self.answers.values())
+
+
+@dataclass(frozen=True)
+class Checked:
+    """A policy, and the cases and questions of a file, each with what the policy says to it."""
+
+    policy: Path
+    cases: Path
+    outcomes: Sequence[Outcome]
+    decisions: Sequence[Decision]
+
+    @property
+    def results(self) -> Sequence[Outcome | Decision]:
+        """All of them: the cases first."""
+        return (*self.outcomes, *self.decisions)
+
+    @property
+    def held(self) -> int:
+        """How many hold."""
+        return sum(one.holds for one in self.results)
+
+    @property
+    def failed(self) -> int:
+        """How many do not."""
+        return len(self.results) - self.held
+
+
+def check(landaudit: Path, policy: Policy, given: Cases) -> Checked:
+    """Checks a policy whose parents are what they lead to on this machine."""
+    outcomes = list(_outcomes(landaudit, parents.under_all_names(policy, given.tree.kinds), given))
+    return Checked(policy.path, given.path, outcomes, deciding.decisions(policy, given.questions))
+
+
+def _outcomes(landaudit: Path, policy: Policy, given: Cases) -> Iterator[Outcome]:
+    """Each case with its answers."""
+    if not given.cases:
+        return
+    own = asking.under(policy, NEWEST_ABI, given.tree)
+    trial = asking.trial(own, ((case, case.question) for case in given.cases))
+    with asking.asker(landaudit, cases.ALL_ABIS, given.tree) as asker:
+        found = list(asker.answers([trial]))
+    grants = granting.grants(landaudit, policy, given.tree, [case.question for case in given.cases])
+    for (case, by_abi), granted in zip(found, grants):
+        answers = {abi: asking.decided(by_abi[abi]) for abi in case.abis}
+        for answer in answers.values():
+            if answer.verdict == MOOT:
+                raise Problem(f"{given.path}: {case.text}: Landlock is not asked: {answer.reason}")
+        yield Outcome(case, answers, granted)

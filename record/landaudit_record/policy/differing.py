@@ -1,0 +1,150 @@
+"""What one policy lets pass and another refuses, on every tree that has objects at the paths which the policies name.
+
+There each object has that name alone; `anywhere` says what else passes once objects are moved or linked, and which
+mounts, scopes and further layers do.
+
+landaudit-rules decides in which regions (`regions`) each right passes, and on which ports: a set of rights passes if
+each of them does. Moves are left to landaudit (`moving`).
+"""
+
+from __future__ import annotations
+
+from collections.abc import Iterator, Mapping, Sequence
+from dataclasses import dataclass, field
+from pathlib import Path
+
+from ..common.rights import FILE_RIGHTS, FS, NET
+from ..engine import landaudit_rules
+from . import anywhere, moving, ruling, sides
+from .anywhere import Chain, Gain, Named
+from .differing_layers import Abis, OfLayers
+from .moving import Move
+from .policies import Policy
+from .regions import Region, Regions
+from .ruling import Answer, Comparison, Objects, Passing
+from .sides import OF_OPENED, OPENING, REFER, Sides
+
+_NONE: Abis = frozenset()
+
+
+@dataclass(frozen=True)
+class About:
+    """A right in a region, or on a port and those like it; without both, on each port without a rule."""
+
+    right: str
+    region: Region | None = None
+    port: int | None = None
+
+    @property
+    def as_file(self) -> str | None:
+        """The path that is a file here, if one with a rule is."""
+        return self.region.path if self.region is not None and self.region.as_file else None
+
+
+Subject = About | Move | OfLayers | Chain | Gain
+
+
+@dataclass
+class Differences:
+    """What one policy lets pass and another refuses, with the ABIs at which it does; how many calls were compared."""
+
+    regions: Regions
+    more: dict[Subject, Abis] = field(default_factory=dict)
+    less: dict[Subject, Abis] = field(default_factory=dict)
+    tried: int = 0
+
+    def add(self, subject: About | Move, old: Abis, new: Abis) -> None:
+        """Notes the ABIs at which one policy lets a call pass and the other refuses it."""
+        file = subject.as_file
+        for found, alone in ((self.more, new - old), (self.less, old - new)):
+            at = frozenset(abi for abi in alone if file is None or not self.regions.is_directory(file, abi))
+            if at:
+                found[subject] = found.get(subject, _NONE) | at
+
+
+def differences(program: Path, old: Policy, new: Policy, abis: range) -> Differences:
+    """All differences of two policies at some ABIs."""
+    rules = landaudit_rules.find()
+    regions = Regions.of((old, new))
+    objects = Objects.of(regions.ruled)
+    both = [sides.at(regions, objects, abi) for abi in abis]
+    found = Differences(regions)
+    answers = ruling.answers(rules, objects, [_asked(of, objects, regions) for of in both])
+    for of, answer in zip(both, answers):
+        at = frozenset({of.abi})
+        for subject, is_new in _rights(objects, regions, answer):
+            found.add(subject, *((_NONE, at) if is_new else (at, _NONE)))
+    found.tried += _tried(objects, regions)
+    for tried in moving.tried(program, old, new, regions, abis, _passing(objects, answers)):
+        found.tried += 1
+        found.add(tried.move, tried.old, tried.new)
+    turned = [of.turned() for of in both]
+    for differing, one, other, seen in ((found.more, new, old, both), (found.less, old, new, turned)):
+        rest = anywhere.more(rules, one, other, objects, seen, _named(differing), _moved_to(differing))
+        differing.update(rest.items())
+    return found
+
+
+def _named(differing: Mapping[Subject, Abis]) -> Named:
+    """The rights that differ in regions, with the ABIs at which they do."""
+    return {(subject.right, subject.region): abis for subject, abis in differing.items()
+            if isinstance(subject, About) and subject.region is not None}
+
+
+def _moved_to(differing: Mapping[Subject, Abis]) -> Mapping[str, Abis]:
+    """The paths to under which moves differ, with the ABIs at which they do."""
+    found: dict[str, Abis] = {}
+    for subject, abis in differing.items():
+        if isinstance(subject, Move):
+            found[subject.to] = found.get(subject.to, _NONE) | abis
+    return found
+
+
+# ---- what landaudit-rules answers
+
+
+def _asked(of: Sides, objects: Objects, regions: Regions) -> Comparison:
+    """The policies, with the regions and a port of each group; one more port stands for those without a rule."""
+    return Comparison(of.old, of.new, objects.parents(), len(regions.numbered_ports))
+
+
+def _tried(objects: Objects, regions: Regions) -> int:
+    """How many rights are asked about: each for files in each region, but REFER, and each for ports on each port."""
+    files = objects.files().count(True)
+    directories = objects.files().count(False)
+    of_files = (len(FS.since) - 1) * directories + len(FILE_RIGHTS) * files
+    return of_files + len(NET.since) * len(regions.numbered_ports)
+
+
+def _rights(objects: Objects, regions: Regions, answer: Answer) -> Iterator[tuple[About, bool]]:
+    """Each right in each region and on each port where one policy alone lets it pass, and whether the new one does."""
+    named, ports = objects.named(), regions.numbered_ports
+    for right in FS.since:
+        if right != REFER:
+            for number, is_new in _alone(answer.regions[right]):
+                region = named[number]
+                if (not region.as_file or right in FILE_RIGHTS) and _can_be_told(right, number, answer):
+                    yield About(right, region), is_new
+    for right in NET.since:
+        yield from ((About(right, port=ports[number]), is_new) for number, is_new in _alone(answer.ports[right]))
+
+
+def _can_be_told(right: str, number: int, answer: Answer) -> bool:
+    """Whether a right can be told from a call: OF_OPENED is asked of what both policies let be opened."""
+    return right != OF_OPENED or any(number in answer.regions[opening].both for opening in OPENING)
+
+
+def _alone(passing: Passing) -> Iterator[tuple[int, bool]]:
+    """Where a right passes under one policy alone, in order, and whether that is the new one."""
+    yield from ((number, number in passing.new) for number in sorted(passing.old | passing.new))
+
+
+def _passing(objects: Objects, answers: Sequence[Answer]) -> moving.Pass:
+    """Under which paths each right passes, under each policy at each ABI."""
+    named = objects.named()
+
+    def paths(numbers: frozenset[int]) -> frozenset[str]:
+        return frozenset(named[number].path for number in numbers if not named[number].as_file)
+
+    return {right: [paths(where.both | alone) for answer in answers for where in (answer.regions[right],)
+                    for alone in (where.old, where.new)] for right in FS.since}

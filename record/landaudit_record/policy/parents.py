@@ -1,0 +1,106 @@
+"""The parents of a policy's rules: where each leads, and the names that an object has besides."""
+
+from __future__ import annotations
+
+import os
+import stat
+from collections import Counter
+from collections.abc import Callable, Iterable, Iterator
+from dataclasses import dataclass, replace
+
+from ..common.problems import Problem
+from ..common.resolving import NOWHERE, ROOT, Known, LinkLoop, Walked, walked
+from .policies import PathRule, Policy
+
+
+@dataclass(frozen=True)
+class Parent:
+    """A parent of a rule, with the number of its layer, and where it leads; a group's rule has the group."""
+
+    layer: int
+    rule: PathRule
+    written: str
+    led: Walked
+
+    @property
+    def place(self) -> str:
+        """The rule and the parent, in words."""
+        return f"layer {self.layer}, {self.rule.place}, parent {self.written}"
+
+
+def each(policy: Policy, known: Known) -> Iterator[Parent]:
+    """Each parent of a policy's rules, and where it leads; a loop of links is a Problem."""
+    for layer in policy.layers:
+        for rule in layer.path_beneath:
+            for written in rule.parents:
+                try:
+                    led = walked(written, known)
+                except LinkLoop as loop:
+                    place = f"{policy.path}: layer {layer.number}, {rule.place}, parent"
+                    raise Problem(f"{place}: {written} is a loop of symbolic links: name another path") from loop
+                yield Parent(layer.number, rule, written, led)
+
+
+def followed(policy: Policy, known: Known) -> Policy:
+    """The policy with what its parents lead to: a rule is on an object, and not on a link to it.
+
+    A parent that the kernel can't open is on no object. One that can only be a directory keeps a slash at its end.
+    """
+
+    def led(written: str) -> str:
+        found = walked(written, known)
+        if found.blocked is not None:
+            return NOWHERE
+        return found.path + "/" if found.only_directory and found.path != ROOT else found.path
+
+    return _with_parents(policy, lambda rule: tuple(map(led, rule.parents)))
+
+
+def under_all_names(policy: Policy, paths: Iterable[str]) -> Policy:
+    """The policy with each rule under all names that its object has among some paths of this disk.
+
+    A file has several names by hard links, and a directory by bind mounts. The policy's parents are as `followed` has
+    them, and there is no link on the way of a path.
+    """
+    names: dict[tuple[int, int], list[str]] = {}
+    for path in dict.fromkeys(paths):
+        if (of := _identity(path)) is not None:
+            names.setdefault(of, []).append(path)
+
+    def all_names(rule: PathRule) -> tuple[str, ...]:
+        others = (name for parent in rule.parents if (of := _identity(parent)) for name in names.get(of, ()))
+        written = {parent.rstrip("/") for parent in rule.parents}
+        return (*rule.parents, *dict.fromkeys(name for name in others if name.rstrip("/") not in written))
+
+    return _with_parents(policy, all_names)
+
+
+def with_other_names(policy: Policy, paths: Iterable[str]) -> list[str]:
+    """The parents that are files of this disk with names (hard links) beside those of the policy and some paths."""
+    written = dict.fromkeys(it.rstrip("/") or ROOT for layer in policy.layers for rule in layer.path_beneath
+                            for it in rule.parents)
+    known = Counter(_identity(path) for path in written | dict.fromkeys(paths))
+    return [path for path in written if (of := _identity(path)) is not None and _links(path) > known[of]]
+
+
+def _links(path: str) -> int:
+    """How many names an object has; a directory has one."""
+    status = os.lstat(path)
+    return 1 if stat.S_ISDIR(status.st_mode) else status.st_nlink
+
+
+def _identity(path: str) -> tuple[int, int] | None:
+    """What tells an object from all others of this disk."""
+    try:
+        status = os.lstat(path.rstrip("/") or ROOT)
+    except (OSError, ValueError):
+        return None
+    return status.st_dev, status.st_ino
+
+
+def _with_parents(policy: Policy, parents_of: Callable[[PathRule], tuple[str, ...]]) -> Policy:
+    """The policy with other parents."""
+    return replace(policy, layers=tuple(
+        replace(layer, path_beneath=tuple(replace(rule, parents=parents_of(rule)) for rule in layer.path_beneath))
+        for layer in policy.layers
+    ))

@@ -1,0 +1,193 @@
+"""Asks landaudit-rules what two policies let pass.
+
+A comparison has the layers of both policies with rules on objects by number (docs/RULES.md).
+"""
+
+from __future__ import annotations
+
+import json
+from collections.abc import Iterable, Mapping, Sequence
+from dataclasses import dataclass
+from functools import cache
+from pathlib import Path
+from typing import Any
+
+from ..common.rights import FS, NET, NONE, Rights
+from ..common.trees import ROOT, upwards
+from ..engine import landaudit_rules
+from .regions import Region
+
+Numbers = tuple[int, ...]
+
+
+@dataclass(frozen=True)
+class Objects:
+    """The objects that comparisons are about: the root, and each path with a rule as a directory and as a file."""
+
+    paths: Mapping[str, int]
+
+    @classmethod
+    def of(cls, paths: Iterable[str]) -> Objects:
+        """The objects of paths, of which none is the root."""
+        return cls({path: number for number, path in enumerate(paths)})
+
+    def directory(self, path: str) -> int:
+        """The number of a path as a directory."""
+        return 0 if path == ROOT else 2 * self.paths[path] + 1
+
+    def file(self, path: str) -> int:
+        """The number of a path as a file."""
+        return 2 * self.paths[path] + 2
+
+    def files(self) -> list[bool]:
+        """Which objects are files, by number."""
+        return [False, *(as_file for _ in self.paths for as_file in (False, True))]
+
+    def parents(self) -> Numbers:
+        """The number of what each object after the root is in: the nearest path above it, as a directory."""
+        over = (next((up for up in list(upwards(path))[1:] if up in self.paths), ROOT) for path in self.paths)
+        return tuple(number for path in over for number in 2 * [self.directory(path)])
+
+    def named(self) -> list[Region]:
+        """The objects by number."""
+        return [Region(ROOT), *(Region(path, as_file) for path in self.paths for as_file in (False, True))]
+
+
+@dataclass(frozen=True)
+class Rule:
+    """What a rule grants on objects by their numbers."""
+
+    rights: Rights
+    objects: Numbers
+
+    def less(self, gone: Mapping[int, Rights]) -> Iterable[Rule]:
+        """The rule without some rights on some objects."""
+        if gone.keys().isdisjoint(self.objects):
+            return (self,)
+        return (Rule(self.rights - gone.get(number, frozenset()), (number,)) for number in self.objects)
+
+
+@dataclass(frozen=True)
+class PortRule:
+    """What a rule grants on ports by their numbers."""
+
+    rights: Rights
+    ports: Numbers
+
+
+@dataclass(frozen=True)
+class Ruled:
+    """A layer of a policy at an ABI: what it handles, its rules on objects and on ports, and its scopes."""
+
+    number: int
+    handled: Rights
+    rules: tuple[Rule, ...]
+    scoped: frozenset[str] = frozenset()
+    handled_net: Rights = NONE
+    port_rules: tuple[PortRule, ...] = ()
+
+    def less(self, gone: Mapping[int, Rights]) -> Ruled:
+        """The layer without some rights on some objects."""
+        return Ruled(self.number, self.handled, tuple(one for rule in self.rules for one in rule.less(gone)), self.scoped)
+
+    def only(self, right: str, named: str | None = None) -> Ruled:
+        """The layer with one right alone, which gets another name if one is given."""
+        rights = frozenset({named or right})
+        rules = tuple(Rule(rights, rule.objects) for rule in self.rules if right in rule.rights)
+        return Ruled(self.number, rights if right in self.handled else frozenset(), rules)
+
+    def record(self, *, of_ports: bool) -> dict[str, Any]:
+        """The layer as a comparison has it, with its rules on ports if that is about ports."""
+        rules = [{"objects": rule.objects, "fs": _names(rule.rights)}
+                 for rule in self.rules if rule.rights and rule.objects]
+        record = {"fs": _names(self.handled), "object_rules": rules}
+        if of_ports:
+            record["net"] = NET.ordered(self.handled_net)
+            record["port_rules"] = [{"ports": rule.ports, "net": NET.ordered(rule.rights)} for rule in self.port_rules]
+        return {**record, **{scope: True for scope in sorted(self.scoped)}}
+
+
+Layers = tuple[Ruled, ...]
+
+
+@cache
+def _names(rights: Rights) -> list[str]:
+    """The names of rights for files, in order."""
+    return FS.ordered(rights)
+
+
+@dataclass(frozen=True)
+class Comparison:
+    """The layers of two policies, and what is asked of: regions by what each object is in, and so many ports."""
+
+    old: Layers
+    new: Layers
+    parents: Numbers = ()
+    ports: int = 0
+
+    def line(self, objects: Objects) -> str:
+        """The comparison as a line of JSON."""
+        sides = {name: [layer.record(of_ports=self.ports > 0) for layer in side]
+                 for name, side in (("old", self.old), ("new", self.new))}
+        about = {"files": objects.files(), "parents": self.parents, "ports": self.ports}
+        return json.dumps({**about, **sides}, separators=(",", ":"))
+
+
+@dataclass(frozen=True)
+class Into:
+    """A directory into which objects may be moved under the new layers alone, and on what these are."""
+
+    directory: int
+    chain: Numbers
+
+
+@dataclass(frozen=True)
+class Passing:
+    """Where a right passes under both policies, and where under one alone: regions or ports by their numbers."""
+
+    both: frozenset[int]
+    new: frozenset[int]
+    old: frozenset[int]
+
+
+@dataclass(frozen=True)
+class Answer:
+    """What landaudit-rules found: where each right passes and, for each right for files and each old layer by its index,
+    what passes once objects are moved."""
+
+    regions: Mapping[str, Passing]
+    ports: Mapping[str, Passing]
+    single: Mapping[str, list[Numbers]]
+    chains: Mapping[str, list[Numbers | None]]
+    gains: Mapping[str, list[Into | None]]
+    lost: frozenset[str]
+    spare_layers: int
+
+    @classmethod
+    def read(cls, found: Mapping[str, Any]) -> Answer:
+        """The answer on a line."""
+        of = {name: dict(zip(FS.since, found[name])) for name in ("single", "objects", "gains")}
+        return cls(
+            _passing(FS.since, found["regions"]),
+            _passing(NET.since, found["ports"]),
+            {right: [tuple(one) for one in row] for right, row in of["single"].items()},
+            {right: [None if one is None else tuple(one) for one in row] for right, row in of["objects"].items()},
+            {right: [None if one is None else Into(one["directory"], tuple(one["chain"])) for one in row]
+             for right, row in of["gains"].items()},
+            frozenset(name for name, layer in found["lost"].items() if layer is not None),
+            found["spare_layers"],
+        )
+
+
+def _passing(rights: Iterable[str], found: Sequence[Mapping[str, list[int]]]) -> dict[str, Passing]:
+    """Where each right passes."""
+    return {right: Passing(*(frozenset(where[policies]) for policies in ("both", "new", "old")))
+            for right, where in zip(rights, found)}
+
+
+def answers(program: Path, objects: Objects, comparisons: Sequence[Comparison]) -> list[Answer]:
+    """What is found of comparisons; those that are the same are asked about once."""
+    lines = [comparison.line(objects) for comparison in comparisons]
+    asked = list(dict.fromkeys(lines))
+    found = dict(zip(asked, landaudit_rules.ask(program, asked)))
+    return [Answer.read(found[line][0]) for line in lines]

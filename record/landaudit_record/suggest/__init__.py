@@ -1,0 +1,1 @@
+"""Rules that would let refused calls pass."""

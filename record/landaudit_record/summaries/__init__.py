@@ -1,0 +1,1 @@
+"""An audit for a person: tables in a terminal, and a page."""

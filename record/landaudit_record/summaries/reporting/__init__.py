@@ -1,0 +1,34 @@
+"""What a command found, in the formats that other programs read: SARIF, JUnit, Markdown and annotations of GitHub."""
+
+from __future__ import annotations
+
+import argparse
+from collections.abc import Callable, Iterator, Mapping
+
+from ...common.findings import Report
+from . import github, junit, markdown, sarif
+
+TEXT, JSON = "text", "json"
+_LINES: Mapping[str, Callable[[Report], Iterator[str]]] = {
+    "sarif": sarif.lines, "junit": junit.lines, "markdown": markdown.lines, "github": github.lines,
+}
+FORMATS = (TEXT, JSON, *_LINES)
+
+
+def add_format(parser: argparse.ArgumentParser, text: str = "text for a person") -> None:
+    """Adds the options that choose how the result is printed; `text` says what the default prints."""
+    chosen = parser.add_mutually_exclusive_group()
+    chosen.add_argument(
+        "--format",
+        choices=FORMATS,
+        default=TEXT,
+        help=f"how the result is printed: {text} (default), JSON, SARIF 2.1.0, JUnit's XML, Markdown, or annotations "
+        "of GitHub",
+    )
+    chosen.add_argument("--json", dest="format", action="store_const", const=JSON, help="print the result as JSON")
+
+
+def show(report: Report, chosen: str) -> None:
+    """Prints a report in a format."""
+    for line in _LINES[chosen](report):
+        print(line)

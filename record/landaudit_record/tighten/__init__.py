@@ -1,0 +1,1 @@
+"""A policy without the rights that recordings don't need."""
