@@ -6,8 +6,9 @@ UNIT_TESTS = python3 -m unittest discover -s $(1)/tests -t $(1)
 PROGRAM := crates/landaudit/out/landaudit
 RULES := crates/landaudit_rules/out/landaudit_rules
 
-# The witness, as `make witness` builds it.
+# The witness, as `make witness` builds it, and what keeps strace from waiting for file servers.
 WITNESS := $(CURDIR)/witness/out/landaudit-witness
+QUIET = $(dir $(WITNESS))landaudit-quiet.so
 
 # What the checks of the programs said, as `make landaudit` keeps them.
 CHECK := $(CURDIR)/crates/landaudit/out/check.txt
@@ -34,7 +35,8 @@ ROOT := $(DESTDIR)$(PREFIX)
 SCRIPTS := landaudit-record landaudit-policy
 MODULES := -name '*.py' -o -name '*.toml' -o -name 'page.css' -o -name 'page.js'
 COMMANDS := landaudit landaudit-rules $(SCRIPTS)
-SCHEMAS := audit.schema.json check.schema.json denials.schema.json recording.schema.json
+SCHEMAS := $(addsuffix .schema.json,audit check denials diff lint policy recording)
+JOBS := action.yml gitlab.yml
 INSTALLED := share/man/man5/landaudit.5 $(foreach command,$(COMMANDS),bin/$(command) share/man/man1/$(command).1 \
 	share/bash-completion/completions/$(command) share/zsh/site-functions/_$(command) \
 	share/fish/vendor_completions.d/$(command).fish)
@@ -72,13 +74,13 @@ witness:
 	@$(MAKE) --no-print-directory -C witness
 
 # The scripts, their modules and the groups of rules stay together in share/landaudit, with the schemas of what they
-# print; they find landaudit beside them in bin.
+# print and the jobs for CI; they find landaudit beside them in bin.
 install:
 	$(IS_BUILT)
 	@rm -rf '$(ROOT)/share/landaudit'
 	@for file in $(SCRIPTS) $$(cd record && find landaudit_record $(MODULES)); do \
 	install -D -m 644 record/$$file '$(ROOT)'/share/landaudit/$$file || exit 1; done
-	@for schema in $(SCHEMAS); do install -m 644 docs/$$schema '$(ROOT)/share/landaudit' || exit 1; done
+	@install -m 644 $(addprefix docs/,$(SCHEMAS)) $(addprefix packaging/,$(JOBS)) '$(ROOT)/share/landaudit'
 	@cd '$(ROOT)' && mkdir -p $(sort $(dir $(INSTALLED)))
 	@for script in $(SCRIPTS); do chmod 755 '$(ROOT)'/share/landaudit/$$script && \
 	ln -sf ../share/landaudit/$$script '$(ROOT)'/bin/$$script || exit 1; done
@@ -109,9 +111,10 @@ dist:
 	$(IS_PROVED)
 	@packaging/package dist $(MADE_OF)
 
-# The witness with its page and completions, into the same places as `make install`.
+# The witness, the library for strace, a page and completions, into the same places as `make install`.
 install-witness:
 	@install -D -m 755 -s '$(WITNESS)' '$(ROOT)/bin/landaudit-witness'
+	@install -D -m 644 -s '$(QUIET)' '$(ROOT)/lib/landaudit/landaudit-quiet.so'
 	@install -D -m 644 man/landaudit-witness.1 '$(ROOT)/share/man/man1/landaudit-witness.1'
 	@install -D -m 644 completions/landaudit-witness.bash '$(ROOT)/share/bash-completion/completions/landaudit-witness'
 	@install -D -m 644 completions/_landaudit-witness '$(ROOT)/share/zsh/site-functions/_landaudit-witness'
@@ -133,7 +136,9 @@ test:
 	{ $(MAKE) --no-print-directory --output-sync --jobs 4 $(TRIED) && bench/drive; } > $$log 2>&1; status=$$?; \
 	test $$status -eq 0 || { cat $$log >&2; rm -f '$(GATE)'; }; rm -f $$log; exit $$status
 	@$(MAKE) --no-print-directory test-witness
-	@python3 -c 'import jsonschema' 2> /dev/null || echo 'jsonschema is not installed: the tests of schemas were skipped'
+	@for library in 'hypothesis random tests' 'jsonschema tests of schemas'; do \
+	python3 -c "import $${library%% *}" 2> /dev/null || skipped="$$skipped, $${library#* } (needs $${library%% *})"; done; \
+	test -z "$$skipped" || echo "skipped: $${skipped#, }"
 
 # The tests of the recorder, in two parts that take about as long as one another.
 test-record: test-record-first test-record-rest

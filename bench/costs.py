@@ -9,6 +9,7 @@ import time
 from collections.abc import Sequence
 from dataclasses import dataclass
 from pathlib import Path
+from typing import IO
 
 KIB = 1024
 
@@ -35,11 +36,16 @@ def audit(program: Path, options: Sequence[str], files: Path, report: Path) -> C
     process for the program's until the program begins, so a peak says nothing if this process has more."""
     words = [str(program), *options, str(files / "tree.jsonl"), str(files / "trace.jsonl")]
     with open(report, "wb") as out:
-        began = time.monotonic()
-        child = subprocess.Popen(words, stdout=out)
-        _, status, usage = os.wait4(child.pid, 0)
-        seconds = time.monotonic() - began
+        return run(words, out, (0, 1))
+
+
+def run(words: Sequence[str], out: IO[bytes] | int, statuses: Sequence[int], folder: Path | None = None) -> Cost:
+    """Runs a program once, which must end with one of these statuses."""
+    began = time.monotonic()
+    child = subprocess.Popen(words, stdout=out, cwd=folder)
+    _, status, usage = os.wait4(child.pid, 0)
+    seconds = time.monotonic() - began
     child.returncode = os.waitstatus_to_exitcode(status)
-    if child.returncode not in (0, 1):
-        sys.exit(f"{program} ended with status {child.returncode}")
+    if child.returncode not in statuses:
+        sys.exit(f"{words[0]} ended with status {child.returncode}")
     return Cost(seconds, usage.ru_utime + usage.ru_stime, usage.ru_maxrss / KIB)

@@ -4,10 +4,10 @@
 _landaudit_policy_words() {
     case $1 in
         confine) echo '-h --help --set --abi --log --' ;;
-        check) echo '-h --help --set --json --landaudit' ;;
-        lint) echo '-h --help --set' ;;
-        diff) echo '-h --help --set --abi --landaudit' ;;
-        export) echo '-h --help --set --c --log' ;;
+        check) echo '-h --help --set --format --json --html --landaudit' ;;
+        lint) echo '-h --help --set --format --json' ;;
+        diff) echo '-h --help --old-allows --accepted --set --abi --format --json --html --landaudit' ;;
+        export) echo '-h --help --set --c --rust --go --setpriv --landrun --landlockconfig --json --widen --log' ;;
         import) echo '-h --help --landlockconfig --setpriv --landrun --firejail --program --process --set' ;;
         *) echo 'confine check lint diff export import -h --help -V --version' ;;
     esac
@@ -51,9 +51,12 @@ _landaudit_policy() {
     fi
     case "$sub $prev" in
         'confine --set' | 'check --set' | 'lint --set' | 'diff --set' | 'export --set' | 'import --setpriv' | 'import --landrun' | 'import --process' | 'import --set') compopt +o bashdefault +o default 2> /dev/null ;;
-        'confine --abi') _landaudit_policy_offer -W '1 2 3 4 5' ;;
-        'check --landaudit' | 'diff --landaudit' | 'import --landlockconfig' | 'import --firejail') _landaudit_policy_offer_files -f ;;
-        'diff --abi') _landaudit_policy_offer -W '1 2 3 4 5 1-2 1-3 1-4 1-5 2-3 2-4 2-5 3-4 3-5 4-5' ;;
+        'confine --abi') _landaudit_policy_offer -W '1 2 3 4 5 6 7' ;;
+        'check --format' | 'lint --format' | 'diff --format') _landaudit_policy_offer -W 'text json sarif junit markdown github' ;;
+        'check --html' | 'check --landaudit' | 'diff --html' | 'diff --landaudit' | 'import --landlockconfig' | 'import --firejail') _landaudit_policy_offer_files -f ;;
+        'diff --old-allows') _landaudit_policy_offer -W 'nothing everything' ;;
+        'diff --accepted') _landaudit_policy_offer_files -d; _landaudit_policy_offer_files -f -X '!*.toml' ;;
+        'diff --abi') _landaudit_policy_offer -W '1 2 3 4 5 6 7 1-2 1-3 1-4 1-5 1-6 1-7 2-3 2-4 2-5 2-6 2-7 3-4 3-5 3-6 3-7 4-5 4-6 4-7 5-6 5-7 6-7' ;;
         'import --program') _landaudit_policy_offer -c ;;
         *)
             if [[ -z $sub || $cur == -* ]]; then

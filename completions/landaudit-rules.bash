@@ -4,8 +4,10 @@ _landaudit_rules() {
     local cur=${COMP_WORDS[COMP_CWORD]}
     # With an empty answer bash completes names of files; - is standard input.
     COMPREPLY=()
-    if [[ $cur == -* ]]; then
-        mapfile -t COMPREPLY < <(compgen -W '-h --help -V --version -' -- "$cur")
+    if [[ ${COMP_WORDS[COMP_CWORD - 1]} == --calls ]]; then
+        mapfile -t COMPREPLY < <(compgen -W '1 2 3 4 5' -- "$cur")
+    elif [[ $cur == -* ]]; then
+        mapfile -t COMPREPLY < <(compgen -W '--calls --rights -h --help -V --version -' -- "$cur")
     fi
 }
 

@@ -32,8 +32,8 @@ def of_landaudit() -> set[str]:
 
 def of_rules() -> set[str]:
     """The options of landaudit-rules, read from the source of its command line."""
-    source = (TOP / "crates" / "ll_comparison" / "src" / "program.rt").read_text(encoding="utf-8")
-    return set(re.findall(r'^        "(--?[\w-]+)" => Request::', source, re.MULTILINE))
+    source = (TOP / "crates" / "landaudit_rules" / "src" / "asking.rt").read_text(encoding="utf-8")
+    return set(re.findall(r'^        "(--?[\w-]+)" => ', source, re.MULTILINE))
 
 
 def _makers_of_options(source: str) -> set[str]:

@@ -52,7 +52,7 @@ class Install(unittest.TestCase):
         self.assertEqual(self.make("install").returncode, 0)
         modules = [path.relative_to(TOP / "record") for path in (TOP / "record" / "landaudit_record").rglob("*")
                    if path.is_file() and path.suffix != ".pyc"]
-        self.assertIn(Path("landaudit_record/groups/base.toml"), modules)
+        self.assertIn(Path("landaudit_record/policy/groups/base.toml"), modules)
         self.assertEqual(
             files(self.prefix),
             {
@@ -62,9 +62,14 @@ class Install(unittest.TestCase):
                 "bin/landaudit-policy",
                 "share/landaudit/landaudit-record",
                 "share/landaudit/landaudit-policy",
+                "share/landaudit/action.yml",
+                "share/landaudit/gitlab.yml",
                 "share/landaudit/audit.schema.json",
                 "share/landaudit/denials.schema.json",
+                "share/landaudit/policy.schema.json",
                 "share/landaudit/check.schema.json",
+                "share/landaudit/lint.schema.json",
+                "share/landaudit/diff.schema.json",
                 "share/landaudit/recording.schema.json",
                 "share/man/man1/landaudit.1",
                 "share/man/man1/landaudit-rules.1",
@@ -107,7 +112,7 @@ class Install(unittest.TestCase):
         self.make("install")
         policy = self.root / "policy.toml"
         policy.write_text('[[layer]]\nhandled_access_fs = ["read_file"]\ninclude = ["base"]\n', encoding="utf-8")
-        status, text = self.said(self.prefix / "bin" / "landaudit-policy", "export", policy, "--c")
+        status, text = self.said(self.prefix / "bin" / "landaudit-policy", "export", policy, "--json")
         self.assertEqual(status, 0)
         self.assertIn('"/etc/ld.so.cache"', text)
 

@@ -62,7 +62,7 @@ class Rules(unittest.TestCase):
 
     def test_each_option_is_in_the_source_the_items_and_the_synopsis(self) -> None:
         for found in (options.of_rules(), items(self.page), flags(section(self.page, "SYNOPSIS"))):
-            self.assertEqual(found, {"-h", "--help", "-V", "--version"})
+            self.assertEqual(found, {"--calls", "--rights", "-h", "--help", "-V", "--version"})
 
     @unittest.skipUnless(BUILT_RULES.exists(), f"{BUILT_RULES} is not built")
     def test_the_built_program(self) -> None:
@@ -74,12 +74,13 @@ class Rules(unittest.TestCase):
         self.assertEqual((status, errors), (0, ""))
         self.assertEqual(set(re.findall(r"(?<![\w-])--?\w[\w-]*", text)) - {"-rules", "-policy"}, options.of_rules())
         self.assertRegex(said("-V")[1], rf"\Alandaudit-rules {VERSION} \(rattle-kit-\S+ logic [0-9a-f]+\)\n\Z")
-        for words in (("--abi",), ("a", "b")):
+        for words in (("--abi",), ("a", "b"), ("--calls",), ("--calls", "0"), ("--calls", "1", "-x")):
             self.assertEqual(said(*words), (2, "", "landaudit-rules: wrong words; see landaudit-rules --help\n"))
         self.assertEqual(said("/absent"), (3, "", "landaudit-rules: cannot read /absent\n"))
         self.assertEqual(said("/dev/null"), (0, "", ""))
         self.assertEqual(said(), (3, "", "landaudit-rules: line 1: Field\n"))
         self.assertEqual(said("-"), (3, "", "landaudit-rules: line 1: Field\n"))
+        self.assertEqual(said("--calls", "1"), (3, "", "landaudit-rules: line 1: Field\n"))
         with open("/dev/full", "wb") as full:
             run = subprocess.run([BUILT_RULES], stdout=full, stderr=subprocess.PIPE, text=True, check=False,
                                  input='{"files":[false],"ports":0}\n')

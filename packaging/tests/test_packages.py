@@ -291,7 +291,7 @@ class Tested(unittest.TestCase):
 
 class Versions(unittest.TestCase):
     def test_landaudit_and_the_scripts_have_one_version(self) -> None:
-        for crate, file in (("ll_command", "command.rt"), ("ll_comparison", "program.rt")):
+        for crate, file in (("ll_command", "command.rt"), ("landaudit_rules", "asking.rt")):
             source = (TOP / "crates" / crate / "src" / file).read_text(encoding="utf-8")
             self.assertEqual(re.findall(r'^pub const VERSION: &str = "(\S+) \(', source, re.MULTILINE), [VERSION])
 

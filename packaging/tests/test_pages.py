@@ -11,7 +11,7 @@ from collections.abc import Iterator
 from pathlib import Path
 from typing import Any
 
-from landaudit_record import policies
+from landaudit_record.policy import policies
 
 from .places import MAN, TOP, script
 
@@ -113,6 +113,9 @@ class Made(unittest.TestCase):
             self.made('A `b`, (`c d`) x`e`-y, `"f":-1` and open(2).'),
             ["A", ".Cm b ,", '.Cm ( "c d" )', ".No x Ns Cm e Ns \\-y,", ".Cm \\(dqf\\(dq:\\-1", "and", ".Xr open 2 ."],
         )
+
+    def test_pages_of_programs_with_two_words(self) -> None:
+        self.assertEqual(self.made("See landaudit-rules(1)."), ["See", ".Xr landaudit-rules 1 ."])
 
     def test_marks_that_mdoc_would_read(self) -> None:
         self.assertEqual(self.made("`.` and `Op` and `#!`."), [".Cm \\&.", "and", ".Cm \\&Op", "and", ".Cm #! ."])

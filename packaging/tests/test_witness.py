@@ -118,13 +118,16 @@ class Package(unittest.TestCase):
         return ran("make", "--no-print-directory", "witness-deb", f"WITNESS={program}", f"PACKAGES={self.folder}/out")
 
     def test_what_it_has(self) -> None:
-        run = self.make(stand_in(self.folder))
+        witness = stand_in(self.folder)
+        shutil.copy(witness, witness.with_name("landaudit-quiet.so"))
+        run = self.make(witness)
         self.assertEqual(run.returncode, 0, run.stderr)
         (package,) = (self.folder / "out").iterdir()
         listed = subprocess.run(["dpkg-deb", "-c", package], capture_output=True, text=True, check=True).stdout
         files = {line.split()[-1] for line in listed.splitlines() if line.startswith("-")}
         self.assertEqual(files, {
             "./usr/bin/landaudit-witness",
+            "./usr/lib/landaudit/landaudit-quiet.so",
             "./usr/share/bash-completion/completions/landaudit-witness",
             "./usr/share/doc/landaudit-witness/changelog.gz",
             "./usr/share/doc/landaudit-witness/copyright",
@@ -136,7 +139,8 @@ class Package(unittest.TestCase):
         self.assertIn("Package: landaudit-witness\n", about)
         self.assertRegex(about, r"\nDepends: libc6 ")
 
-    def test_no_witness(self) -> None:
-        run = self.make(self.folder / "absent")
-        self.assertEqual(run.returncode, 2)
-        self.assertIn("landaudit-witness is not built: run 'make witness' first", run.stderr)
+    def test_no_witness_or_no_library(self) -> None:
+        for program in (self.folder / "absent", stand_in(self.folder)):
+            run = self.make(program)
+            self.assertEqual(run.returncode, 2)
+            self.assertIn("landaudit-witness is not built: run 'make witness' first", run.stderr)

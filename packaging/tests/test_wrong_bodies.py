@@ -1,4 +1,4 @@
-"""docs/WRONG-BODIES.md names edits that are there."""
+"""docs/WRONG-BODIES.md names edits and tests that are there."""
 
 from __future__ import annotations
 
@@ -8,22 +8,29 @@ import unittest
 from .places import TOP
 
 DOCUMENT = (TOP / "docs" / "WRONG-BODIES.md").read_text(encoding="utf-8")
+CRATES = TOP / "crates"
 #: A crate, and what the page lists of its edits.
 CRATE = re.compile(r"^- `(\w+)/must-fail/`: ((?:.|\n  )*)", re.MULTILINE)
-#: The name of an edit; what is in parentheses beside it is not one.
-NAME = re.compile(r"`(\w+)`(?: \([^)]*\))?(?:, |,?\n|$)")
+#: A body that no contract refuses, and what fails.
+ROW = re.compile(r"^\| .* \| (.*) \|$", re.MULTILINE)
 
 
-class Edits(unittest.TestCase):
+class Bodies(unittest.TestCase):
     def test_each_edit_is_there(self) -> None:
-        listed = 0
-        for crate, text in CRATE.findall(DOCUMENT):
-            names = NAME.findall(re.sub(r"\s+", " ", text))
-            listed += len(names)
-            for name in names:
+        listed = CRATE.findall(DOCUMENT)
+        self.assertGreater(len(listed), 10)
+        for crate, text in listed:
+            for name in re.findall(r"`(\w+)`", text):
                 with self.subTest(crate, name=name):
-                    self.assertTrue((TOP / "crates" / crate / "must-fail" / f"{name}.edit").exists())
-        self.assertGreater(listed, 100)
+                    self.assertTrue((CRATES / crate / "must-fail" / f"{name}.edit").exists())
+
+    def test_each_test_is_there(self) -> None:
+        sources = "".join(file.read_text(encoding="utf-8") for file in sorted((CRATES / "ll_tests").rglob("*.rt")))
+        tests = [name for cell in ROW.findall(DOCUMENT) for name in re.findall(r"`(\w+_\w+)`", cell)]
+        self.assertGreater(len(tests), 8)
+        for name in tests:
+            with self.subTest(name):
+                self.assertRegex(sources, rf"\bfn {name}\b")
 
 
 if __name__ == "__main__":
