@@ -44,14 +44,14 @@ def _makers_of_options(source: str) -> set[str]:
     return makers | {name for name, text in texts.items() if called.search(text)}
 
 
-def subcommands(script: cli.Program) -> dict[str, set[str]]:
+def subcommands(script: cli.CommandLineProgram) -> dict[str, set[str]]:
     """The subcommands of a script, and the options of each."""
     top = cli.parser(script)
     action = next(action for action in top._actions if isinstance(action, argparse._SubParsersAction))
     return {name: _of(parser) for name, parser in action.choices.items()}
 
 
-def before_a_subcommand(script: cli.Program) -> set[str]:
+def before_a_subcommand(script: cli.CommandLineProgram) -> set[str]:
     """The options of a script before a subcommand."""
     return _of(cli.parser(script))
 

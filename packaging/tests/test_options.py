@@ -90,7 +90,7 @@ class Rules(unittest.TestCase):
 class Scripts(unittest.TestCase):
     """The programs that have subcommands, each with its page."""
 
-    def pages(self) -> Iterator[tuple[cli.Program, str]]:
+    def pages(self) -> Iterator[tuple[cli.CommandLineProgram, str]]:
         for script in options.SCRIPTS:
             with self.subTest(script.name):
                 yield script, (MAN / f"{script.name}.1").read_text(encoding="utf-8")

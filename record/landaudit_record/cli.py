@@ -23,7 +23,7 @@ from .common.wording import plain
 
 
 @dataclass(frozen=True)
-class Program:
+class CommandLineProgram:
     """A program of this package: its name, the text of its help, and its subcommands, the modules of a package."""
 
     name: str
@@ -41,7 +41,7 @@ class Program:
         return [importlib.import_module(f"{self.package}.{name}") for name in named or self.commands]
 
 
-RECORD = Program(
+RECORD = CommandLineProgram(
     RECORDER,
     "Record a program, try a Landlock policy on the recording, and read what breaks.",
     """landaudit-record run rec -- sort /etc/passwd
@@ -49,7 +49,7 @@ RECORD = Program(
     record.__name__,
     record.NAMES,
 )
-POLICY = Program(
+POLICY = CommandLineProgram(
     POLICIES,
     "Put a Landlock policy in force, compare policies, and check them, without a recording.",
     "landaudit-policy confine policy.toml -- sort /etc/passwd",
@@ -66,7 +66,7 @@ class _Parser(argparse.ArgumentParser):
         super().error(plain(message))
 
 
-def parser(program: Program = RECORD, words: Sequence[str] = ()) -> argparse.ArgumentParser:
+def parser(program: CommandLineProgram = RECORD, words: Sequence[str] = ()) -> argparse.ArgumentParser:
     """The parser of a program's command line, with all subcommands, or only the one that begins the words."""
     top = _Parser(
         prog=program.name,
@@ -90,7 +90,7 @@ def parser(program: Program = RECORD, words: Sequence[str] = ()) -> argparse.Arg
     return top
 
 
-def parse(words: Sequence[str], program: Program = RECORD) -> argparse.Namespace:
+def parse(words: Sequence[str], program: CommandLineProgram = RECORD) -> argparse.Namespace:
     """The arguments of a subcommand; the words after the first `--` are a command of their own, in `behind`."""
     end = words.index("--") if "--" in words else len(words)
     arguments, left = parser(program, words[:end]).parse_known_args(words[:end])
@@ -105,7 +105,7 @@ def parse(words: Sequence[str], program: Program = RECORD) -> argparse.Namespace
 MORE_OBJECTS = 100_000
 
 
-def main(words: Sequence[str] | None = None, program: Program = RECORD) -> int:
+def main(words: Sequence[str] | None = None, program: CommandLineProgram = RECORD) -> int:
     """Runs one subcommand of a program and gives the status that it ends with."""
     gc.set_threshold(MORE_OBJECTS)
     streams.make_whole()
@@ -127,7 +127,7 @@ def main(words: Sequence[str] | None = None, program: Program = RECORD) -> int:
         return _failed(program, f"{where}{error.strerror or error}", WANTING)
 
 
-def _failed(program: Program, why: str, status: int) -> int:
+def _failed(program: CommandLineProgram, why: str, status: int) -> int:
     """Says why a subcommand ends, if anything can still be said, and gives the status."""
     with contextlib.suppress(OSError):
         print(plain(f"{program.name}: {why}"), file=sys.stderr, flush=True)

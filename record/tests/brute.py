@@ -95,7 +95,7 @@ def _answer(line: str) -> Answer:
     return Answer(found.get("allowed", frozenset()), found.get("moot", frozenset()))
 
 
-def run(words: Sequence[str], program: cli.Program) -> tuple[int, str, str]:
+def run(words: Sequence[str], program: cli.CommandLineProgram) -> tuple[int, str, str]:
     """The status of a command, and what it writes to standard output and to standard error."""
     with contextlib.redirect_stdout(io.StringIO()) as out, contextlib.redirect_stderr(io.StringIO()) as errors:
         status = cli.main(words, program)

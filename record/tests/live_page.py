@@ -22,14 +22,14 @@ from contextlib import ExitStack
 from pathlib import Path
 from typing import Any, ClassVar
 
-from landaudit_record.audit.auditor import Tried
+from landaudit_record.audit.auditor import TriedPolicy
 from landaudit_record.audit.moot import FAILED_TOO, Unasked
 from landaudit_record.audit.summary import Accepted, Refusal, RefusingLayer, Summary
 from landaudit_record.audit.warnings import OfLog
 from landaudit_record.common.trees import Tree, upwards
 from landaudit_record.engine.answers import Missing
 from landaudit_record.engine.landaudit import BUILT
-from landaudit_record.engine.reading import Place
+from landaudit_record.engine.reading import NamedSubject
 from landaudit_record.engine.subjects import Subject
 from landaudit_record.policy import policies
 from landaudit_record.summaries import page
@@ -100,7 +100,7 @@ def summary(abi: int, groups: int) -> Summary:
 
 def written(folder: Path, summaries: list[Summary], name: str = "build.rec", facts: Sequence[Facts] = ()) -> Path:
     """The page of summaries, as a file."""
-    calls: Counter[Place] = Counter()
+    calls: Counter[NamedSubject] = Counter()
     for one in summaries:
         for place, times in one.not_allowed["refused"].items():
             calls[place] = times + 7
@@ -111,14 +111,14 @@ def written(folder: Path, summaries: list[Summary], name: str = "build.rec", fac
     return file
 
 
-def tried_in(folder: Path, summaries: list[Summary]) -> Tried:
+def tried_in(folder: Path, summaries: list[Summary]) -> TriedPolicy:
     """A policy that denies all, tried on the files that the summaries tell of."""
     file = folder / "policy.toml"
     file.write_text('[[layer]]\nhandled_access_fs = ["all"]\n', encoding="utf-8")
     kinds = {over: "dir" for one in summaries for refusal in one.refusals for path in refusal.subject.paths
              for over in upwards(path)}
     kinds |= {path: "reg" for one in summaries for refusal in one.refusals for path in refusal.subject.paths}
-    return Tried(None, policies.read(file), None, Tree(kinds), [])  # type: ignore[arg-type]
+    return TriedPolicy(None, policies.read(file), None, Tree(kinds), [])  # type: ignore[arg-type]
 
 
 def hostile() -> Summary:

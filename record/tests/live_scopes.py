@@ -20,7 +20,7 @@ from collections.abc import Callable, Sequence
 from pathlib import Path
 from typing import Any
 
-from landaudit_record.common.reach import ABSTRACT, PTRACE, SIGNAL, Layer, refusing
+from landaudit_record.common.reach import ABSTRACT, PTRACE, SIGNAL, ProcessLayer, refusing
 from landaudit_record.common.rights import ABI_OF_SCOPES
 from landaudit_record.policy import landlock_calls
 
@@ -350,7 +350,7 @@ class Rows(unittest.TestCase):
         if (missing := _wanting()) is not None:
             self.skipTest(missing)
 
-    def met(self, caller: Sequence[Layer], other: Sequence[Layer]) -> dict[str, bool]:
+    def met(self, caller: Sequence[ProcessLayer], other: Sequence[ProcessLayer]) -> dict[str, bool]:
         """What the kernel refuses of each kind between two processes with some layers."""
         shared = next((at for at, (one, two) in enumerate(zip(caller, other)) if one is not two),
                       min(len(caller), len(other)))
@@ -386,7 +386,7 @@ class Rows(unittest.TestCase):
             for mine in few:
                 for theirs in few[:4]:
                     three = (common, mine, theirs)
-                    shared, own, others = ([Layer(rights, words[word]) for word in one] for one in three)
+                    shared, own, others = ([ProcessLayer(rights, words[word]) for word in one] for one in three)
                     caller, other = (*shared, *own), (*shared, *others)
                     said = {asked: bool(refusing(asked, caller, [other], 7)) for asked in (SIGNAL, ABSTRACT, PTRACE)}
                     with self.subTest(common=common, mine=mine, theirs=theirs):

@@ -9,7 +9,7 @@ from typing import Any
 
 from landaudit_record.recorder.disk import Disk, Seen
 from landaudit_record.recorder.names import Names
-from landaudit_record.recorder.writing import LIMITS, Limits, Recording, Tree
+from landaudit_record.recorder.writing import LIMITS, Limits, ListedTree, Recording
 
 DIRECTORIES = ("/a", "/a/b", "/a/b/c", "/d", "/d/e", "/usr", "/usr/bin")
 FILES = tuple(f"{directory}/f{number}" for directory in DIRECTORIES for number in range(3))
@@ -44,7 +44,7 @@ def names() -> Names:
 def told(folder: Path, seed: int, calls: int, limits: Limits = LIMITS) -> Path:
     """The recording of a random story, in a folder."""
     objects = names()
-    with Recording(folder, Tree(objects), limits) as recording:
+    with Recording(folder, ListedTree(objects), limits) as recording:
         Story(seed, recording, objects).tell(calls)
         recording.finish(ended=True)
     return folder

@@ -10,9 +10,11 @@ from itertools import chain, combinations
 
 from landaudit_record.engine.landaudit_rules import BUILT
 from landaudit_record.policy import ruling
-from landaudit_record.policy.ruling import Answer, Comparison, Layers, Objects, Passing, PortRule, Rule, Ruled
+from landaudit_record.policy.ruling import (
+    Comparison, ComparisonAnswer, Layers, Passing, RuleOnObjects, RuleOnPorts, Ruled, RuledObjects
+)
 
-OBJECTS = Objects.of(("/a", "/b", "/a/f", "/g"))
+OBJECTS = RuledObjects.of(("/a", "/b", "/a/f", "/g"))
 DIRECTORIES = tuple(map(OBJECTS.directory, OBJECTS.paths))
 FILES = tuple(map(OBJECTS.file, OBJECTS.paths))
 RIGHT = "read_file"
@@ -46,8 +48,8 @@ def layers(of: random.Random) -> Layers:
     found = []
     for number in range(1, of.choice((1, 1, 2, 3)) + 1):
         some = [one for one in (0, *DIRECTORIES, *FILES) if of.random() < (0.1 if one == 0 else 0.4)]
-        rules = [Rule(frozenset({RIGHT}), (one,)) for one in some]
-        rules += [Rule(frozenset({"execute"}), (one,)) for one in some if of.random() < 0.3]
+        rules = [RuleOnObjects(frozenset({RIGHT}), (one,)) for one in some]
+        rules += [RuleOnObjects(frozenset({"execute"}), (one,)) for one in some if of.random() < 0.3]
         of.shuffle(rules)
         found.append(Ruled(number, frozenset({RIGHT} if of.random() < 0.9 else {"execute"}), tuple(rules)))
     return tuple(found)
@@ -80,7 +82,7 @@ class Anywhere(unittest.TestCase):
             self.assertEqual(answer.spare_layers, max(0, len(pair.old) - len(pair.new)))
         self.assertGreater(kept, SEEDS // 20)
 
-    def of_objects(self, where: set[Placed], answer: Answer, index: int) -> None:
+    def of_objects(self, where: set[Placed], answer: ComparisonAnswer, index: int) -> None:
         """A chain is told if there is one, and each object that is enough by itself."""
         told = answer.chains[RIGHT][index]
         self.assertEqual(told is None, not where)
@@ -90,7 +92,7 @@ class Anywhere(unittest.TestCase):
         alone = {number for number in (0, *DIRECTORIES, *FILES) if frozenset({0, number}) in where}
         self.assertEqual(set(answer.single[RIGHT][index]), alone)
 
-    def of_gains(self, old: Ruled, new: Sequence[Ruled], answer: Answer, index: int) -> None:
+    def of_gains(self, old: Ruled, new: Sequence[Ruled], answer: ComparisonAnswer, index: int) -> None:
         """A gain is told if there is one: of what goes into a directory that an old layer grants on."""
         gains = {into: refused(old, [one for one in new if into in granted(one)])
                  for into in granted(old).intersection((0, *DIRECTORIES))}
@@ -113,7 +115,7 @@ class Anywhere(unittest.TestCase):
                     {number for number in over if all(passes(layer, placed[number]) for layer in side)}
                     for side in (pair.old, pair.new)))
         bound = Ruled(1, frozenset(), (), handled_net=frozenset({"bind_tcp"}),
-                      port_rules=(PortRule(frozenset({"bind_tcp"}), (1,)),))
+                      port_rules=(RuleOnPorts(frozenset({"bind_tcp"}), (1,)),))
         of_ports = Comparison((bound,), (bound, replace(bound, port_rules=())), ports=3)
         (found,) = ruling.answers(BUILT, OBJECTS, [of_ports])
         self.of_passing(found.ports["bind_tcp"], {1}, set())

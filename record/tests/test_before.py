@@ -6,7 +6,7 @@ import unittest
 
 from landaudit_record.common.jsonl import numbered
 from landaudit_record.recorder.calls import descriptors, inexpressible, landlock, opening, ptrace
-from landaudit_record.recorder.mounted import Places
+from landaudit_record.recorder.mounted import MountPlaces
 from landaudit_record.recorder.names import OF_KIND, UNKNOWN_WAY
 
 from .written_logs import CWD, DISK, WrittenLogs, told
@@ -143,21 +143,21 @@ class OtherProc(WrittenLogs):
 
 class SeveralPaths(unittest.TestCase):
     def test_the_other_paths_of_an_object(self) -> None:
-        places = Places(TWICE)
+        places = MountPlaces(TWICE)
         for path, others in {"/b": ["/w/d"], "/b/x/y": ["/w/d/x/y"], "/w/d/x": ["/b/x"], "/w": [], "/m/x": []}.items():
             self.assertEqual(places.others(path), others, path)
 
     def test_a_directory_with_a_mount_below_it_is_not_the_same_everywhere(self) -> None:
-        places = Places([*TWICE, ["/w/d/in", "8:3", "/", "xfs"]])
+        places = MountPlaces([*TWICE, ["/w/d/in", "8:3", "/", "xfs"]])
         self.assertEqual((places.others("/b"), places.others("/b/in"), places.others("/b/x")), ([], [], ["/w/d/x"]))
 
     def test_a_directory_that_is_mounted_in_itself(self) -> None:
-        places = Places([["/", "8:1", "/", "ext4"], ["/w/d", "8:1", "/w", "ext4"]])
+        places = MountPlaces([["/", "8:1", "/", "ext4"], ["/w/d", "8:1", "/w", "ext4"]])
         found = [places.others(path) for path in ("/w", "/w/d", "/w/d/d", "/w/x")]
         self.assertEqual(found, [[], [], [], ["/w/d/x"]])
 
     def test_without_mounts_nothing_is_known(self) -> None:
-        self.assertEqual((Places().others("/w"), Places().are_one("/w", "/w")), ([], None))
+        self.assertEqual((MountPlaces().others("/w"), MountPlaces().are_one("/w", "/w")), ([], None))
 
 
 class OpenedInside(WrittenLogs):

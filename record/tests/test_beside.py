@@ -29,7 +29,7 @@ class Follows(unittest.TestCase):
         """What was seen by its path or program. Lines are written to the log, and other steps are done when all that
         the log has was read.
         """
-        following = beside.Beside(self.log, str(self.there), time.time(), watched)
+        following = beside.LogFollower(self.log, str(self.there), time.time(), watched)
         self.log.touch()
         following.start()
         for step in steps:
@@ -43,7 +43,7 @@ class Follows(unittest.TestCase):
         lines = [line for _, line in jsonl.numbered(self.out)]
         return {line.get("program", line.get("path")): line for line in lines}
 
-    def wait(self, following: beside.Beside) -> None:
+    def wait(self, following: beside.LogFollower) -> None:
         """Waits until the log was read to its end."""
         end = time.monotonic() + SOON
         while not following.is_up_to_date():
@@ -113,7 +113,7 @@ class Follows(unittest.TestCase):
         self.assertEqual(seen[self.at("f")]["kind"], "reg")
 
     def test_a_log_that_was_never_written(self) -> None:
-        following = beside.Beside(self.log, str(self.there), time.time(), ())
+        following = beside.LogFollower(self.log, str(self.there), time.time(), ())
         following.start()
         following.stop(self.out)
         self.assertFalse(self.out.exists())
@@ -129,11 +129,11 @@ class Mounts(unittest.TestCase):
 
     LINE = "{id} 1 0:{id} / {at} rw,relatime - {kind} none rw\n"
 
-    def mounts(self, *mounted: tuple[str, str]) -> beside.Mounts:
+    def mounts(self, *mounted: tuple[str, str]) -> beside.WatchedMounts:
         file = Path(self.enterContext(tempfile.TemporaryDirectory())) / "mountinfo"
         lines = (self.LINE.format(id=number, at=at, kind=kind) for number, (at, kind) in enumerate(mounted, start=20))
         file.write_text("".join(lines), encoding="utf-8")
-        found = beside.Mounts(file)
+        found = beside.WatchedMounts(file)
         self.addCleanup(found.close)
         return found
 

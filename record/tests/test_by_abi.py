@@ -7,7 +7,7 @@ import unittest
 from collections import Counter
 
 from landaudit_record.audit import by_abi
-from landaudit_record.audit.by_abi import Kind, Step
+from landaudit_record.audit.by_abi import VisibleRefusal
 from landaudit_record.audit.summary import Refusal, RefusingLayer, Summary
 from landaudit_record.audit.warnings import OfLog
 from landaudit_record.summaries import summary_text
@@ -16,12 +16,12 @@ from landaudit_record.summaries.summary_text import Style
 from .worded import subject
 
 LAYER = RefusingLayer(1, 1, ())
-MOVE = Kind("rename", subject("/a/f -> /b/f"), "EXDEV")
-CUT = Kind("open w trunc", subject("/a/f"), "EACCES")
-CALL = Kind("connect", subject("port 443"), "EACCES")
+MOVE = VisibleRefusal("rename", subject("/a/f -> /b/f"), "EXDEV")
+CUT = VisibleRefusal("open w trunc", subject("/a/f"), "EACCES")
+CALL = VisibleRefusal("connect", subject("port 443"), "EACCES")
 
 
-def summary(abi: int, *kinds: Kind, warnings: tuple[str, ...] = ()) -> Summary:
+def summary(abi: int, *kinds: VisibleRefusal, warnings: tuple[str, ...] = ()) -> Summary:
     """A summary with ten calls allowed, one moot, and one refused for each mention of a kind."""
     counts = Counter(allowed=10, moot=1, refused=len(kinds))
     found = Summary(abi, counts, warnings=dict.fromkeys(map(OfLog, warnings), 1))
@@ -31,7 +31,7 @@ def summary(abi: int, *kinds: Kind, warnings: tuple[str, ...] = ()) -> Summary:
     return found
 
 
-def changes(*summaries: Summary) -> list[tuple[tuple[Kind, ...], tuple[Kind, ...]]]:
+def changes(*summaries: Summary) -> list[tuple[tuple[VisibleRefusal, ...], tuple[VisibleRefusal, ...]]]:
     """What breaks at each ABI, and what is refused no more."""
     return [(step.breaks, step.no_more) for step in by_abi.steps(summaries)]
 
@@ -78,7 +78,7 @@ class Steps(unittest.TestCase):
         self.assertEqual(changes(both)[0][0], (CALL,))
 
     def test_another_error_is_another_kind_and_the_call_stays_refused(self) -> None:
-        other = Kind(MOVE.call, MOVE.subject, "EACCES")
+        other = VisibleRefusal(MOVE.call, MOVE.subject, "EACCES")
         self.assertEqual(changes(summary(1, MOVE), summary(2, other)), [((MOVE,), ()), ((other,), ())])
 
     def test_warnings_that_the_newest_has_not(self) -> None:
@@ -88,7 +88,7 @@ class Steps(unittest.TestCase):
 
 class Written(unittest.TestCase):
     def test_a_row_for_each_abi_and_each_change(self) -> None:
-        other = Kind("exec", subject("/bin"), "EACCES")
+        other = VisibleRefusal("exec", subject("/bin"), "EACCES")
         self.assertEqual(table(summary(1, MOVE, MOVE), summary(2, other), summary(3, other)), [
             "  ABI  allowed  refused  moot  what changes",
             "    1       10        2     1  breaks: rename /a/f -> /b/f EXDEV",
@@ -98,18 +98,18 @@ class Written(unittest.TestCase):
         ])
 
     def test_a_few_kinds_are_named(self) -> None:
-        kinds = [Kind("bind", subject(f"port {port}"), "EACCES") for port in range(5)]
+        kinds = [VisibleRefusal("bind", subject(f"port {port}"), "EACCES") for port in range(5)]
         row = table(summary(4, *kinds), summary(5), width=120)[1]
         self.assertTrue(row.endswith("  breaks: bind port 0 EACCES, bind port 1 EACCES, bind port 2 EACCES and 2 more"))
         self.assertTrue(table(summary(4, *kinds[:3]), summary(5), width=120)[1].endswith(", bind port 2 EACCES"))
         self.assertTrue(table(summary(4, *kinds), summary(5))[1].endswith("  breaks: bind port 0 EACCES and 4 more"))
 
     def test_a_call_that_is_about_nothing_by_name(self) -> None:
-        row = table(summary(1, Kind("restrict", subject("-"), "EBADF")), summary(2))[1]
+        row = table(summary(1, VisibleRefusal("restrict", subject("-"), "EBADF")), summary(2))[1]
         self.assertTrue(row.endswith("  breaks: restrict EBADF"))
 
     def test_a_descriptor_that_no_program_had_has_no_number(self) -> None:
-        row = table(summary(1, Kind("ioctl", subject("descriptor 1000001"), "EACCES")), summary(2))[1]
+        row = table(summary(1, VisibleRefusal("ioctl", subject("descriptor 1000001"), "EACCES")), summary(2))[1]
         self.assertTrue(row.endswith("  breaks: ioctl a file of its own EACCES"))
 
     def test_warnings_that_the_summary_does_not_show(self) -> None:
@@ -118,7 +118,7 @@ class Written(unittest.TestCase):
                          ["2 more warnings: see --abi 1", "1 more warning: see --abi 2", ""])
 
     def test_a_path_cannot_speak_to_the_terminal(self) -> None:
-        rows = table(summary(1, Kind("open r", subject("/a/\x1b[2J\n"), "EACCES")), summary(2))
+        rows = table(summary(1, VisibleRefusal("open r", subject("/a/\x1b[2J\n"), "EACCES")), summary(2))
         self.assertIn(r"/a/\x1b[2J\n", rows[1])
         self.assertNotIn("\x1b", "".join(rows))
 

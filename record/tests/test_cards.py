@@ -7,7 +7,7 @@ import unittest
 from collections import Counter
 from pathlib import Path
 
-from landaudit_record.audit.auditor import Tried
+from landaudit_record.audit.auditor import TriedPolicy
 from landaudit_record.audit.summary import Refusal, RefusingLayer, Summary
 from landaudit_record.common.trees import Tree, upwards
 from landaudit_record.engine.answers import Closed, Gained, Missing, Mounting, Objection
@@ -46,7 +46,7 @@ class Cards(unittest.TestCase):
         kinds = {over: "dir" for one in refusals for path in one.subject.paths
                  for over in upwards(path)}
         kinds |= {path: "reg" for one in refusals if one.call == "open" for path in one.subject.paths}
-        tried = Tried(None, self.policy(text), None, tree or Tree(kinds), [])  # type: ignore[arg-type]
+        tried = TriedPolicy(None, self.policy(text), None, tree or Tree(kinds), [])  # type: ignore[arg-type]
         found = Summary(abi, refusals={one: Counter({"/usr/bin/a": 2}) for one in refusals})
         return read(cards.cards([found], tried, [])).all("article")
 
@@ -161,7 +161,7 @@ class Cards(unittest.TestCase):
 
     def test_equal_cards_of_some_abis_are_written_once(self) -> None:
         tree = Tree({"/": "dir", "/a": "reg", "/b": "reg"})
-        tried = Tried(None, self.policy(), None, tree, [])  # type: ignore[arg-type]
+        tried = TriedPolicy(None, self.policy(), None, tree, [])  # type: ignore[arg-type]
         one, other = {opened("/a"): Counter(a=1)}, {opened("/a"): Counter(a=1), opened("/b", "execute"): Counter(a=1)}
         summaries = [Summary(3, refusals=one), Summary(4, refusals=one), Summary(5, refusals=other)]
         shown = read(cards.cards(summaries, tried, [])).all("div", "cards")

@@ -10,7 +10,7 @@ from landaudit_record.common.jsonl import Record
 from landaudit_record.common.problems import Problem
 from landaudit_record.recorder import converting
 from landaudit_record.recorder.ports import Ports
-from landaudit_record.recorder.writing import Recording, Tree
+from landaudit_record.recorder.writing import ListedTree, Recording
 
 from .kept_logs import LOGS, KeptLogs
 from .stories import names
@@ -87,7 +87,7 @@ class Halves(WrittenLogs):
         self.assertEqual([(record["op"], record["fd"]) for record in trace], [("open", 3), ("close", 3), ("open", 4)])
 
     def test_records_of_a_call_that_is_dropped(self) -> None:
-        with Recording(self.out, Tree(names())) as recording:
+        with Recording(self.out, ListedTree(names())) as recording:
             recording.write("open", 1, 1, "ok", path="/w/f", fd=1_000_001)
             recording.write("close", 1, 1, fd=1_000_001)
             recording.write("close", 1, 1, fd=3)

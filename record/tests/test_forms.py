@@ -19,7 +19,7 @@ from unittest import mock
 from landaudit_record import cli
 from landaudit_record.common.problems import UNREADABLE, USAGE
 from landaudit_record.common.rights import FS, NET, NEWEST_ABI, OLDEST_ABI, SCOPES
-from landaudit_record.policy import fitting, policies, policy_text
+from landaudit_record.policy import fitting, policy_text
 from landaudit_record.policy.policies import HIGHEST_PORT, Layer, Policy
 from landaudit_record.recorder import converting
 from landaudit_record.recorder.ports import Ports

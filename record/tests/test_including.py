@@ -16,9 +16,9 @@ from landaudit_record.common.trees import ROOT, Tree
 from landaudit_record.policy import applying, confining, fitting, policies, policy_text, sensitive
 from landaudit_record.policy.policies import Access, Policy
 from landaudit_record.suggest import styling, suggestion_text
-from landaudit_record.suggest.missing_rights import CallId, Lacking, Rule, Wanted
+from landaudit_record.suggest.missing_rights import CallId, CallsByRight, SuggestedRule, Wanted
 from landaudit_record.suggest.placing import RulePlace
-from landaudit_record.suggest.suggesting import Making, Suggestion, with_rules
+from landaudit_record.suggest.suggesting import RuleMaking, Suggestion, with_rules
 
 from .test_confining import Kernel
 from .test_policies import READING, RULE, read
@@ -151,7 +151,7 @@ class Taken(unittest.TestCase):
                 for right in rule.allowed_access.rights}
 
 
-def asked(*rights: str, call: int = 1) -> Lacking:
+def asked(*rights: str, call: int = 1) -> CallsByRight:
     return {right: {CallId(0, call)} for right in rights}
 
 
@@ -166,7 +166,7 @@ class Suggested(unittest.TestCase):
         {"/lib": "usr/lib"},
     )
 
-    def styled(self, wanted: dict[str, Lacking], handled: Sequence[str] = tuple(FS.since)) -> styling.Styled:
+    def styled(self, wanted: dict[str, CallsByRight], handled: Sequence[str] = tuple(FS.since)) -> styling.Styled:
         found = Wanted(wanted, [RulePlace(path, path) for path in wanted], {})
         return styling.with_groups(found, frozenset(handled), [self.TREE])
 
@@ -197,12 +197,12 @@ class Suggested(unittest.TestCase):
     def test_rules_beside_them(self) -> None:
         paths = {"/etc/passwd": asked("read_file"), "/etc/group": asked("read_file"), "/etc/hosts": asked("write_file")}
         wanted = Wanted(paths, [RulePlace(path, path) for path in paths], {})
-        groups, rules = Making(in_groups=True).rules(read(ALL).layers[0], wanted, [self.TREE])
+        groups, rules = RuleMaking(in_groups=True).rules(read(ALL).layers[0], wanted, [self.TREE])
         self.assertEqual((groups, [rule.place for rule in rules]), ({"nameservice": 1}, ["/etc/hosts"]))
-        self.assertEqual(Making().rules(read(ALL).layers[0], wanted, [self.TREE])[0], {})
+        self.assertEqual(RuleMaking().rules(read(ALL).layers[0], wanted, [self.TREE])[0], {})
 
     def test_what_is_printed_pastes_behind_any_rule(self) -> None:
-        rule = Rule("/w", frozenset({"make_reg"}), 1)
+        rule = SuggestedRule("/w", frozenset({"make_reg"}), 1)
         none = Counter[str]()
         found = Suggestion({1: [rule]}, none, none, 2, True, none, {1: {"base": 3, "tmp": 1}})
         before = ALL + RULE + 'allowed_access = ["read_file"]\nparent = "/a"\n'

@@ -17,7 +17,7 @@ from pathlib import Path
 from landaudit_record.engine.answers import Closed, Missing, Mounting, Objection, Scoped, Tracing
 from landaudit_record.kernel_log import calls, counting, data, denials, granting, records
 from landaudit_record.kernel_log.denials import Denial, Log
-from landaudit_record.kernel_log.records import Unread
+from landaudit_record.kernel_log.records import UnreadRecord
 
 DENIED = Path(__file__).resolve().parent / "denied"
 HEADERS = Path("/usr/include")
@@ -393,7 +393,7 @@ def _numbers(lines: Iterable[str]) -> Iterable[tuple[str, int]]:
 
 class Told(unittest.TestCase):
     def test_an_unread_line_is_one_line(self) -> None:
-        self.assertEqual(str(Unread("log:3", "is cut")), "log:3: is cut")
+        self.assertEqual(str(UnreadRecord("log:3", "is cut")), "log:3: is cut")
 
 
 if __name__ == "__main__":

@@ -10,7 +10,7 @@ from pathlib import Path
 
 from landaudit_record.recorder import recordings
 from landaudit_record.recorder.calls import ptrace
-from landaudit_record.recorder.calls.ways import WAYS
+from landaudit_record.recorder.calls.path_arguments import PATH_ARGUMENTS
 from landaudit_record.recorder.looks import LOOKS, READLINKS
 from landaudit_record.recorder.tracing import command_line
 
@@ -136,7 +136,7 @@ class Looks(WrittenLogs):
         self.assertEqual(self.counted(*lines), [LOOK])
 
     def test_all_of_them_have_their_paths_known(self) -> None:
-        self.assertLessEqual(LOOKS | READLINKS, set(WAYS))
+        self.assertLessEqual(LOOKS | READLINKS, set(PATH_ARGUMENTS))
 
     def test_readlink_is_traced_where_it_is_asked_for(self) -> None:
         for readlink, traced in ((False, LOOKS), (True, LOOKS | READLINKS)):

@@ -179,7 +179,7 @@ class Stories(unittest.TestCase):
             found.append(finished.opened(str(told(folder / name, seed, 200, limits))))
         return found
 
-    def found(self, recording: Finished) -> tuple[importing.Found, Tree]:
+    def found(self, recording: Finished) -> tuple[importing.InForce, Tree]:
         tree = auditor.tree_of(recording)
         return importing.found(recording, tree), tree
 
@@ -196,7 +196,7 @@ def _layers(trace: Path, tree: Tree) -> Iterator[tuple[int, list[_Layer]]]:
             yield done.pid, [_meant(ruleset) for ruleset in done.own.layers]
 
 
-def _meant(ruleset: importing.Ruleset) -> _Layer:
+def _meant(ruleset: importing.ImportedRuleset) -> _Layer:
     """What a layer handles, and what it grants on each path and port."""
     on: dict[str | int, Rights] = {}
     for it in ruleset.rules:
@@ -266,7 +266,7 @@ class Answers(InFolder):
                         member = of_program._member("rec", recording, tree, own, policy)
                         self.assertEqual(self.verdicts(recording, member.tried), self.verdicts(recording, None))
 
-    def verdicts(self, recording: Finished, tried: auditor.Tried | None) -> list[tuple[str, int, str]]:
+    def verdicts(self, recording: Finished, tried: auditor.TriedPolicy | None) -> list[tuple[str, int, str]]:
         """The refused calls of an audit, but for those on rulesets."""
         with tempfile.TemporaryDirectory() as folder:
             audit = auditor.Auditing(BUILT, recording, Path(folder), True, auditor.Progress())

@@ -14,7 +14,7 @@ from typing import Any
 from urllib.parse import unquote
 
 from landaudit_record.audit import by_abi, summary
-from landaudit_record.audit.auditor import Tried
+from landaudit_record.audit.auditor import TriedPolicy
 from landaudit_record.audit.moot import FAILED_TOO, Unasked
 from landaudit_record.audit.summary import Accepted, Refusal, RefusingLayer, Summary
 from landaudit_record.audit.warnings import OfLog
@@ -22,7 +22,7 @@ from landaudit_record.common import rights
 from landaudit_record.common.trees import Tree, upwards
 from landaudit_record.common.wording import quoted
 from landaudit_record.engine.answers import Closed, Missing
-from landaudit_record.engine.reading import Place
+from landaudit_record.engine.reading import NamedSubject
 from landaudit_record.engine.subjects import Subject
 from landaudit_record.policy import policies
 from landaudit_record.summaries import page
@@ -100,7 +100,7 @@ def three() -> list[Summary]:
     return [older, middle, newer]
 
 
-def made(summaries: list[Summary], calls: Counter[Place] | None = None) -> Element:
+def made(summaries: list[Summary], calls: Counter[NamedSubject] | None = None) -> Element:
     """The page of summaries, read."""
     return read(page.made(ABOUT, summaries, Paths(calls or Counter(), summaries)))
 
@@ -252,7 +252,7 @@ class Hostile(unittest.TestCase):
         found.unsaid = Counter(HOSTILE)
         found.missing = found.untraced = HOSTILE
         found.accepted = Counter({Accepted("open r", Subject((name,)), name): 1 for name in HOSTILE})
-        calls: Counter[Place] = Counter({(f"/a/{name}",): 1 for name in HOSTILE})
+        calls: Counter[NamedSubject] = Counter({(f"/a/{name}",): 1 for name in HOSTILE})
         found.not_allowed["refused"] = calls
         self.summary = found
         told = [[(HOSTILE[0], name) for name in HOSTILE]]
@@ -260,7 +260,7 @@ class Hostile(unittest.TestCase):
         self.text = page.made(about, [found], Paths(calls, [found]), self.tried())
         self.page = read(self.text)
 
-    def tried(self) -> Tried:
+    def tried(self) -> TriedPolicy:
         """A policy with hostile names in it, and the files with such names."""
         file = Path(self.enterContext(tempfile.TemporaryDirectory())) / "P.toml"
         said = [f"# {name}\n" for name in HOSTILE if name.isprintable()]
@@ -270,7 +270,7 @@ class Hostile(unittest.TestCase):
         kinds = {over: "dir" for name in HOSTILE for over in upwards(f"/a/{name}")}
         kinds |= {f"/a/{name}": "reg" for name in HOSTILE}
         tree = Tree(kinds, {"/a/javascript:alert(1)": HOSTILE[1]})
-        return Tried(None, policies.read(file), None, tree, [])  # type: ignore[arg-type]
+        return TriedPolicy(None, policies.read(file), None, tree, [])  # type: ignore[arg-type]
 
     def test_a_page_has_its_own_elements_and_attributes_alone(self) -> None:
         self.assertLessEqual({one.name for one in self.page.elements()}, ELEMENTS)
@@ -419,7 +419,7 @@ class Counting(unittest.TestCase):
 
     def paths(self) -> Paths:
         """Opens of three files and moves: beside each other, to another directory, and onto itself."""
-        calls: Counter[Place] = Counter({("/a/f",): 10, ("/a/d/g",): 4, ("/b",): 1, ("/a/f", "/a/h"): 3,
+        calls: Counter[NamedSubject] = Counter({("/a/f",): 10, ("/a/d/g",): 4, ("/b",): 1, ("/a/f", "/a/h"): 3,
                                          ("/a/f", "/b/f"): 2, ("/a/f", "/a/f"): 5, 443: 6})
         older, newer = summed(4, {}), summed(5, {})
         older.not_allowed = {"refused": Counter({("/a/f", "/b/f"): 2}), "moot": Counter()}
@@ -456,14 +456,14 @@ class TreeOfPaths(unittest.TestCase):
         return [[cell.text(abi) for cell in row.inside if isinstance(cell, Element)]
                 for row in shown.elements() if "row" in row.kinds and "heads" not in row.kinds]
 
-    def paths(self, calls: Counter[Place], *refused: Counter[Place]) -> Paths:
+    def paths(self, calls: Counter[NamedSubject], *refused: Counter[NamedSubject]) -> Paths:
         summaries = [summed(abi, {}) for abi in (4, 5)]
         for one, some in zip(summaries, refused):
             one.not_allowed["refused"] = some
         return Paths(calls, summaries)
 
     def test_ways_are_joined_and_names_without_refusals_are_one_row(self) -> None:
-        calls: Counter[Place] = Counter(
+        calls: Counter[NamedSubject] = Counter(
             {("/usr/lib/x/one",): 2, ("/usr/lib/x/two",): 5, ("/usr/lib/x/three",): 1, ("/f",): 1}
         )
         found = self.paths(calls, Counter(), Counter({("/usr/lib/x/two",): 5}))
@@ -477,12 +477,13 @@ class TreeOfPaths(unittest.TestCase):
         self.assertEqual([row[2] for row in self.rows(found, 4)], ["0"] * 5)
 
     def test_where_most_is_refused_comes_first(self) -> None:
-        calls: Counter[Place] = Counter({("/a/f",): 50, ("/b/f",): 2, ("/c/f",): 9})
+        calls: Counter[NamedSubject] = Counter({("/a/f",): 50, ("/b/f",): 2, ("/c/f",): 9})
         found = self.paths(calls, Counter(), Counter({("/c/f",): 1, ("/b/f",): 2}))
         self.assertEqual([row[0] for row in self.rows(found) if row[0].endswith("/")], ["/", "b/", "c/", "a/"])
 
     def test_a_tree_has_a_bounded_number_of_rows(self) -> None:
-        calls: Counter[Place] = Counter({(f"/d{one}/e{other}/f",): 1 for one in range(100) for other in range(100)})
+        paths = [f"/d{one}/e{other}/f" for one in range(100) for other in range(100)]
+        calls: Counter[NamedSubject] = Counter((path,) for path in paths)
         rows = self.rows(self.paths(calls, calls, calls))
         self.assertLess(len(rows), 2 * tree.MOST_ROWS)
         self.assertGreater(len(rows), tree.MOST_ROWS / 2)
@@ -493,9 +494,11 @@ class TreeOfPaths(unittest.TestCase):
 class Icicle(unittest.TestCase):
     """The cells of the icicle: their widths, colours and links."""
 
-    CALLS: Counter[Place] = Counter({("/usr/lib/x/one",): 30, ("/usr/lib/x/two",): 10, ("/etc/f",): 59, ("/g",): 1})
+    CALLS: Counter[NamedSubject] = Counter(
+        {("/usr/lib/x/one",): 30, ("/usr/lib/x/two",): 10, ("/etc/f",): 59, ("/g",): 1}
+    )
 
-    def cells(self, refused: Counter[Place]) -> dict[str, dict[str, str]]:
+    def cells(self, refused: Counter[NamedSubject]) -> dict[str, dict[str, str]]:
         """What is known of the cell of each path."""
         summaries = [summed(abi, {}) for abi in (4, 5)]
         summaries[1].not_allowed["refused"] = refused
@@ -549,8 +552,8 @@ port = 443
         listed = Tree({"/": "dir", "/usr": "dir", "/usr/lib": "dir", "/lib": "sym"}, {"/lib": "usr/lib"})
         found = summed(5, {})
         found.not_allowed["refused"] = Counter({("/usr/lib/x",): 3})
-        calls: Counter[Place] = Counter({("/usr/lib/x",): 4, 443: 2})
-        tried = Tried(None, policy, None, listed, [])  # type: ignore[arg-type]
+        calls: Counter[NamedSubject] = Counter({("/usr/lib/x",): 4, 443: 2})
+        tried = TriedPolicy(None, policy, None, listed, [])  # type: ignore[arg-type]
         found_by_abi = summaries or [found]
         return read(page.made(ABOUT, found_by_abi, Paths(calls, found_by_abi), tried))
 

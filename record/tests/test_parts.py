@@ -16,7 +16,7 @@ from landaudit_record.policy import policies
 from landaudit_record.policy.policies import Policy
 from landaudit_record.recorder import converting, writing
 from landaudit_record.recorder.ports import Ports
-from landaudit_record.recorder.writing import LIMITS, Limits, Recording, Tree
+from landaudit_record.recorder.writing import LIMITS, Limits, ListedTree, Recording
 
 from .answers import answers, parts, wanting
 from .kept_logs import LOGS, KeptLogs
@@ -180,7 +180,7 @@ class Search(WrittenLogs):
 
     def test_how_much_is_kept_of_what_is_missing(self) -> None:
         """The root and the names in one call are beside what is kept."""
-        with mock.patch.object(writing, "KEPT", 3), Recording(self.out, Tree(names())) as recording:
+        with mock.patch.object(writing, "KEPT", 3), Recording(self.out, ListedTree(names())) as recording:
             for number in range(50):
                 recording.tree.gap("/a/b", [f"h{number}"])
                 recording.write("truncate", 1, number, "ok", path=f"/a/b/h{number}~new~")

@@ -11,10 +11,12 @@ from landaudit_record.common.numbered import Numbered
 from landaudit_record.common.rights import NEWEST_ABI
 from landaudit_record.engine.answers import Answer, Missing, Refusing
 from landaudit_record.policy.cases import ALL_ABIS, Case
-from landaudit_record.policy.checking import Checked, Outcome
+from landaudit_record.policy.checking import Checked, CheckedCase
 from landaudit_record.policy.deciding import Breach, Decision
-from landaudit_record.policy.differing_layers import Mounts, Room
-from landaudit_record.policy.differing_rows import Gains, Moves, Objects, Ports, Rights, Row
+from landaudit_record.policy.differing_layers import MountChanges, Room
+from landaudit_record.policy.differing_rows import (
+    DifferenceRow, Gains, Moves, RightsInArea, RightsOnMoved, RightsOnPorts
+)
 from landaudit_record.policy.granting import Grant
 from landaudit_record.policy.over_sets import NOTHING, SetQuestion
 from landaudit_record.policy.regions import Area, Region
@@ -33,14 +35,14 @@ WIDTHS = (400, 1280)
 def review(name: str = "x") -> Review:
     """A comparison with an entry of each kind, and a name in each place that has names."""
     path = f"/{name}"
-    more = tuple(Row(what, abis) for what, abis in (
-        (Rights(("read_file",), Area(path, (f"{path}/in",))), EVERY),
-        (Objects(("refer",), 2, (path,), f"{path}/f"), frozenset({2, 3, 5})),
-        (Ports(("bind_tcp",), (80,), True), frozenset({4, 5})),
+    more = tuple(DifferenceRow(what, abis) for what, abis in (
+        (RightsInArea(("read_file",), Area(path, (f"{path}/in",))), EVERY),
+        (RightsOnMoved(("refer",), 2, (path,), f"{path}/f"), frozenset({2, 3, 5})),
+        (RightsOnPorts(("bind_tcp",), (80,), True), frozenset({4, 5})),
         (Moves(("dir",), (Area(path),), (), (Area("/b"),)), EVERY),
-        (Mounts(), EVERY),
+        (MountChanges(), EVERY),
     ))
-    less = (Row(Gains(("execute",), 1, "/b", (Region(path),)), EVERY), Row(Room(1, 2), EVERY))
+    less = (DifferenceRow(Gains(("execute",), 1, "/b", (Region(path),)), EVERY), DifferenceRow(Room(1, 2), EVERY))
     one, gone = (Widening(name, frozenset({"read_file"}), (path,)) for _ in range(2))
     accepted = ((one, more[:1]),)
     return Review(Path(f"{name}.old"), None, Path(f"{name}.new"), ALL_ABIS, 9, more, less, accepted, (gone,))
@@ -52,8 +54,8 @@ def checked(name: str = "x") -> Checked:
     refused = Answer("refused", "EACCES", (Refusing(1, None, (Missing(("read_file",), path),)),))
     grant = Grant(1, Numbered("path_beneath", 1), path, ("write_file",))
     case = Case(True, ALL_ABIS, "open r", path, ())
-    outcomes = [Outcome(case, dict.fromkeys(ALL_ABIS, refused), [grant]),
-                Outcome(Case(False, ALL_ABIS, "exec", path, ()), dict.fromkeys(ALL_ABIS, refused), [])]
+    outcomes = [CheckedCase(case, dict.fromkeys(ALL_ABIS, refused), [grant]),
+                CheckedCase(Case(False, ALL_ABIS, "exec", path, ()), dict.fromkeys(ALL_ABIS, refused), [])]
     question = SetQuestion(NOTHING, ("write",), (("write_file",),), frozenset({"truncate"}), (path,), ALL_ABIS)
     breach = Breach(("write_file",), Area(path), (grant,))
     decisions = [Decision(question, ()), Decision(question, ((range(1, 3), (breach,)),))]

@@ -27,7 +27,7 @@ from landaudit_record import cli
 from landaudit_record.audit.moot import Unasked
 from landaudit_record.audit.summary import Accepted, Refusal, RefusingLayer, Summary
 from landaudit_record.audit.warnings import OfPolicy, RuleRefused, RuleUnused
-from landaudit_record.common.findings import Finding, FindingKind, Level, Places, Position, Report
+from landaudit_record.common.findings import DocumentPlaces, Finding, FindingKind, Level, Position, Report
 from landaudit_record.common.numbered import Numbered
 from landaudit_record.common.rights import NONE
 from landaudit_record.common.wording import plain
@@ -35,10 +35,12 @@ from landaudit_record.engine.answers import ALLOWED, REFUSED, Answer, Closed, Co
 from landaudit_record.engine.subjects import at
 from landaudit_record.policy import policies
 from landaudit_record.policy.cases import Case
-from landaudit_record.policy.checking import Checked, Outcome
+from landaudit_record.policy.checking import Checked, CheckedCase
 from landaudit_record.policy.deciding import Breach, Decision
-from landaudit_record.policy.differing_layers import Mounts
-from landaudit_record.policy.differing_rows import Gains, Moves, Objects, Ports, Rights, Row
+from landaudit_record.policy.differing_layers import MountChanges
+from landaudit_record.policy.differing_rows import (
+    DifferenceRow, Gains, Moves, RightsInArea, RightsOnMoved, RightsOnPorts
+)
 from landaudit_record.policy.granting import Grant
 from landaudit_record.policy.over_sets import SetQuestion
 from landaudit_record.policy.regions import Area
@@ -259,7 +261,7 @@ class OfCheckAndDiff(unittest.TestCase):
 
     def check(self, refused: bool, answer: Answer, *grants: Grant) -> Report:
         case = Case(refused, range(3, 6), "open r", "/usr/x", ())
-        outcome = Outcome(case, {abi: answer for abi in case.abis}, grants)
+        outcome = CheckedCase(case, {abi: answer for abi in case.abis}, grants)
         return checked.report(Checked(self.policy.path, Path("cases.toml"), [outcome], []), self.policy)
 
     def test_cases(self) -> None:
@@ -292,22 +294,23 @@ class OfCheckAndDiff(unittest.TestCase):
 
     def test_differences(self) -> None:
         for what, line in (
-            (Rights(("read_file",), Area("/usr/lib")), 5),
-            (Rights(("execute",), Area("/usr/lib")), None),
-            (Rights(("read_file",), Area("/a/c")), None),
-            (Objects(("read_dir",), 1, ("/a/b",), None), 5),
-            (Ports(("bind_tcp",), (80,), False), 9),
-            (Ports(("bind_tcp",), (80,), True), None),
+            (RightsInArea(("read_file",), Area("/usr/lib")), 5),
+            (RightsInArea(("execute",), Area("/usr/lib")), None),
+            (RightsInArea(("read_file",), Area("/a/c")), None),
+            (RightsOnMoved(("read_dir",), 1, ("/a/b",), None), 5),
+            (RightsOnPorts(("bind_tcp",), (80,), False), 9),
+            (RightsOnPorts(("bind_tcp",), (80,), True), None),
             (Moves(("reg",), (), (), (Area("/a/b/c"),)), 5),
             (Gains(("read_file",), 1, "/usr", ()), 5),
-            (Mounts(), None),
+            (MountChanges(), None),
         ):
-            row = Row(what, frozenset({1, 2, 4}))
+            row = DifferenceRow(what, frozenset({1, 2, 4}))
             review = Review(Path("old.toml"), None, self.policy.path, range(1, 6), 7, (row,), (row,))
             with self.subTest(what):
                 report = compared.report(review, self.policy)
                 self.assertEqual(self.lines(report), [("error", "allows-more", line), ("note", "allows-less", None)])
-                other = ", where layer 1 of the other policy refuses it" if isinstance(what, (Objects, Gains)) else ""
+                in_layer = isinstance(what, RightsOnMoved | Gains)
+                other = ", where layer 1 of the other policy refuses it" if in_layer else ""
                 self.assertEqual([one.text for one in report.findings],
                                  [f"passes at ABI 1-2, 4{other}", f"passes no more at ABI 1-2, 4{other}"])
 
@@ -429,12 +432,12 @@ class Positions(unittest.TestCase):
         with tempfile.TemporaryDirectory() as folder:
             policy = Path(folder, "p.toml")
             policy.write_text(POLICY)
-            places = Places(policy)
+            places = DocumentPlaces(policy)
             rule = places.rule(1, Numbered("path_beneath", 1))
             self.assertEqual((places.layer(1).line, rule.line, places.layer(None).line), (2, 5, None))
             self.assertEqual(places.rule(1, Numbered("path_beneath", 3, "base")), places.layer(1))
             self.assertEqual(places.layer(2).line, None)
-            self.assertEqual(Places(Path(folder)).layer(1), Position(Path(folder)))
+            self.assertEqual(DocumentPlaces(Path(folder)).layer(1), Position(Path(folder)))
 
     def test_formats(self) -> None:
         self.assertEqual(reporting.FORMATS, ("text", "json", "sarif", "junit", "markdown", "github"))

@@ -25,7 +25,7 @@ from landaudit_record.common import jsonl
 from landaudit_record.engine.answers import Closed, Condition, Gained, Kept, Missing, Mounting
 from landaudit_record.engine.landaudit import BUILT
 from landaudit_record.policy import checking_data, differing_data, differing_rows
-from landaudit_record.policy.differing_layers import Mounts, Room, Unscoped
+from landaudit_record.policy.differing_layers import MountChanges, Room, Unscoped
 from landaudit_record.policy.regions import Area, Region
 from landaudit_record.policy.reviewing import Review
 from landaudit_record.policy.widenings import Widening
@@ -228,19 +228,19 @@ def an_audit(names: Sequence[str] = ("f", "g")) -> dict[str, Any]:
 
 #: A difference of each kind.
 DIFFERENCES: tuple[differing_rows.What, ...] = (
-    differing_rows.Rights(("read_file", "read_dir"), Area("/a", ("/a/b",), ("/a/c",))),
-    differing_rows.Objects(("refer",), 2, ("/a", "/b"), "/c"),
-    differing_rows.Objects(("ioctl_dev",), 1, (), None),
-    differing_rows.Ports(("bind_tcp",), (1, 2, 3, 80), every=True),
+    differing_rows.RightsInArea(("read_file", "read_dir"), Area("/a", ("/a/b",), ("/a/c",))),
+    differing_rows.RightsOnMoved(("refer",), 2, ("/a", "/b"), "/c"),
+    differing_rows.RightsOnMoved(("ioctl_dev",), 1, (), None),
+    differing_rows.RightsOnPorts(("bind_tcp",), (1, 2, 3, 80), every=True),
     differing_rows.Moves(("reg", "dir"), (Area("/", ("/a",)),), ("/a",), (Area("/b"),)),
     differing_rows.Gains(("execute",), 1, "/b", (Region("/c", as_file=True),)),
-    Mounts(), Unscoped("signal"), Room(1, 2),
+    MountChanges(), Unscoped("signal"), Room(1, 2),
 )
 
 
 def a_diff() -> dict[str, Any]:
     """What a comparison prints that has an entry in each list."""
-    rows = tuple(differing_rows.Row(what, frozenset({2, 3})) for what in DIFFERENCES)
+    rows = tuple(differing_rows.DifferenceRow(what, frozenset({2, 3})) for what in DIFFERENCES)
     known = Widening("why", frozenset({"execute"}), ("/a",))
     review = Review(Path("old.toml"), None, Path("new.toml"), range(1, 6), 9, rows, rows, ((known, rows[:1]),), (known,))
     found: dict[str, Any] = json.loads(json.dumps(differing_data.as_data(review)))

@@ -17,7 +17,7 @@ from landaudit_record.audit.summary import Summary
 from landaudit_record.common import finished, jsonl, reach
 from landaudit_record.common.finished import LOOKING, READING_LINKS, SIGNALS, Finished
 from landaudit_record.common.problems import Problem
-from landaudit_record.common.reach import ABSTRACT, PTRACE, SIGNAL, Layer, refusing
+from landaudit_record.common.reach import ABSTRACT, PTRACE, SIGNAL, ProcessLayer, refusing
 from landaudit_record.common.rights import ABIS
 from landaudit_record.policy import policies
 
@@ -41,7 +41,7 @@ CALLS = (
 )
 FILES, OLD = frozenset({"make_sock"}), frozenset({"ioctl_dev"})
 BOTH = ("abstract_unix_socket", "signal")
-A, B, C = Layer(FILES, BOTH), Layer(FILES), Layer(FILES, ("signal",))
+A, B, C = ProcessLayer(FILES, BOTH), ProcessLayer(FILES), ProcessLayer(FILES, ("signal",))
 #: What is asked, the layers of the caller, those of what it reaches, and which refuse: the answers are those that Linux
 #: 6.18 gave to live_scopes, where each row is a case.
 ROWS = (
@@ -78,9 +78,15 @@ class Decided(unittest.TestCase):
 
     def test_the_abis_that_have_a_layer(self) -> None:
         """Best effort drops what an ABI does not know (docs/SEMANTICS.md); ioctl_dev is of ABI 5, scopes of ABI 6."""
-        for layer, first in ((A, 1), (Layer(OLD), 5), (Layer(OLD | FILES), 1), (Layer(frozenset(), BOTH), 6),
-                             (Layer(OLD, BOTH), 5), (Layer(OLD | FILES, drops=False), 5),
-                             (Layer(frozenset({"bit_40"})), 8)):
+        for layer, first in (
+            (A, 1),
+            (ProcessLayer(OLD), 5),
+            (ProcessLayer(OLD | FILES), 1),
+            (ProcessLayer(frozenset(), BOTH), 6),
+            (ProcessLayer(OLD, BOTH), 5),
+            (ProcessLayer(OLD | FILES, drops=False), 5),
+            (ProcessLayer(frozenset({"bit_40"})), 8),
+        ):
             with self.subTest(layer):
                 self.assertEqual([abi for abi in ABIS if layer.is_there(abi)], [abi for abi in ABIS if abi >= first])
 

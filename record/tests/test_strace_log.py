@@ -8,7 +8,7 @@ from pathlib import Path
 
 from landaudit_record.recorder import strace_log
 from landaudit_record.recorder.unwritten import NotUnderstood
-from landaudit_record.recorder.strace_log import Call, Ended, Event, Superseded, Unread
+from landaudit_record.recorder.strace_log import Call, Ended, Event, Superseded, UnreadLine
 
 
 def read(*lines: str) -> list[Event]:
@@ -140,15 +140,15 @@ class Lines(unittest.TestCase):
 
     def test_numbers_that_c_does_not_write_are_no_call(self) -> None:
         (line,) = read("1  close(3) = 09")
-        self.assertIsInstance(line, Unread)
+        self.assertIsInstance(line, UnreadLine)
 
     def test_what_is_no_line_of_strace(self) -> None:
         second = "<... close resumed>) = 0"
-        self.assertEqual(read("hello", f"1  {second}"), [Unread(1, 0, "hello"), Unread(2, 1, second)])
+        self.assertEqual(read("hello", f"1  {second}"), [UnreadLine(1, 0, "hello"), UnreadLine(2, 1, second)])
 
     def test_a_cut_line_is_told(self) -> None:
         (cut,) = read('1  openat(-100 /* AT_FDCWD */</w>, "/etc/pas')
-        self.assertIsInstance(cut, Unread)
+        self.assertIsInstance(cut, UnreadLine)
 
 
 class Forks(unittest.TestCase):

@@ -17,7 +17,7 @@ from landaudit_record.engine.reading import Walk
 from landaudit_record.policy import policies
 from landaudit_record.policy.policies import Policy
 from landaudit_record.suggest import suggestion_text
-from landaudit_record.suggest.missing_rights import Rule
+from landaudit_record.suggest.missing_rights import SuggestedRule
 from landaudit_record.suggest.remarks import Remark, RemarkKind
 from landaudit_record.suggest.suggesting import Recorded, Suggestion, suggest, with_rules
 
@@ -251,7 +251,7 @@ class SeveralRecordings(unittest.TestCase):
 
     def test_calls_of_each_count(self) -> None:
         found = suggested_of([Recorded(TREE), Recorded(TREE)], [[*layer(), reading("/a/f")]] * 2)
-        self.assertEqual(found.rules[1], [Rule("/a/f", frozenset({"read_file"}), 2)])
+        self.assertEqual(found.rules[1], [SuggestedRule("/a/f", frozenset({"read_file"}), 2)])
 
     def test_what_one_run_made_and_another_found(self) -> None:
         """The second run is in the folder that the first left: before the first, no rule could be on the file."""
@@ -395,7 +395,7 @@ class Layers(unittest.TestCase):
     def test_each_layer_lacks_its_own(self) -> None:
         both = (opened("/a/f", "rw"), refused(missing_on("/a/f", "read_file"), missing_on("/a/f", "write_file")))
         found = suggested([*layer(1), *layer(2), both], to=policy(DENY + DENY))
-        reads, writes = (Rule("/a/f", frozenset({right}), 1) for right in ("read_file", "write_file"))
+        reads, writes = (SuggestedRule("/a/f", frozenset({right}), 1) for right in ("read_file", "write_file"))
         self.assertEqual(found.rules, {1: [reads], 2: [writes]})
 
     def test_a_layer_of_the_program_is_not_mended(self) -> None:
@@ -411,7 +411,7 @@ class Layers(unittest.TestCase):
         create = ({"op": "create", "rs": 4, "fs": ["refer"]}, failed("EINVAL", "unknown", abi=1, rights=["refer"]))
         found = suggested([*layer(), create, reading("/a/f")], abi=1)
         self.assertEqual((found.unmended, found.of_program), ({}, {}))
-        self.assertEqual(found.rules, {1: [Rule("/a/f", frozenset({"read_file"}), 1)]})
+        self.assertEqual(found.rules, {1: [SuggestedRule("/a/f", frozenset({"read_file"}), 1)]})
 
     def test_a_mount_is_not_mended(self) -> None:
         found = suggested([*layer(), MOUNT])
@@ -424,7 +424,7 @@ class Rounds(unittest.TestCase):
         first = [*layer(), (opening, refused(missing_on("/a/f", "write_file"))), (cut, moot("unopened", fd=5))]
         second = [*layer(), (opening, "allowed"), (cut, refused(kept_on("/a/f", "truncate", 6)))]
         found = suggested(first, second)
-        self.assertEqual(found.rules, {1: [Rule("/a/f", frozenset({"write_file", "truncate"}), 2)]})
+        self.assertEqual(found.rules, {1: [SuggestedRule("/a/f", frozenset({"write_file", "truncate"}), 2)]})
         self.assertEqual((found.rounds, found.finished), (3, True))
 
     def test_nothing_refused_suggests_nothing(self) -> None:
@@ -450,7 +450,7 @@ class Text(unittest.TestCase):
     def test_any_path_is_a_toml_text(self) -> None:
         for path in ('/a"b\\c', "/é\u2028\U0001f600", "/\x7f\x01\t\n"):
             with self.subTest(path=path):
-                rule = Rule(path, frozenset({"read_file"}), 1)
+                rule = SuggestedRule(path, frozenset({"read_file"}), 1)
                 written = "\n".join(suggestion_text.lines(Suggestion({1: [rule]}, NONE, NONE, 1, True), policy()))
                 self.assertEqual(tomllib.loads(DENY + written)["layer"][0]["path_beneath"][0]["parent"], path)
 
@@ -462,13 +462,13 @@ class Text(unittest.TestCase):
         self.assertIn('parent = "/a"', written)
 
     def test_with_several_layers_each_is_named(self) -> None:
-        rule = Rule("/a", frozenset({"read_file"}), 2)
+        rule = SuggestedRule("/a", frozenset({"read_file"}), 2)
         written = list(suggestion_text.lines(Suggestion({2: [rule]}, NONE, NONE, 1, True), policy(DENY + DENY)))
         self.assertRegex(written[0], "^# 1 rule for layer 2: paste them under the .*layer.* of that number")
 
-    RULES = [Rule("/a/f", frozenset({"read_file"}), 3),
-             Rule("/b", frozenset({"read_file"}), 2, (Remark(RemarkKind.ALSO, "why"),)),
-             Rule("/c", frozenset({"read_file"}), 1), Rule((80, 81), frozenset({"bind_tcp"}), 1)]
+    RULES = [SuggestedRule("/a/f", frozenset({"read_file"}), 3),
+             SuggestedRule("/b", frozenset({"read_file"}), 2, (Remark(RemarkKind.ALSO, "why"),)),
+             SuggestedRule("/c", frozenset({"read_file"}), 1), SuggestedRule((80, 81), frozenset({"bind_tcp"}), 1)]
 
     def test_rules_with_equal_rights_are_one_but_for_those_with_remarks(self) -> None:
         written = "\n".join(suggestion_text.written(self.RULES))
@@ -492,7 +492,7 @@ parent = "/b"
 allowed_access = ["bind_tcp"]
 port = [80, 81]
 """)
-        same = [Rule(f"/f{number}", frozenset({"read_file"}), 2) for number in range(2)]
+        same = [SuggestedRule(f"/f{number}", frozenset({"read_file"}), 2) for number in range(2)]
         written = "\n".join(suggestion_text.written(same))
         self.assertTrue(written.startswith("\n# 2 calls each\n"), written)
         self.assertEqual(policy(DENY + written).layers[0].path_beneath[0].parents, ("/f0", "/f1"))
@@ -512,7 +512,7 @@ port = [80, 81]
 
     def test_many_paths_of_one_directory_are_told(self) -> None:
         for number, told in ((7, False), (8, True)):
-            rules = [Rule(f"/etc/php/{name}.ini", frozenset({"read_file"}), 1) for name in range(number)]
+            rules = [SuggestedRule(f"/etc/php/{name}.ini", frozenset({"read_file"}), 1) for name in range(number)]
             said = list(suggestion_text.ending(Suggestion({1: rules}, NONE, NONE, 1, True)))
             hint = f"{number} of the paths are in /etc/php: --rules N grants on directories in their place"
             self.assertEqual(hint in said, told)

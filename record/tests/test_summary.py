@@ -25,7 +25,7 @@ from landaudit_record.engine.answers import Missing
 from landaudit_record.engine.reading import Walk, judged
 from landaudit_record.engine.subjects import Subject
 from landaudit_record.summaries import summary_text
-from landaudit_record.summaries.summary_text import Beside, Style
+from landaudit_record.summaries.summary_text import Style, SummaryExtras
 
 from .recorded import (
     Object,
@@ -85,7 +85,7 @@ def rule(path: str, *rights: str, parent: str | None = None) -> Record:
     return {"op": "add_path", "rs": 3, "path": path, "fs": list(rights), "policy": origin}
 
 
-def text(found: Summary, coloured: bool = False, width: int = 80, beside: Beside = Beside()) -> str:
+def text(found: Summary, coloured: bool = False, width: int = 80, beside: SummaryExtras = SummaryExtras()) -> str:
     return "\n".join(summary_text.lines(found, "rec", Style(coloured, width), beside))
 
 
@@ -352,7 +352,7 @@ class Text(unittest.TestCase):
         self.assertIn("refused: 21 kinds in 1 group, the earliest first, then the most frequent", lines)
         self.assertIn("     21  bind_tcp  21 ports from 0 to 20  EACCES  policy's 1  -", lines)
         self.assertIn("  --all lists each kind by itself", lines)
-        each = text(summed([NNP, *LAYER, *many]), beside=Beside(each=True))
+        each = text(summed([NNP, *LAYER, *many]), beside=SummaryExtras(each=True))
         self.assertIn("refused, the most frequent first (21 kinds)", each)
         self.assertEqual(each.count("  bind  port "), 21)
 
@@ -369,7 +369,7 @@ class Text(unittest.TestCase):
     def test_the_command_for_rules_is_one_command_on_lines_that_fit(self) -> None:
         command = ["landaudit-record", "suggest", "a recording", "--policy", "/" + "long/" * 30 + "p.toml"]
         for width in (20, 40, 80):
-            lines = text(self.found, width=width, beside=Beside(suggesting=command)).splitlines()
+            lines = text(self.found, width=width, beside=SummaryExtras(suggesting=command)).splitlines()
             start = lines.index("rules for these:") + 1
             told = lines[start:lines.index("", start)]
             self.assertLessEqual(max(map(len, told)), width)
@@ -417,7 +417,7 @@ class ShortWarnings(unittest.TestCase):
     """Warnings as a person reads them: a line for each, in few words."""
 
     def told(self, *calls: Call, width: int = 80, each: bool = False) -> list[str]:
-        lines = text(summed([NNP, *LAYER, *calls]), width=width, beside=Beside(each=each)).splitlines()
+        lines = text(summed([NNP, *LAYER, *calls]), width=width, beside=SummaryExtras(each=each)).splitlines()
         return [line for line in lines if line.startswith("warning:")]
 
     def unused(self, parent: str) -> Call:

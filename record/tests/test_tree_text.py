@@ -7,7 +7,6 @@ from collections import Counter
 from io import BytesIO, TextIOWrapper
 from unittest import mock
 
-from landaudit_record.audit import summary
 from landaudit_record.audit.summary import Refusal, RefusingLayer, Summary
 from landaudit_record.common import layout
 from landaudit_record.common.layout import Branches

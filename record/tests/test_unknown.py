@@ -12,7 +12,7 @@ from landaudit_record.common import jsonl
 from landaudit_record.common.finished import Finished
 from landaudit_record.engine import reports
 from landaudit_record.engine.answers import ALLOWED, REFUSED, Answer, Refusing
-from landaudit_record.engine.processes import Process
+from landaudit_record.engine.processes import ProcessState
 from landaudit_record.recorder.calls import programs
 from landaudit_record.recorder.names import MADE_OR_THERE, OF_KIND, REPLACED_OR_NOT, UNKNOWN_WAY
 
@@ -265,7 +265,7 @@ class United(unittest.TestCase):
         record = {"op": "open", "pid": 1, "path": "/f", "fd": 1, "mode": "w", "call": 1, "unknown": MADE_OR_THERE}
         for kernel in ("ok", "EACCES"):
             for one, other in ((refused, Answer(ALLOWED)), (Answer(ALLOWED), refused)):
-                process = Process(domain=(object(),))  # type: ignore[arg-type]
+                process = ProcessState(domain=(object(),))  # type: ignore[arg-type]
                 both = [({**record, "kernel": kernel}, one, process),
                         ({**record, "kernel": kernel, "otherwise": True}, other, process)]
                 (call,) = judged_calls(both, 5)

@@ -21,7 +21,7 @@ from landaudit_record.common.finished import CONVERTED, Converted, Size
 from landaudit_record.common.problems import NOT_ALL_JUDGED, UNREADABLE, USAGE, Problem
 from landaudit_record.recorder import converting, recordings
 from landaudit_record.recorder.ports import Ports
-from landaudit_record.recorder.writing import Limits, Recording, Tree
+from landaudit_record.recorder.writing import Limits, ListedTree, Recording
 
 from .kept_logs import KeptLogs
 from .recorded import write_lines
@@ -158,7 +158,7 @@ class Whole(KeptLogs):
         self.assertTrue(out.splitlines()[-1].startswith("NOT ALL IS JUDGED: the recording is cut: the log"), out)
 
     def test_calls_that_could_not_be_recorded(self) -> None:
-        with Recording(self.recording, Tree(names())) as recording:
+        with Recording(self.recording, ListedTree(names())) as recording:
             recording.write("start", 10, 1, nnp=True)
             for line in (2, 3):
                 recording.leave_out("io_uring", line, 10, "io_uring_enter(3, 1)", asks=True)
@@ -172,7 +172,7 @@ class Whole(KeptLogs):
         self.assertEqual(data["not_judged"], ["2 calls that a policy may refuse could not be recorded: io_uring (2)"])
 
     def test_a_call_that_may_be_refused(self) -> None:
-        with Recording(self.recording, Tree(names())) as recording:
+        with Recording(self.recording, ListedTree(names())) as recording:
             recording.write("start", 10, 1, nnp=True)
             for more in ({}, {"otherwise": True}):
                 recording.write("truncate", 10, 2, "ok", path="/p", unknown="made or there before", **more)
@@ -196,7 +196,7 @@ class Whole(KeptLogs):
     def test_a_policy_with_scopes_is_told_of_calls_that_they_may_refuse(self) -> None:
         policy = Path(self._folder) / "policy.toml"
         policy.write_text('[[layer]]\nhandled_access_net = ["bind_tcp"]\nscoped = ["signal"]\n')
-        with Recording(self.recording, Tree(names())) as recording:
+        with Recording(self.recording, ListedTree(names())) as recording:
             recording.write("start", 10, 1, nnp=True)
             recording.write("exec", 10, 1, "ok", path="/p")
             recording.leave_to_scope("signal", 2, 10, "kill(1, 0) = 0")

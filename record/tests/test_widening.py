@@ -12,14 +12,14 @@ from unittest import mock
 from landaudit_record.common.trees import ROOT, Tree, upwards
 from landaudit_record.policy import sensitive
 from landaudit_record.suggest import missing_rights, widening
-from landaudit_record.suggest.missing_rights import CallId, Lacking, Rule, Wanted
-from landaudit_record.suggest.objects import Count, Objects
+from landaudit_record.suggest.missing_rights import CallId, CallsByRight, SuggestedRule, Wanted
+from landaudit_record.suggest.objects import Count, CountedObjects
 from landaudit_record.suggest.remarks import RemarkKind
 
 from .worded import said
 
 
-def asked(*rights: str, call: int = 1) -> Lacking:
+def asked(*rights: str, call: int = 1) -> CallsByRight:
     return {right: {CallId(0, call)} for right in rights}
 
 
@@ -39,7 +39,7 @@ class Disk(unittest.TestCase):
 
 class Counted(Disk):
     def under(self, name: str, *trees: Tree) -> Count:
-        return Objects(trees).under(self.path(name))
+        return CountedObjects(trees).under(self.path(name))
 
     def test_files_and_directories(self) -> None:
         self.assertEqual(self.under("some"), Count(files=5, directories=1))
@@ -54,9 +54,9 @@ class Counted(Disk):
     def test_pipes_are_files_and_devices_are_both(self) -> None:
         os.mkfifo(self.top / "few" / "pipe")
         self.assertEqual(self.under("few"), Count(files=3, directories=1))
-        null = Objects([]).under("/dev/null")
+        null = CountedObjects([]).under("/dev/null")
         self.assertEqual(null, Count(files=1, devices=1))
-        devices = Objects([]).under("/dev")
+        devices = CountedObjects([]).under("/dev")
         self.assertGreaterEqual(devices.devices, 1)
 
     def test_what_a_recording_has_and_this_disk_has_not(self) -> None:
@@ -72,9 +72,11 @@ class Counted(Disk):
 
 
 class Widening(Disk):
-    def rules(self, most: int, paths: dict[str, Lacking], ports: dict[int, Lacking] | None = None) -> list[Rule]:
+    def rules(
+        self, most: int, paths: dict[str, CallsByRight], ports: dict[int, CallsByRight] | None = None
+    ) -> list[SuggestedRule]:
         wanted = Wanted({self.path(name): rights for name, rights in paths.items()}, [], ports or {})
-        found = widening.rules(wanted, Objects([]), most)
+        found = widening.rules(wanted, CountedObjects([]), most)
         return [replace(rule, remarks=tuple(it for it in rule.remarks if it.kind is RemarkKind.ALSO)) for rule in found]
 
     def granted(self, most: int, *names: str) -> dict[str, tuple[str, ...]]:
@@ -132,17 +134,17 @@ class Widening(Disk):
 
     def test_the_root_comes_last_and_is_warned_of(self) -> None:
         wanted = Wanted({"/usr/x": asked("read_file"), "/proc/x": asked("read_file", call=2)}, [], {})
-        (rule,) = widening.rules(wanted, Objects([]), 1)
+        (rule,) = widening.rules(wanted, CountedObjects([]), 1)
         self.assertEqual(said(rule), ("also everything else under / (read_file)",
                                         "warning: read_file on everything that there is"))
         wanted.paths["/usr/y"] = asked("read_file", call=3)
-        self.assertEqual({rule.place for rule in widening.rules(wanted, Objects([]), 2)}, {"/usr", "/proc/x"})
+        self.assertEqual({rule.place for rule in widening.rules(wanted, CountedObjects([]), 2)}, {"/usr", "/proc/x"})
 
     def test_the_root_is_never_free(self) -> None:
         """Not even beside a rule on /proc, which has objects without end as the root has."""
         paths = {"/proc": asked("read_file"), self.path("few/f0"): asked("read_file", call=2),
                  self.path("some/f0"): asked("read_file", call=3), self.path("many/f0"): asked("read_file", call=4)}
-        found = widening.rules(Wanted(paths, [], {}), Objects([]), 3)
+        found = widening.rules(Wanted(paths, [], {}), CountedObjects([]), 3)
         self.assertEqual({rule.place for rule in found}, {"/proc", str(self.top)})
 
     def test_a_join_that_reaches_secrets_is_the_last(self) -> None:

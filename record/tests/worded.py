@@ -3,7 +3,7 @@
 from __future__ import annotations
 
 from landaudit_record.engine.subjects import ARROW, NOTHING, Number, Subject
-from landaudit_record.suggest.missing_rights import Rule
+from landaudit_record.suggest.missing_rights import SuggestedRule
 
 
 def subject(words: str) -> Subject:
@@ -16,6 +16,6 @@ def subject(words: str) -> Subject:
     return Subject(port=int(value)) if of == "port" else Subject(number=Number(of, int(value)))
 
 
-def said(rule: Rule) -> tuple[str, ...]:
+def said(rule: SuggestedRule) -> tuple[str, ...]:
     """The remarks on a rule, in words."""
     return tuple(map(str, rule.remarks))

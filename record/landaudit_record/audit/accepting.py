@@ -14,7 +14,7 @@ from collections.abc import Iterable, Iterator, Mapping, Sequence
 from pathlib import Path
 from typing import Any
 
-from ..common.documents import Place, check_keys, text
+from ..common.documents import DocumentPlace, check_keys, text
 from ..common.variables import NOTHING_GIVEN, Given
 from ..engine.subjects import NOTHING, Subject
 from ..policy import policies
@@ -27,7 +27,7 @@ def read(path: Path, given: Given = NOTHING_GIVEN, *, only: bool = True) -> list
     return [_accepted(table, place) for table, place in policies.accepted(path, given, only=only)]
 
 
-def _accepted(table: Mapping[str, Any], place: Place) -> Accepted:
+def _accepted(table: Mapping[str, Any], place: DocumentPlace) -> Accepted:
     check_keys(table, ("call", "path", "from", "to", "port", "reason"), place)
     call, reason = " ".join(text(table, "call", place).split()), text(table, "reason", place)
     given = [key for key in ("path", "from", "port") if key in table]

@@ -45,7 +45,7 @@ class Files(NamedTuple):
 
 
 @dataclass(frozen=True)
-class Tried:
+class TriedPolicy:
     """A policy on a recording: the program before which it goes, its places in each part, and the tree of the whole."""
 
     recording: Finished
@@ -117,12 +117,12 @@ def write_tree(part: Path, tree: Tree, inserted: Iterable[Record], out: Path) ->
         written.writelines(jsonl.line_bytes({"path": path, "kind": tree.kinds[path]}) for path in missing)
 
 
-def tried(recording: Finished, policy: Policy, program: str | None) -> Tried:
+def tried(recording: Finished, policy: Policy, program: str | None) -> TriedPolicy:
     """A policy on a recording, before the first program of each process that it starts or before each run of one."""
     tree = tree_of(recording)
     places = applying.plans([part.trace for part in recording.parts], tree, program)
     unknown = applying.not_known(policy, tree)
-    return Tried(replace(recording, unknown=unknown), policy, program, tree, places)
+    return TriedPolicy(replace(recording, unknown=unknown), policy, program, tree, places)
 
 
 @contextmanager
@@ -158,7 +158,7 @@ class Auditing:
     _run: landaudit.Run | None = field(default=None, init=False)
 
     def walks(
-        self, abis: range, tried: Tried | None, policy: Policy | None = None, *, only_refused: bool = False
+        self, abis: range, tried: TriedPolicy | None, policy: Policy | None = None, *, only_refused: bool = False
     ) -> Iterator[Walk]:
         """Judges each part at some ABIs, and yields a walk over its answers, as `judged` does."""
         for files in self.judged(abis, tried, policy, only_refused=only_refused):
@@ -168,7 +168,7 @@ class Auditing:
     def judged(
         self,
         abis: range,
-        tried: Tried | None,
+        tried: TriedPolicy | None,
         policy: Policy | None = None,
         *,
         explain: bool = True,
@@ -192,7 +192,7 @@ class Auditing:
         finally:
             self.stop()
 
-    def _files(self, abis: range, tried: Tried | None, policy: Policy | None) -> Iterator[tuple[Part, Files]]:
+    def _files(self, abis: range, tried: TriedPolicy | None, policy: Policy | None) -> Iterator[tuple[Part, Files]]:
         """What is to be judged of each part."""
         for number, own in enumerate(self.recording.parts):
             part = Part(self.folder, own.number)
@@ -227,7 +227,7 @@ class Auditing:
                     made.replace(place)
 
 
-def notes(tried: Tried, abis: range, *, here: bool = False) -> Iterator[str]:
+def notes(tried: TriedPolicy, abis: range, *, here: bool = False) -> Iterator[str]:
     """Notes on rules that may be read in another way, and on the rights that the ABIs do not have.
 
     For the newest ABI there is each note; for the older ones, only which of them have notes. With `here`, paths that do

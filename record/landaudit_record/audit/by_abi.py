@@ -14,7 +14,7 @@ from .summary import Refusal, Summary
 from .warnings import Warned
 
 
-class Kind(NamedTuple):
+class VisibleRefusal(NamedTuple):
     """Refused calls that look the same to a program, whichever layer refuses them and why."""
 
     call: str
@@ -23,7 +23,7 @@ class Kind(NamedTuple):
 
 
 @dataclass(frozen=True)
-class Step:
+class AbiStep:
     """An ABI, compared with the one before it in the range.
 
     `breaks` are the kinds that are refused here and not there, all of them at the oldest ABI: the earliest first, since
@@ -33,8 +33,8 @@ class Step:
 
     abi: int
     verdicts: Counter[str]
-    breaks: tuple[Kind, ...]
-    no_more: tuple[Kind, ...]
+    breaks: tuple[VisibleRefusal, ...]
+    no_more: tuple[VisibleRefusal, ...]
     warnings: tuple[Warned, ...]
 
 
@@ -44,12 +44,12 @@ def of_range(judged: Sequence[Summary], abis: range) -> list[Summary]:
     return [*(summary for summary in judged if summary.abi in abis), *later]
 
 
-def steps(summaries: Sequence[Summary]) -> list[Step]:
+def steps(summaries: Sequence[Summary]) -> list[AbiStep]:
     """The ABIs of a range, by the summary of each, the oldest first."""
     newest = summaries[-1].warnings
-    found: list[Step] = []
-    before: dict[Kind, int] = {}
-    known: dict[Refusal, Kind] = {}
+    found: list[AbiStep] = []
+    before: dict[VisibleRefusal, int] = {}
+    known: dict[Refusal, VisibleRefusal] = {}
     for summary in summaries:
         kinds = _kinds(summary, known)
         new = [item for item in kinds.items() if item[0] not in before]
@@ -58,25 +58,25 @@ def steps(summaries: Sequence[Summary]) -> list[Step]:
         refused = {kind[:2] for kind in kinds} if gone else set()
         no_more = [kind for kind, _ in gone.most_common() if kind[:2] not in refused]
         warnings = tuple(warning for warning in summary.warnings if warning not in newest)
-        found.append(Step(summary.abi, summary.verdicts, tuple(breaks), tuple(no_more), warnings))
+        found.append(AbiStep(summary.abi, summary.verdicts, tuple(breaks), tuple(no_more), warnings))
         before = kinds
     return found
 
 
-def _kinds(summary: Summary, known: dict[Refusal, Kind]) -> dict[Kind, int]:
+def _kinds(summary: Summary, known: dict[Refusal, VisibleRefusal]) -> dict[VisibleRefusal, int]:
     """The kinds of an audit's refused calls, in the order of the trace, with how many there are of each; `known` has
     the kinds of refusals that were met before.
     """
-    found: dict[Kind, int] = {}
+    found: dict[VisibleRefusal, int] = {}
     for refusal, programs in summary.refusals.items():
         kind = known.get(refusal)
         if kind is None:
-            kind = known[refusal] = Kind(refusal.call, refusal.subject, refusal.error)
+            kind = known[refusal] = VisibleRefusal(refusal.call, refusal.subject, refusal.error)
         found[kind] = found.get(kind, 0) + sum(programs.values())
     return found
 
 
-def as_data(found: Sequence[Step]) -> list[dict[str, Any]]:
+def as_data(found: Sequence[AbiStep]) -> list[dict[str, Any]]:
     """The ABIs as data for programs; the keys stay."""
     return [
         {
@@ -94,5 +94,5 @@ def as_data(found: Sequence[Step]) -> list[dict[str, Any]]:
     ]
 
 
-def _kind_data(kind: Kind) -> dict[str, str]:
+def _kind_data(kind: VisibleRefusal) -> dict[str, str]:
     return {"call": kind.call, "place": str(kind.subject), "error": kind.error}

@@ -18,7 +18,7 @@ from ..common.operations import MOVES, PATH_CALLS, PORT_CALLS, RULESET_CALLS
 from ..common.trees import ROOT, Tree, directory_of
 from ..engine.answers import MOOT
 from ..engine.processes import shown
-from .kernel_calls import Call, newer_rights
+from .kernel_calls import JudgedCall, newer_rights
 
 OK = "ok"
 LEFT_OUT_ERRORS = frozenset({"EFAULT", "EOPNOTSUPP", "EBADFD", "EAFNOSUPPORT"})
@@ -52,7 +52,7 @@ class Class(enum.Enum):
 class Difference:
     """A call to which the kernel gave another answer than landaudit."""
 
-    call: Call
+    call: JudgedCall
     because: Class
 
 
@@ -63,7 +63,7 @@ def errors_of_landlock(op: str) -> frozenset[str]:
     return frozenset({"EACCES", "EXDEV"} if op in MOVES else {"EACCES"})
 
 
-def agree(call: Call) -> bool:
+def agree(call: JudgedCall) -> bool:
     """Whether landaudit's answer is what the kernel did.
 
     If the recording does not know what was there before a call, either answer will do. If landaudit refuses a call, the
@@ -109,17 +109,17 @@ class Classes:
             (Class.NOT_LISTED, lambda call: call.partly_moot),
         )
 
-    def of(self, call: Call) -> Class:
+    def of(self, call: JudgedCall) -> Class:
         """The first class that explains a difference."""
         return next((because for because, explains in self._tests if explains(call)), Class.UNNAMED)
 
-    def _newer(self, call: Call) -> bool:
+    def _newer(self, call: JudgedCall) -> bool:
         """A ruleset with rights that the ABI does not have: its `create` fails with EINVAL, and it makes no layer."""
         if call.op == "create":
             return call.answer.error == "EINVAL" and bool(newer_rights(call.record, self._abi))
         return call.by_kernel.newer
 
-    def _before_the_tree(self, call: Call) -> bool:
+    def _before_the_tree(self, call: JudgedCall) -> bool:
         """Forms of calls that the tree forbids, but about which the kernel asks Landlock."""
         if not call.partly_moot or call.kernel not in errors_of_landlock(call.op):
             return False
@@ -145,7 +145,7 @@ class Classes:
         moved, onto = self._kind(record, "from"), self._kind(record, "to")
         return None not in (moved, onto) and (moved == "dir") != (onto == "dir")
 
-    def _whiteout(self, call: Call) -> bool:
+    def _whiteout(self, call: JudgedCall) -> bool:
         """A character device that is made, removed or moved: a kernel judges a whiteout among them in another way."""
         record = call.record
         if call.op == "mknod":
@@ -153,14 +153,14 @@ class Classes:
         members = {"unlink": ("path",), "rename": ("from", "to"), "link": ("from",)}.get(call.op, ())
         return any(self._kind(record, member) == "char" for member in members)
 
-    def _mounts(self, call: Call) -> bool:
+    def _mounts(self, call: JudgedCall) -> bool:
         """A move between file systems, which the kernel refuses before Landlock is asked."""
         if call.op not in MOVES or call.kernel != "EXDEV":
             return False
         source, target = (self._stat_of(directory_of(shown(call.record, member) or ROOT)) for member in ("from", "to"))
         return source is not None and target is not None and source.st_dev != target.st_dev
 
-    def _modes(self, call: Call) -> bool:
+    def _modes(self, call: JudgedCall) -> bool:
         """A refusal by privileges (of a mount), or because a file may not be run whatever the policy is."""
         if call.answer.refused:
             return False
@@ -175,25 +175,25 @@ class Classes:
         return found is not None and not (stat.S_ISREG(found.st_mode) and found.st_mode & 0o111)
 
 
-def _left_out(call: Call) -> bool:
+def _left_out(call: JudgedCall) -> bool:
     return call.kernel in LEFT_OUT_ERRORS and call.op in RULESET_CALLS | PORT_CALLS
 
 
-def _ports_and_moves(call: Call) -> bool:
+def _ports_and_moves(call: JudgedCall) -> bool:
     """A layer without rights for files, together with one that has some, refuses moves to another directory."""
     files = [bool(layer.handled_fs) for layer in call.domain]
     moved = call.op in MOVES and call.kernel == "EXDEV" and not call.answer.refused
     return moved and any(files) and not all(files)
 
 
-def _running_reads(call: Call) -> bool:
+def _running_reads(call: JudgedCall) -> bool:
     """An exec whose trace does not say what the kernel opens for it."""
     alone = call.op == "exec" and all(record["op"] == "exec" for record in call.records)
     reads = any("read_file" in layer.handled_fs for layer in call.domain)
     return alone and reads and call.kernel == "EACCES" and not call.answer.refused
 
 
-def _ioctl(call: Call) -> bool:
+def _ioctl(call: JudgedCall) -> bool:
     """A command that the kernel judges in another way than `driver` says."""
     if call.op != "ioctl":
         return False
@@ -223,7 +223,7 @@ class Tally:
         return sum(count for because, count in self.differences.items() if not because.named)
 
 
-def compare(calls: Iterable[Call], classes: Classes, tally: Tally) -> Iterator[Difference]:
+def compare(calls: Iterable[JudgedCall], classes: Classes, tally: Tally) -> Iterator[Difference]:
     """Yields each call that differs, and counts all calls."""
     for call in calls:
         tally.calls += 1

@@ -9,7 +9,7 @@ from ..common.operations import call_text
 from ..engine.answers import Answer
 from ..engine.processes import shown
 from .comparing import Class, Difference, Tally
-from .kernel_calls import Call
+from .kernel_calls import JudgedCall
 
 NEWER_NOTE = "a program that asks for newer rights must be recorded at this ABI to be compared at it"
 
@@ -42,7 +42,7 @@ def _example(difference: Difference) -> str:
     return f"line {call.number}: {what}: landaudit {told(call.answer)}, kernel {call.kernel}"
 
 
-def place(call: Call) -> str:
+def place(call: JudgedCall) -> str:
     """What a call is about: its path or paths, its port, else its descriptor."""
     record = call.record
     if "from" in record:

@@ -22,7 +22,7 @@ from ..common.reach import PTRACE
 from ..common.restoring import Confined, Living, Opened, Promised, Ran, Started, State, Step
 from ..recorder.calls.ptrace import INTO_ANOTHER
 from . import leftovers, surroundings
-from .distilled import Asked, Process, Section, text
+from .distilled import DistilledCall, DistilledProcess, DistilledSection, text
 
 #: Members of a record that say nothing of what it asks.
 _OF_RUN = frozenset({"op", "pid", "call", "fd", "rs", "again", "ran", "starting", "policy", "stands_for"})
@@ -30,7 +30,7 @@ _ASKING = JUDGED | RULESET_CALLS
 _DIGITS = re.compile("[0-9]+")
 
 
-def section(recording: Finished) -> Section:
+def section(recording: Finished) -> DistilledSection:
     """What is kept of a recording."""
     condensing = Condensing()
     for part in recording.parts:
@@ -39,7 +39,7 @@ def section(recording: Finished) -> Section:
     kept |= {text({"before": line["path"], **{name: line[name] for name in ("kind", "target") if line.get(name)}})
              for line in surroundings.lines_of(recording.folder)}
     kept |= {text({"left": path}) for path in leftovers.of(recording)}
-    return Section(_facts(recording), kept | condensing.numbers(kept), condensing.calls)
+    return DistilledSection(_facts(recording), kept | condensing.numbers(kept), condensing.calls)
 
 
 def _facts(recording: Finished) -> str:
@@ -63,12 +63,12 @@ class Condensing:
     """Follows the parts of a recording, and counts its calls."""
 
     def __init__(self) -> None:
-        self.calls: Counter[Asked] = Counter()
+        self.calls: Counter[DistilledCall] = Counter()
         self._pids: set[int] = set()
         self._steps: dict[Step, tuple[str, ...]] = {}
         self._living = Living()
         self._call: tuple[int, int] | None = None
-        self._process: Process | None = None
+        self._process: DistilledProcess | None = None
         self._records: list[Record] = []
         self._opened: dict[Opened, int] = {}
 
@@ -99,7 +99,7 @@ class Condensing:
     def _end(self) -> None:
         """Counts the call that has ended."""
         if self._process is not None:
-            self.calls[Asked(text(self._records), self._process)] += 1
+            self.calls[DistilledCall(text(self._records), self._process)] += 1
         self._process = None
         self._records = []
         self._opened = {}
@@ -122,7 +122,7 @@ class Condensing:
                 return
             asked.update({"on": on} if on else {})
         if self._process is None:
-            self._process = Process(self._steps_to(state.step), state.starting)
+            self._process = DistilledProcess(self._steps_to(state.step), state.starting)
         self._records.append(asked)
 
     def _openings(self, state: State, fd: int) -> Iterator[Record]:

@@ -41,7 +41,7 @@ def text(value: Any) -> str:
     return _escaped(value) if _LONE.search(written) else written
 
 
-class Process(NamedTuple):
+class DistilledProcess(NamedTuple):
     """A process as a policy sees it: the steps by which it got its layers and ran its programs, each as text.
 
     `starting` says that the recording starts it and that it has run no program yet.
@@ -59,15 +59,15 @@ class Process(NamedTuple):
         return f"{program}:{hashlib.sha256(whole).hexdigest()[:_LETTERS]}"
 
 
-class Asked(NamedTuple):
+class DistilledCall(NamedTuple):
     """A call of a process: its records as text, in a list."""
 
     records: str
-    process: Process
+    process: DistilledProcess
 
 
 @dataclass
-class Section:
+class DistilledSection:
     """What is kept of a recording, all lines as text, and how often each call was made.
 
     `facts` says what could not be recorded and on which machine, `lines` has the objects, the files that the run left
@@ -76,12 +76,12 @@ class Section:
 
     facts: str
     lines: set[str] = field(default_factory=set)
-    calls: Counter[Asked] = field(default_factory=Counter)
+    calls: Counter[DistilledCall] = field(default_factory=Counter)
 
     @property
     def written(self) -> list[str]:
         """The lines of the section, without line feeds."""
-        processes: dict[Process, str] = {}
+        processes: dict[DistilledProcess, str] = {}
         for asked in self.calls:
             if asked.process not in processes:
                 processes[asked.process] = asked.process.name
@@ -93,28 +93,29 @@ class Section:
         return [f'{{"recording":{self.facts}}}', *sorted(self.lines), *told, *asks]
 
 
-def _process_line(name: str, process: Process) -> str:
+def _process_line(name: str, process: DistilledProcess) -> str:
     starting = ',"starting":true' if process.starting else ""
     return f'{{"process":{text(name)},"steps":[{",".join(process.steps)}]{starting}}}'
 
 
-def joined(sections: Iterable[Section]) -> list[Section]:
+def joined(sections: Iterable[DistilledSection]) -> list[DistilledSection]:
     """Sections in one order, of which those are one that differ in nothing but calls."""
-    found: dict[tuple[str, frozenset[str]], Section] = {}
+    found: dict[tuple[str, frozenset[str]], DistilledSection] = {}
     for section in sections:
-        one = found.setdefault((section.facts, frozenset(section.lines)), Section(section.facts, section.lines))
+        key = (section.facts, frozenset(section.lines))
+        one = found.setdefault(key, DistilledSection(section.facts, section.lines))
         one.calls.update(section.calls)
     return sorted(found.values(), key=lambda section: section.written)
 
 
-def lines(sections: Iterable[Section]) -> Iterator[str]:
+def lines(sections: Iterable[DistilledSection]) -> Iterator[str]:
     """The lines of a file, without line feeds."""
     yield text({FIRST: FORMAT})
     for section in joined(sections):
         yield from section.written
 
 
-def write(path: Path, sections: Iterable[Section]) -> None:
+def write(path: Path, sections: Iterable[DistilledSection]) -> None:
     """Writes a file."""
     whole = "".join(f"{line}\n" for line in lines(sections))
     path.write_text(whole, encoding="utf-8", newline="\n")
@@ -134,9 +135,9 @@ def is_distilled(path: Path) -> bool:
         return False
 
 
-def read(path: Path) -> list[Section]:
+def read(path: Path) -> list[DistilledSection]:
     """The sections of a file; what is not a distilled recording is a Problem."""
-    reading = _Reading()
+    reading = _SectionReading()
     number = 0
     for number, line in jsonl.numbered(path):
         try:
@@ -148,12 +149,12 @@ def read(path: Path) -> list[Section]:
     return reading.sections
 
 
-class _Reading:
+class _SectionReading:
     """Reads lines."""
 
     def __init__(self) -> None:
-        self.sections: list[Section] = []
-        self._processes: dict[str, Process] = {}
+        self.sections: list[DistilledSection] = []
+        self._processes: dict[str, DistilledProcess] = {}
 
     def take(self, number: int, line: Record) -> None:
         """Reads a line."""
@@ -162,7 +163,7 @@ class _Reading:
                 raise ValueError(f"it is of format {line[FIRST]}, and format {FORMAT} is known: use one version")
             return
         if "recording" in line:
-            self.sections.append(Section(text(dict(line["recording"]))))
+            self.sections.append(DistilledSection(text(dict(line["recording"]))))
             self._processes = {}
             return
         if not self.sections:
@@ -170,7 +171,7 @@ class _Reading:
         section = self.sections[-1]
         if "process" in line:
             steps = tuple(text(dict(step)) for step in line["steps"])
-            self._processes[line["process"]] = Process(steps, line.get("starting") is True)
+            self._processes[line["process"]] = DistilledProcess(steps, line.get("starting") is True)
         elif "asks" in line:
             records = text([dict(record) for record in line["asks"] if OPERATIONS[record["op"]]])
             if not line["asks"] or not line["by"]:
@@ -178,12 +179,12 @@ class _Reading:
             for name, times in dict(line["by"]).items():
                 if type(times) is not int or not 1 <= times <= _MOST_TIMES:
                     raise ValueError("one of its numbers is no number of calls")
-                section.calls[Asked(records, self._processes[name])] += times
+                section.calls[DistilledCall(records, self._processes[name])] += times
         else:
             section.lines.add(text(line))
 
 
-def facts(section: Section) -> Mapping[str, Any]:
+def facts(section: DistilledSection) -> Mapping[str, Any]:
     """What a section says of its recording."""
     found: dict[str, Any] = json.loads(section.facts)
     return found

@@ -29,7 +29,7 @@ from ..common.trace_lines import FIRST_MADE_UP
 from ..common.trees import upwards
 from ..engine.processes import program_run
 from . import distilled, surroundings
-from .distilled import Asked, Process, Section
+from .distilled import DistilledCall, DistilledProcess, DistilledSection
 
 #: The most objects and records of a part, with room for those of a policy; landaudit reads some more.
 MOST_OBJECTS, MOST_RECORDS = 60_000, 500_000
@@ -60,7 +60,7 @@ def opened(name: str) -> list[tuple[str, Finished]]:
         raise Problem(f"{name} is not what landaudit-record distill writes: {error!r}") from error
 
 
-def _finished(section: Section) -> Finished:
+def _finished(section: DistilledSection) -> Finished:
     """A section as a recording in a folder of its own."""
     scratch = _Scratch()
     folder, facts = scratch.folder, distilled.facts(section)
@@ -88,14 +88,16 @@ def _before(kept: Iterable[Record]) -> Iterator[Record]:
             yield {"path": line["before"], "kind": line.get("kind"), **target}
 
 
-def _pieces(calls: Mapping[Asked, int], tree: Sequence[Record]) -> Iterator[tuple[dict[Asked, int], Sequence[Record]]]:
+def _pieces(
+    calls: Mapping[DistilledCall, int], tree: Sequence[Record]
+) -> Iterator[tuple[dict[DistilledCall, int], Sequence[Record]]]:
     """The calls for each part, with the objects that it lists: all of them if there is one part alone."""
     ordered = dict(sorted(calls.items()))
     if len(tree) <= MOST_OBJECTS and sum(_lines_of(asked) for asked in ordered) <= MOST_RECORDS:
         yield ordered, tree
         return
     known = {str(line["path"]): line for line in tree}
-    some: dict[Asked, int] = {}
+    some: dict[DistilledCall, int] = {}
     named: set[str] = set()
     weight = 0
     for asked, times in ordered.items():
@@ -109,12 +111,12 @@ def _pieces(calls: Mapping[Asked, int], tree: Sequence[Record]) -> Iterator[tupl
     yield some, [line for path, line in known.items() if path in named]
 
 
-def _lines_of(asked: Asked) -> int:
+def _lines_of(asked: DistilledCall) -> int:
     """About how many lines a call has in a trace, with what prepares it."""
     return 4 + 3 * asked.records.count('"op":')
 
 
-def _named(asked: Asked) -> Iterator[str]:
+def _named(asked: DistilledCall) -> Iterator[str]:
     """The paths that a call names, its openings, and the layers of its process."""
     found = [json.loads(asked.records), *map(json.loads, asked.process.steps)]
     while found:
@@ -139,13 +141,13 @@ class _Asker:
 class _Trace:
     """The trace of some calls."""
 
-    def __init__(self, calls: Mapping[Asked, int], numbers: Sequence[int]) -> None:
+    def __init__(self, calls: Mapping[DistilledCall, int], numbers: Sequence[int]) -> None:
         self._calls = calls
         self._numbers = numbers
         self._steps: dict[tuple[str, ...], Step] = {}
         self._opened: dict[tuple[str, Step], Opened] = {}
         self._states: dict[int, State] = {}
-        self._askers: dict[Process, _Asker] = {}
+        self._askers: dict[DistilledProcess, _Asker] = {}
         self._pids = count(FIRST_ASKER)
         self._fds = count(FIRST_MADE_UP)
         self._call = _NO_CALL
@@ -162,7 +164,7 @@ class _Trace:
             out.writelines(map(jsonl.line, restoring.again(self._states)))
             out.writelines(self._body)
 
-    def _ask(self, asked: Asked, times: int) -> None:
+    def _ask(self, asked: DistilledCall, times: int) -> None:
         """Asks a call."""
         records = json.loads(asked.records)
         runs = any(program_run(record) is not None for record in records)
@@ -181,7 +183,7 @@ class _Trace:
         else:
             self._say_all(asker, records, times)
 
-    def _made(self, process: Process) -> _Asker:
+    def _made(self, process: DistilledProcess) -> _Asker:
         """A process that has taken the steps of another one."""
         way: list[Step] = []
         for number in range(1, len(process.steps) + 1):

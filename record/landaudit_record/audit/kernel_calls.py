@@ -11,7 +11,7 @@ from ..common.jsonl import Record
 from ..common.operations import RULESET_CALLS
 from ..common.rights import FS, NET
 from ..engine.answers import MOOT, Answer
-from ..engine.processes import Layer
+from ..engine.processes import RulesetLayer
 from ..engine.reading import Judged
 
 
@@ -30,7 +30,7 @@ NOTHING_MORE = ByKernel()
 
 
 @dataclass(frozen=True)
-class Call:
+class JudgedCall:
     """One system call: the records that stand for it, and landaudit's answers to them.
 
     `domain` is the domain of the process by landaudit's answers; `by_kernel` is what only the kernel gave it.
@@ -40,13 +40,13 @@ class Call:
 
     records: tuple[Record, ...]
     answers: tuple[Answer, ...]
-    domain: tuple[Layer, ...]
+    domain: tuple[RulesetLayer, ...]
     by_kernel: ByKernel
     otherwise: tuple[Answer, ...] = ()
     own: str | None = None
 
     @property
-    def other(self) -> Call | None:
+    def other(self) -> JudgedCall | None:
         """The call as it is if what the recording does not know was otherwise; None if nothing is unknown."""
         return replace(self, answers=self.otherwise, otherwise=()) if self.otherwise else None
 
@@ -97,7 +97,7 @@ def newer_rights(record: Record, abi: int) -> list[str]:
     return sorted(unknown_fs | unknown_net)
 
 
-class _Apart:
+class _Diverged:
     """The processes to which the kernel gave something that landaudit refused."""
 
     def __init__(self, abi: int) -> None:
@@ -124,14 +124,14 @@ class _Apart:
                 self._by_pid[pid] = replace(by_kernel, layer=True)
 
 
-def judged_calls(judged: Iterable[Judged], abi: int) -> Iterator[Call]:
+def judged_calls(judged: Iterable[Judged], abi: int) -> Iterator[JudgedCall]:
     """The calls to compare: those on rulesets, and all others of a process that is under a layer."""
-    apart = _Apart(abi)
+    apart = _Diverged(abi)
     for (pid, _), together in groupby(judged, key=lambda found: (found[0]["pid"], found[0].get("call"))):
         by_kernel = apart.of(pid)
         records: list[Record] = []
         answers: list[Answer] = []
-        domain: tuple[Layer, ...] = ()
+        domain: tuple[RulesetLayer, ...] = ()
         otherwise: dict[int, Answer] = {}
         for record, answer, process in together:
             if "otherwise" in record:
@@ -143,7 +143,7 @@ def judged_calls(judged: Iterable[Judged], abi: int) -> Iterator[Call]:
             apart.follow(record, answer)
         if records:
             others = tuple(otherwise.get(number, answer) for number, answer in enumerate(answers)) if otherwise else ()
-            call = Call(tuple(records), tuple(answers), domain, by_kernel, others)
+            call = JudgedCall(tuple(records), tuple(answers), domain, by_kernel, others)
             if call.confined or call.op in RULESET_CALLS:
                 yield call
 

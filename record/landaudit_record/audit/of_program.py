@@ -25,7 +25,7 @@ from ..policy.applying import MOST_RECORDS
 from ..policy.importing import OF_PROCESSES, Following, Own
 from ..policy.policies import Policy
 from . import auditor, together
-from .auditor import Files, Tried
+from .auditor import Files, TriedPolicy
 from .together import Member
 
 
@@ -43,7 +43,7 @@ class _Place:
 
 
 @dataclass(frozen=True)
-class TriedOfProgram(Tried):
+class TriedOfProgram(TriedPolicy):
     """A policy in place of a program's own: for each part, its lines that restrict. `made` has the names in the tree of
     objects that the run made and on which the program has rules.
     """

@@ -18,12 +18,12 @@ from ..common.finished import REACH, Finished, Part
 from ..common.jsonl import Record
 from ..common.operations import OPERATIONS
 from ..common.problems import Problem
-from ..common.reach import ABSTRACT, PTRACE, SIGNAL, Domain, Layer, refusing
+from ..common.reach import ABSTRACT, PTRACE, SIGNAL, Domain, ProcessLayer, refusing
 from ..common.trace_lines import AGAIN, HEAD, heads
 from ..engine.answers import Objection, Scoped, Tracing
 from ..engine.processes import program_run
 from ..engine.subjects import at
-from .auditor import Tried
+from .auditor import TriedPolicy
 from .summary import Refusal, RefusingLayer, Summary
 
 #: What a call is called if its system call is not named.
@@ -77,7 +77,7 @@ class _State:
 class Domains:
     """The layers and the program of each process of a recording, at each record of its trace."""
 
-    def __init__(self, recording: Finished, tried: Tried | None, *, best_effort: bool) -> None:
+    def __init__(self, recording: Finished, tried: TriedPolicy | None, *, best_effort: bool) -> None:
         self._drops = best_effort
         self._policy = tried.policy.layers if tried is not None else ()
         self._states: dict[int, list[_State]] = {}
@@ -117,9 +117,11 @@ class Domains:
                     continue
                 behind += 1
                 if number in places:
-                    layers = (Layer(layer.handled_access_fs.rights | layer.handled_access_net.rights, layer.scoped,
-                                    layer.number) for layer in self._policy)
-                    self._add(places[number], behind, layers=tuple(layers))
+                    layers = tuple(
+                        ProcessLayer(of.handled_access_fs.rights | of.handled_access_net.rights, of.scoped, of.number)
+                        for of in self._policy
+                    )
+                    self._add(places[number], behind, layers=layers)
                 if line[:HEAD] not in _TELL_NOTHING and line.strip(jsonl.BLANKS):
                     self._take(jsonl.read(part.trace, number, line), behind)
         return behind
@@ -144,7 +146,7 @@ class Domains:
             case "restrict" if record.get("kernel", "ok") == "ok":
                 made = self._held.get(pid, {}).get(record["rs"], {})
                 rights = frozenset([*made.get("fs", ()), *made.get("net", ())])
-                layer = Layer(rights, tuple(made.get("scoped", ())), drops=self._drops)
+                layer = ProcessLayer(rights, tuple(made.get("scoped", ())), drops=self._drops)
                 self._add(pid, behind, layers=(layer,))
 
     def _add(self, pid: int, behind: int, *, layers: Domain = (), program: str | None = None) -> None:
@@ -154,7 +156,7 @@ class Domains:
             self._states[pid].append(_State(behind, (*state.domain, *layers), program or state.program))
 
 
-def tell(summaries: Sequence[Summary], recording: Finished, tried: Tried | None, *, best_effort: bool) -> None:
+def tell(summaries: Sequence[Summary], recording: Finished, tried: TriedPolicy | None, *, best_effort: bool) -> None:
     """Counts in the summaries of a recording what its calls that reach others are refused at their ABIs."""
     reaches = list(read(recording.folder))
     if not reaches:
@@ -186,7 +188,7 @@ def _refusal(reach: Reach, caller: Domain, layers: Domain, abi: int, whom: str) 
     return Refusal(reach.call, at(whom), reach.error, told, None)
 
 
-def _number(domain: Domain, layer: Layer, abi: int) -> int | None:
+def _number(domain: Domain, layer: ProcessLayer, abi: int) -> int | None:
     """The number of a layer as landaudit counts; one that has only scopes has none."""
     if not layer.is_numbered(abi):
         return None

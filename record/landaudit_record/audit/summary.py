@@ -13,7 +13,7 @@ from ..common.operations import call_text
 from ..engine import answers
 from ..engine.answers import UNOPENED, UNSURE, Answer, Condition, Kept, Missing, Objection
 from ..engine.processes import of_policy, shown_path
-from ..engine.reading import ASKED_LANDLOCK, Place, Told, Walk, place_of, subject_of
+from ..engine.reading import ASKED_LANDLOCK, NamedSubject, Told, Walk, place_of, subject_of
 from ..engine.subjects import Number, Subject
 from .moot import FAILED_TOO, MISSED, Unasked
 from .warnings import MadeByRun, ManyMoot, NoLayer, OfPolicy, ReplacedByRun, RuleRefused, RulesetRefused, RuleUnused, Warned
@@ -96,7 +96,9 @@ class Summary:
     untraced: tuple[str, ...] = ()
     accepted: Counter[Accepted] = field(default_factory=Counter)
     recordings: dict[Refusal, list[str]] = field(default_factory=dict)
-    not_allowed: dict[str, Counter[Place]] = field(default_factory=lambda: {"refused": Counter(), "moot": Counter()})
+    not_allowed: dict[str, Counter[NamedSubject]] = field(
+        default_factory=lambda: {"refused": Counter(), "moot": Counter()}
+    )
     unsure: dict[Refusal, Counter[str]] = field(default_factory=dict)
 
     @property

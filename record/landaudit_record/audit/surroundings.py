@@ -17,7 +17,7 @@ from pathlib import Path
 
 from ..common import jsonl, resolving
 from ..common.finished import CONVERTED
-from ..common.resolving import DISK, NOTHING, ROOT, Known, LinkLoop, Met, NothingElse, directory_of, joined
+from ..common.resolving import DISK, NOTHING, ROOT, KnownObjects, LinkLoop, Met, NothingElse, directory_of, joined
 from ..common.rights import FS
 from ..policy import policies
 from ..policy.policies import Policy
@@ -112,7 +112,7 @@ class _Kept:
         return DISK.at(path) if self.here else None
 
 
-def of(folder: Path) -> Known:
+def of(folder: Path) -> KnownObjects:
     """What is known of the objects that the tree of a recording does not list.
 
     A tree and a trace that were not recorded by `run` are taken as all that there is.

@@ -17,7 +17,7 @@ from ..common.trees import Tree
 from ..engine.reading import Walk
 from ..policy.policies import Policy
 from . import auditor, expanding
-from .auditor import Auditing, Tried
+from .auditor import Auditing, TriedPolicy
 from .summary import Summary
 from .warnings import RuleUnused
 
@@ -28,7 +28,7 @@ class Member:
 
     name: str
     recording: Finished
-    tried: Tried | None
+    tried: TriedPolicy | None
 
     @property
     def tree(self) -> Tree:
@@ -72,7 +72,7 @@ def status(members: Sequence[Member]) -> int:
     return NOT_ALL_JUDGED if unknown(members) else 0
 
 
-def tried_of(members: Sequence[Member]) -> Tried | None:
+def tried_of(members: Sequence[Member]) -> TriedPolicy | None:
     """The policy as it is tried, over the objects of all recordings."""
     tried = [member.tried for member in members if member.tried is not None]
     return replace(tried[0], tree=trees.united(one.tree for one in tried)) if tried else None

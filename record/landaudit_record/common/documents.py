@@ -22,7 +22,7 @@ T = TypeVar("T")
 
 
 @dataclass(frozen=True)
-class Place:
+class DocumentPlace:
     """A position in a document, so that an error can name it: its steps, each a key or one of several tables.
 
     `within` is a key of the table there, or the number of an item of the list there, from 0.
@@ -32,12 +32,12 @@ class Place:
     steps: tuple[str | Numbered, ...] = ()
     within: str | int | None = None
 
-    def __truediv__(self, step: str | Numbered) -> Place:
-        return Place(self.path, (*self.steps, step))
+    def __truediv__(self, step: str | Numbered) -> DocumentPlace:
+        return DocumentPlace(self.path, (*self.steps, step))
 
-    def at(self, within: str | int) -> Place:
+    def at(self, within: str | int) -> DocumentPlace:
         """The position of a key, or of an item, of what is here."""
-        return Place(self.path, self.steps, within)
+        return DocumentPlace(self.path, self.steps, within)
 
     def fault(self, text: str) -> NoReturn:
         """Raises the Problem that this position has an error."""
@@ -80,7 +80,7 @@ def read(path: Path) -> Mapping[str, Any]:
         raise Problem(f"{path}: not TOML: {error}") from error
 
 
-def one_or_several(value: Any, one: Callable[[Any, Place], T], place: Place) -> tuple[T, ...]:
+def one_or_several(value: Any, one: Callable[[Any, DocumentPlace], T], place: DocumentPlace) -> tuple[T, ...]:
     """One value, or several in a list."""
     if not isinstance(value, list):
         return (one(value, place),)
@@ -89,14 +89,16 @@ def one_or_several(value: Any, one: Callable[[Any, Place], T], place: Place) -> 
     return tuple(one(item, place.at(number)) for number, item in enumerate(value))
 
 
-def tables(value: Any, key: str, place: Place) -> list[Mapping[str, Any]]:
+def tables(value: Any, key: str, place: DocumentPlace) -> list[Mapping[str, Any]]:
     """The tables under a key."""
     if not isinstance(value, list) or not all(isinstance(item, dict) for item in value):
         place.at(key.rpartition(".")[2]).fault(f"{key} must be tables: write each as [[{key}]]")
     return value
 
 
-def check_keys(table: Mapping[str, Any], known: tuple[str, ...], place: Place, all_needed: bool = False) -> None:
+def check_keys(
+    table: Mapping[str, Any], known: tuple[str, ...], place: DocumentPlace, all_needed: bool = False
+) -> None:
     """Checks that a table has only known keys and, if all are needed, each of them."""
     for key in table:
         if key not in known:
@@ -106,7 +108,7 @@ def check_keys(table: Mapping[str, Any], known: tuple[str, ...], place: Place, a
             place.fault(f"{key} is missing")
 
 
-def text(table: Mapping[str, Any], key: str, place: Place) -> str:
+def text(table: Mapping[str, Any], key: str, place: DocumentPlace) -> str:
     """The text of a key that must be there."""
     value = table.get(key)
     if value is None:

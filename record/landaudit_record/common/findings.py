@@ -115,7 +115,7 @@ def _open(findings: Sequence[Finding]) -> list[Finding]:
     return sorted((one for one in findings if one.level is not Level.PASSED), key=lambda one: order.index(one.level))
 
 
-class Places:
+class DocumentPlaces:
     """Where the parts of a document are in its file; of what is no regular file, nothing more is known."""
 
     def __init__(self, file: Path) -> None:

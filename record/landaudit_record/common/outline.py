@@ -60,7 +60,7 @@ class Outline:
 
 def of(text: str) -> Outline:
     """The outline of a document."""
-    walk = _Walk(text)
+    walk = _TokenWalk(text)
     walk.statements()
     return walk.found
 
@@ -97,7 +97,7 @@ def _tokens(text: str) -> Iterator[_Token]:
             yield _Token(kind, found[0], found.start())
 
 
-class _Walk:
+class _TokenWalk:
     """A walk over the tokens of a document."""
 
     def __init__(self, text: str) -> None:

@@ -16,7 +16,7 @@ SIGNAL, ABSTRACT, PTRACE = "signal", "abstract_unix_socket", "ptrace"
 
 
 @dataclass(frozen=True, eq=False)
-class Layer:
+class ProcessLayer:
     """A layer that a process has put on itself: the rights that its ruleset handles, and its scopes.
 
     `policy` is its number in the tried policy, None if it is the program's own. At best effort (`drops`) its ruleset
@@ -51,7 +51,7 @@ class Layer:
 
 
 #: The layers of a process, the oldest first.
-Domain = tuple[Layer, ...]
+Domain = tuple[ProcessLayer, ...]
 
 
 def refusing(asked: str, caller: Domain, others: Sequence[Domain], abi: int) -> Domain:

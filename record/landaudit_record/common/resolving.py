@@ -55,7 +55,7 @@ NOTHING = Met(None)
 DIRECTORY = Met("dir")
 
 
-class Known(Protocol):
+class KnownObjects(Protocol):
     """What is known of the objects on the way of a path."""
 
     def at(self, path: str) -> Met | None:
@@ -72,7 +72,7 @@ class NothingElse:
 
 
 @dataclass(frozen=True)
-class Disk:
+class ThisDisk:
     """The objects that this machine has now."""
 
     def at(self, path: str) -> Met | None:
@@ -90,7 +90,7 @@ class Disk:
         return Met("dir" if stat.S_ISDIR(mode) else "reg", now=True)
 
 
-DISK = Disk()
+DISK = ThisDisk()
 
 
 @dataclass(frozen=True)
@@ -115,7 +115,7 @@ class Walked:
         return self.unknown is None and self.blocked is None
 
 
-def walked(path: str, known: Known) -> Walked:
+def walked(path: str, known: KnownObjects) -> Walked:
     """An absolute path without symbolic links, `.`, `..` and doubled slashes, as the kernel walks it.
 
     What follows an object that is not known, or that is not there, stays as it is written.

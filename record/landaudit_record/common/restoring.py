@@ -271,7 +271,7 @@ class _Carrier:
 
 
 #: A carrier that is before a step, and the processes that come after the step.
-_Way = tuple[_Carrier, Step, list[int]]
+_Branch = tuple[_Carrier, Step, list[int]]
 
 
 class _Again:
@@ -287,10 +287,10 @@ class _Again:
 
     def records(self) -> list[Record]:
         """All records, those of one started process after those of another."""
-        ways = [(_Carrier(self._pid_for(pids)), step, pids) for step, pids in self._roots().items()]
-        ways.reverse()
-        while ways:
-            ways.extend(reversed(self._walk(*ways.pop())))
+        branches = [(_Carrier(self._pid_for(pids)), step, pids) for step, pids in self._roots().items()]
+        branches.reverse()
+        while branches:
+            branches.extend(reversed(self._walk(*branches.pop())))
         return self._records
 
     def _roots(self) -> dict[Step, list[int]]:
@@ -319,8 +319,8 @@ class _Again:
         self._last[pid] = said
         return said
 
-    def _walk(self, carrier: _Carrier, step: Step, pids: list[int]) -> list[_Way]:
-        """Takes steps up to the next one where processes divide or one of them stops; returns the ways from it."""
+    def _walk(self, carrier: _Carrier, step: Step, pids: list[int]) -> list[_Branch]:
+        """Takes steps up to the next one where processes divide or one of them stops; returns the branches from it."""
         while True:
             self._take(carrier, step, pids)
             here = [pid for pid in pids if self._by_pid[pid].step is step]
@@ -333,9 +333,9 @@ class _Again:
                 return []
             (step,) = further
 
-    def _part(self, carrier: _Carrier, step: Step, here: list[int], further: dict[Step, list[int]]) -> list[_Way]:
+    def _part(self, carrier: _Carrier, step: Step, here: list[int], further: dict[Step, list[int]]) -> list[_Branch]:
         """Forks a carrier for each process that stays and for each step that comes next."""
-        ways: list[_Way] = []
+        branches: list[_Branch] = []
         for pid in here:
             child = self._fork(carrier, pid, [pid])
             self._open_at(child, step, [pid])
@@ -343,9 +343,9 @@ class _Again:
         for after, pids in further.items():
             child = self._fork(carrier, self._pid_for(pids), pids)
             self._open_at(child, step, pids)
-            ways.append((child, after, pids))
+            branches.append((child, after, pids))
         self._say(carrier.pid, {"op": "exit"})
-        return ways
+        return branches
 
     def _fork(self, carrier: _Carrier, pid: int, pids: list[int]) -> _Carrier:
         """A carrier of its own for some processes, without what none of them needs."""

@@ -11,7 +11,7 @@ from pathlib import Path
 from . import jsonl, resolving
 from .problems import Problem
 from .resolving import LinkLoop as LinkLoop
-from .resolving import NOTHING, Known, Met, NothingElse, Walked
+from .resolving import NOTHING, KnownObjects, Met, NothingElse, Walked
 from .resolving import ROOT as ROOT
 from .resolving import directory_of as directory_of
 from .resolving import joined as joined
@@ -43,7 +43,7 @@ class Tree:
     first: dict[str, str] = field(default_factory=dict)
     others: dict[str, list[str]] = field(default_factory=dict)
     shown: dict[str, str] = field(default_factory=dict)
-    beside: Known = field(default_factory=NothingElse)
+    beside: KnownObjects = field(default_factory=NothingElse)
 
     def kind(self, path: str) -> str | None:
         """The kind of the object at a path, None if there is none."""
@@ -119,14 +119,14 @@ class _Whole:
 class _Together:
     """What is known beside one or another of several trees."""
 
-    each: Sequence[Known]
+    each: Sequence[KnownObjects]
 
     def at(self, path: str) -> Met | None:
         """What the first one that knows says of a path."""
         return next((met for one in self.each if (met := one.at(path)) is not None), None)
 
 
-def read(*paths: Path, beside: Known = NothingElse()) -> Tree:
+def read(*paths: Path, beside: KnownObjects = NothingElse()) -> Tree:
     """The tree in a file, or in the files of all parts of a recording.
 
     `beside` says what is known of the objects that it does not list. A line without a path or a kind is a Problem;

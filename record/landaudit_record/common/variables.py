@@ -22,7 +22,7 @@ from pathlib import Path
 from typing import Any, NoReturn
 
 from . import documents, outline
-from .documents import Place
+from .documents import DocumentPlace
 from .numbered import Numbered
 from .problems import USAGE, Problem
 from .wording import is_utf8, quoted
@@ -113,7 +113,7 @@ class Filled:
 
 def read(path: Path, given: Given, over: Mapping[str, str] | None = None) -> Filled:
     """The document in a file; `over` are the default values of the file that includes it, which go before its own."""
-    table, place = dict(documents.read(path)), Place(path)
+    table, place = dict(documents.read(path)), DocumentPlace(path)
     defaults = _defaults(table.pop(KEY, {}), place / KEY)
     filling = _Filling(given, {**defaults, **(over or {})})
     filled = filling.table(table, place)
@@ -122,7 +122,7 @@ def read(path: Path, given: Given, over: Mapping[str, str] | None = None) -> Fil
     return Filled(filled, defaults, written)
 
 
-def _defaults(value: Any, place: Place) -> dict[str, str]:
+def _defaults(value: Any, place: DocumentPlace) -> dict[str, str]:
     """The values that a file gives itself."""
     if not isinstance(value, dict):
         place.fault('must be a table: write [variables], and under it APP = "/srv/app"')
@@ -144,11 +144,11 @@ class _Filling:
     defaults: Mapping[str, str]
     texts: dict[str | int, set[str | int]] = field(default_factory=dict)
 
-    def table(self, table: Mapping[str, Any], place: Place) -> dict[str, Any]:
+    def table(self, table: Mapping[str, Any], place: DocumentPlace) -> dict[str, Any]:
         """A table with values. A key that is not a word stays as it is: the reader refuses it."""
         return {key: self._value(value, place, key) if _NAME.fullmatch(key) else value for key, value in table.items()}
 
-    def _value(self, value: Any, place: Place, key: str) -> Any:
+    def _value(self, value: Any, place: DocumentPlace, key: str) -> Any:
         if isinstance(value, dict):
             return self.table(value, place / key)
         if isinstance(value, list):
@@ -157,7 +157,7 @@ class _Filling:
                     for number, item in enumerate(value, start=1)]
         return self._text(value, place / key, key)
 
-    def _text(self, value: Any, place: Place, key: str) -> Any:
+    def _text(self, value: Any, place: DocumentPlace, key: str) -> Any:
         """A text with values; a port that is a variable is a number."""
         filled = _USE.sub(lambda use: self._use(use, place), value) if isinstance(value, str) else value
         if key == "port" and filled != value and filled.isdecimal():
@@ -166,7 +166,7 @@ class _Filling:
             self.texts.setdefault(filled, set()).add(value)
         return filled
 
-    def _use(self, use: re.Match[str], place: Place) -> str:
+    def _use(self, use: re.Match[str], place: DocumentPlace) -> str:
         name = use["name"]
         if name is None:
             return "${"
@@ -183,7 +183,7 @@ class _Filling:
             place.fault(f"the value of ${{{name}}} is not UTF-8")
         return value
 
-    def _unknown(self, name: str, place: Place) -> NoReturn:
+    def _unknown(self, name: str, place: DocumentPlace) -> NoReturn:
         known = [*self.defaults, *self.given.by_option,
                  *(one.removeprefix(PREFIX) for one in self.given.environment if one.startswith(PREFIX))]
         near = difflib.get_close_matches(name, known, n=1)

@@ -12,18 +12,18 @@ from .answers import Answer
 
 
 @dataclass(frozen=True)
-class Layer:
+class RulesetLayer:
     """A ruleset, and the layer that it becomes: the rights for files that it handles."""
 
     handled_fs: Rights
 
 
 @dataclass
-class Process:
+class ProcessState:
     """What a process has at one record of the trace: its layers, the oldest first, and the rulesets that it holds."""
 
-    domain: tuple[Layer, ...] = ()
-    held: dict[int, Layer] = field(default_factory=dict)
+    domain: tuple[RulesetLayer, ...] = ()
+    held: dict[int, RulesetLayer] = field(default_factory=dict)
 
 
 def program_run(record: Record) -> str | None:
@@ -61,9 +61,9 @@ class Processes:
     """All processes of a trace, followed record by record."""
 
     def __init__(self) -> None:
-        self._by_pid: dict[int, Process] = {}
+        self._by_pid: dict[int, ProcessState] = {}
 
-    def of(self, pid: int) -> Process:
+    def of(self, pid: int) -> ProcessState:
         """The process that a pid names now."""
         return self._by_pid[pid]
 
@@ -71,18 +71,18 @@ class Processes:
         """Follows a record: it changes its process if it is allowed."""
         pid = record["pid"]
         if record["op"] == "start":
-            self._by_pid[pid] = Process()
+            self._by_pid[pid] = ProcessState()
         elif answer.allowed:
             self._change(self._by_pid[pid], record)
 
-    def _change(self, process: Process, record: Record) -> None:
+    def _change(self, process: ProcessState, record: Record) -> None:
         match record["op"]:
             case "fork":
                 self._by_pid[record["child"]] = replace(process, held=dict(process.held))
             case "exit":
                 del self._by_pid[record["pid"]]
             case "create":
-                process.held[record["rs"]] = Layer(frozenset(record.get("fs", ())))
+                process.held[record["rs"]] = RulesetLayer(frozenset(record.get("fs", ())))
             case "close_rs":
                 del process.held[record["rs"]]
             case "restrict":

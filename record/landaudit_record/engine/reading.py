@@ -39,12 +39,12 @@ from ..common.trace_lines import (
 from . import reports
 from .answers import Answer, Answered, Refusing
 from .following import NOWHERE, Followed
-from .processes import Process, Processes, shown
+from .processes import ProcessState, Processes, shown
 from .subjects import NOTHING, Number, Subject
 
-Judged = tuple[Record, Answer, Process]
+Judged = tuple[Record, Answer, ProcessState]
 #: What a call is about by name: its path or both paths, as a person knows them, or its port.
-Place = tuple[str, ...] | int
+NamedSubject = tuple[str, ...] | int
 
 #: The kernel's answers to the calls on paths about which it asked Landlock.
 ASKED_LANDLOCK = (None, "ok", "EACCES", "EPERM", "EXDEV")
@@ -85,7 +85,7 @@ def judged(trace: Path, report: Path, abi: int) -> Iterator[Judged]:
         if found is None or row is None or (found[0], found[1]["pid"]) != (row.line, row.pid):
             raise _other(trace, report)
         record = found[1]
-        process = Process() if record["op"] == "start" else processes.of(record["pid"])
+        process = ProcessState() if record["op"] == "start" else processes.of(record["pid"])
         yield record, row.answer, process
         processes.follow(record, row.answer)
 
@@ -399,19 +399,19 @@ def _asked(line: bytes) -> bool:
     return at < 0 or line.startswith(_ASKED, at + len(KERNEL))
 
 
-def place_of(record: Record) -> Place | None:
+def place_of(record: Record) -> NamedSubject | None:
     """The paths or port that Landlock was asked about; None for other calls, and if Landlock was not asked."""
     if record["op"] in PATH_CALLS and record.get("kernel") in ASKED_LANDLOCK:
         return tuple(str(shown(record, member)) for member in OPERATIONS[record["op"]].paths)
     return int(record["port"]) if record["op"] in PORT_CALLS else None
 
 
-def places(trace: Path) -> Counter[Place]:
+def places(trace: Path) -> Counter[NamedSubject]:
     """How many calls of a trace are about each path or port, in the order of the first ones.
 
     Those that a part of a recording only writes again do not count.
     """
-    found: Counter[Place] = Counter()
+    found: Counter[NamedSubject] = Counter()
     first: dict[bytes, tuple[int, bytes]] = {}
     times: Counter[bytes] = Counter()
 

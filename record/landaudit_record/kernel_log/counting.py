@@ -11,7 +11,7 @@ from ..audit.warnings import OfLog
 from ..common.wording import counted, some_of
 from ..engine.answers import Closed, Missing, Objection
 from ..engine.subjects import ARROW, Subject
-from .denials import Access, Denial, Domain, Log, Maker
+from .denials import Denial, DeniedAccess, Log, LoggedDomain, Maker
 from .matching import Matched, RuleAbove
 
 NO_CALLS = ("have no record of their call, so its program, its name and how it ended are not known: an audit rule such "
@@ -114,7 +114,7 @@ def of_maker(maker: str) -> str:
     return maker if maker == NOT_SAID else f"{maker}'s"
 
 
-def maker_of(domain: Domain) -> str:
+def maker_of(domain: LoggedDomain) -> str:
     """The program that made a layer, in a word."""
     return NOT_SAID if domain.maker is None else _name(domain.maker)
 
@@ -123,7 +123,7 @@ def _name(maker: Maker) -> str:
     return maker.comm or maker.program
 
 
-def _subject(accesses: tuple[Access, ...]) -> Subject:
+def _subject(accesses: tuple[DeniedAccess, ...]) -> Subject:
     """What a call is about: the directories of a move or link in their order, or all that it reached."""
     objections = [access.objection for access in accesses]
     match objections:

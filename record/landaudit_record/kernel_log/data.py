@@ -8,9 +8,9 @@ from typing import Any
 from ..audit.summary import Refusal
 from ..common.rights import FS, NET
 from ..engine import answers
-from ..suggest.missing_rights import Rule
+from ..suggest.missing_rights import SuggestedRule
 from .counting import Counted, LoggedLayer
-from .denials import Domain
+from .denials import LoggedDomain
 from .granting import Granted, Target
 from .matching import Matched
 from .text import moment
@@ -72,7 +72,7 @@ def _layer(layer: LoggedLayer) -> dict[str, Any]:
     return {"made_by": layer.maker, "policy": layer.policy, "objections": objections}
 
 
-def _domain(domain: Domain, matched: Matched | None) -> dict[str, Any]:
+def _domain(domain: LoggedDomain, matched: Matched | None) -> dict[str, Any]:
     maker = domain.maker
     return {
         "domain": domain.number,
@@ -86,7 +86,7 @@ def _domain(domain: Domain, matched: Matched | None) -> dict[str, Any]:
     }
 
 
-def _rule(target: Target, rule: Rule) -> dict[str, Any]:
+def _rule(target: Target, rule: SuggestedRule) -> dict[str, Any]:
     """A rule, with the layers that it is for: one of the policy, or those that a program made."""
     made_by = {"layer": target.layer, "made_by": target.maker or None}
     if isinstance(rule.place, str):

@@ -17,7 +17,7 @@ from ..common.wording import counted
 from ..engine.answers import Objection
 from . import calls
 from .objecting import objection, place_of
-from .records import OF_LANDLOCK, Cut, Line, Lost, Record, RecordType, Stamp, Unread
+from .records import OF_LANDLOCK, Cut, Line, LogRecord, Lost, RecordType, Stamp, UnreadRecord
 
 #: The records of other events that are kept, in case a record of Landlock comes behind that of its call.
 _MOST_WAITING = 10_000
@@ -39,7 +39,7 @@ _ALLOCATED, _DEALLOCATED = "allocated", "deallocated"
 
 
 @dataclass(frozen=True)
-class Access:
+class DeniedAccess:
     """One record of a denial: the domain whose youngest layer refuses, what that objects to, and where."""
 
     domain: str
@@ -47,7 +47,7 @@ class Access:
     place: str
 
 
-class Making(Enum):
+class MakesFile(Enum):
     """Whether a call that opens a file makes it: it does, it does if the file is not there, or it does not."""
 
     NEW = "new"
@@ -65,7 +65,7 @@ class DeniedCall:
     pid: int | None
     error: str | None
     succeeded: bool
-    making: Making = Making.NO
+    making: MakesFile = MakesFile.NO
 
 
 @dataclass(frozen=True)
@@ -76,7 +76,7 @@ class Denial:
     """
 
     stamp: Stamp
-    accesses: tuple[Access, ...]
+    accesses: tuple[DeniedAccess, ...]
     call: DeniedCall | None = None
     command: tuple[str, ...] = ()
 
@@ -97,7 +97,7 @@ class Maker:
 
 
 @dataclass(frozen=True)
-class Domain:
+class LoggedDomain:
     """A domain by the number that the kernel gives it; the layer that refuses is its youngest one. `maker` is the
     process that made that layer, if the log says so.
 
@@ -128,8 +128,8 @@ class Log:
     """
 
     denials: tuple[Denial, ...] = ()
-    domains: Mapping[str, Domain] = field(default_factory=dict)
-    unread: tuple[Unread, ...] = ()
+    domains: Mapping[str, LoggedDomain] = field(default_factory=dict)
+    unread: tuple[UnreadRecord, ...] = ()
     lost: tuple[Lost, ...] = ()
     limited: tuple[str, ...] = ()
     records: int = 0
@@ -161,20 +161,20 @@ class Log:
 class _Event:
     """The records of one serial number so far."""
 
-    accesses: list[Access] = field(default_factory=list)
-    domains: list[Record] = field(default_factory=list)
-    others: dict[RecordType, Record] = field(default_factory=dict)
+    accesses: list[DeniedAccess] = field(default_factory=list)
+    domains: list[LogRecord] = field(default_factory=list)
+    others: dict[RecordType, LogRecord] = field(default_factory=dict)
 
     def __len__(self) -> int:
         return len(self.accesses) + len(self.domains) + len(self.others)
 
 
-class _Reader:
+class _LogReader:
     """Puts the records of one log together."""
 
     def __init__(self) -> None:
         self.events: dict[Stamp, _Event] = {}
-        self.unread: list[Unread] = []
+        self.unread: list[UnreadRecord] = []
         self.lost: list[Lost] = []
         self.limited: list[str] = []
         self.records = 0
@@ -185,11 +185,11 @@ class _Reader:
     def take(self, line: Line, place: str) -> None:
         """Takes what one line says."""
         match line:
-            case Unread():
+            case UnreadRecord():
                 self.unread.append(line)
             case Lost():
                 self.lost.append(line)
-            case Record():
+            case LogRecord():
                 self._count(line.stamp.milliseconds)
                 if line.printed:
                     self._watch_limit(line.stamp.milliseconds, place)
@@ -209,7 +209,7 @@ class _Reader:
             self.limited.append(place)
             self._printed.clear()
 
-    def _of_landlock(self, record: Record, place: str) -> None:
+    def _of_landlock(self, record: LogRecord, place: str) -> None:
         """Takes a record of Landlock, with those of its event that came before."""
         event = self.events.get(record.stamp)
         if event is None:
@@ -217,14 +217,14 @@ class _Reader:
         try:
             if record.kind is RecordType.ACCESS:
                 found = objection(record.fields)
-                event.accesses.append(Access(_domain(record), found, place_of(found, record.fields)))
+                event.accesses.append(DeniedAccess(_domain(record), found, place_of(found, record.fields)))
             else:
                 _check_domain(record)
                 event.domains.append(record)
         except Cut as fault:
-            self.unread.append(Unread(place, str(fault)))
+            self.unread.append(UnreadRecord(place, str(fault)))
 
-    def _other(self, record: Record) -> None:
+    def _other(self, record: LogRecord) -> None:
         """Takes a record that belongs to an event, perhaps to one of Landlock."""
         event = self.events.get(record.stamp)
         if event is None:
@@ -234,14 +234,14 @@ class _Reader:
         event.others[record.kind] = record
 
 
-def _needed(record: Record, name: str) -> str:
+def _needed(record: LogRecord, name: str) -> str:
     """A field that each record of a kind has."""
     if not record.fields.get(name):
         raise Cut(f"has no {name}: is it cut?")
     return record.fields[name]
 
 
-def _domain(record: Record) -> str:
+def _domain(record: LogRecord) -> str:
     """The number of a domain, in hexadecimal digits."""
     number = _needed(record, "domain")
     if _number(number, 16) is None:
@@ -249,7 +249,7 @@ def _domain(record: Record) -> str:
     return number
 
 
-def _check_domain(record: Record) -> None:
+def _check_domain(record: LogRecord) -> None:
     """Raises Cut if a record of a domain has not what is read of it."""
     _domain(record)
     status = _needed(record, "status")
@@ -267,7 +267,7 @@ def read(logs: Iterable[Iterable[tuple[str, Line]]]) -> Log:
     events: dict[Stamp, _Event] = {}
     readers = []
     for log in logs:
-        reader = _Reader()
+        reader = _LogReader()
         for place, line in log:
             reader.take(line, place)
         for stamp, event in reader.events.items():
@@ -298,7 +298,7 @@ def _denial(stamp: Stamp, event: _Event) -> Denial:
     return Denial(stamp, tuple(event.accesses), None if record is None else _call(record), command)
 
 
-def _call(record: Record) -> DeniedCall:
+def _call(record: LogRecord) -> DeniedCall:
     """The call of its record."""
     fields = record.fields
     exit_code = _number(fields.get("exit"))
@@ -315,17 +315,17 @@ def _call(record: Record) -> DeniedCall:
     )
 
 
-def _making(name: str, fields: Mapping[str, str]) -> Making:
+def _making(name: str, fields: Mapping[str, str]) -> MakesFile:
     """Whether a call makes the file that it opens, by its flags (open(2)); those of openat2 are not in the record."""
     if name == "creat":
-        return Making.IF_NEEDED
+        return MakesFile.IF_NEEDED
     flags = _number(fields.get(_FLAGS.get(name, "")), 16) or 0
     if not flags & _O_CREAT:
-        return Making.NO
-    return Making.NEW if flags & _O_EXCL else Making.IF_NEEDED
+        return MakesFile.NO
+    return MakesFile.NEW if flags & _O_EXCL else MakesFile.IF_NEEDED
 
 
-def _name_of_call(record: Record) -> str:
+def _name_of_call(record: LogRecord) -> str:
     """The name of a call: as auditd names it, else by its number."""
     if record.kind is RecordType.URINGOP:
         return f"io_uring {record.fields.get('uring_op', '-')}"
@@ -344,21 +344,21 @@ def _number(text: str | None, base: int = 10) -> int | None:
         return None
 
 
-def _domains(events: Iterable[tuple[Stamp, _Event]]) -> dict[str, Domain]:
+def _domains(events: Iterable[tuple[Stamp, _Event]]) -> dict[str, LoggedDomain]:
     """The domains of events that are in the order of time."""
-    found: dict[str, Domain] = {}
+    found: dict[str, LoggedDomain] = {}
     for stamp, event in events:
         time = stamp.milliseconds
         for access in event.accesses:
-            domain = found.setdefault(access.domain, Domain(access.domain, time))
+            domain = found.setdefault(access.domain, LoggedDomain(access.domain, time))
             found[domain.number] = replace(domain, logged=domain.logged + 1)
         for record in event.domains:
-            domain = found.setdefault(record.fields["domain"], Domain(record.fields["domain"], time))
+            domain = found.setdefault(record.fields["domain"], LoggedDomain(record.fields["domain"], time))
             found[domain.number] = _with(domain, record.fields, time)
     return found
 
 
-def _with(domain: Domain, fields: Mapping[str, str], time: int) -> Domain:
+def _with(domain: LoggedDomain, fields: Mapping[str, str], time: int) -> LoggedDomain:
     """A domain with what a record of it says."""
     if fields["status"] == _DEALLOCATED:
         return replace(domain, counted=int(fields["denials"]), ended=time)

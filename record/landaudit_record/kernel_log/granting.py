@@ -19,11 +19,11 @@ from ..common.trees import directory_of
 from ..common.wording import some_of
 from ..engine.answers import Closed, Missing, Objection
 from ..suggest import missing_rights, varying
-from ..suggest.missing_rights import Lacking, OnPaths, Rule, Wanted
+from ..suggest.missing_rights import CallsByRight, OnPaths, SuggestedRule, Wanted
 from ..suggest.placing import Cause, RulePlace
 from ..suggest.remarks import Remark, RemarkKind
 from .counting import maker_of
-from .denials import LONGEST_COMMAND, Access, Denial, Log, Making
+from .denials import LONGEST_COMMAND, Denial, DeniedAccess, Log, MakesFile
 from .matching import Matched
 
 #: What d_path() adds to the path of an object that was removed.
@@ -52,7 +52,7 @@ class Granted:
     object would gain rights by, and those of layers that are not of the policy; with what was granted since.
     """
 
-    rules: dict[Target, list[Rule]] = field(default_factory=dict)
+    rules: dict[Target, list[SuggestedRule]] = field(default_factory=dict)
     unmended: Counter[str] = field(default_factory=Counter)
     gaining: Counter[str] = field(default_factory=Counter)
     of_others: Counter[str] = field(default_factory=Counter)
@@ -70,7 +70,7 @@ class _Wanted:
     """What the layers of a target lack."""
 
     paths: OnPaths = field(default_factory=dict)
-    ports: dict[int, Lacking] = field(default_factory=dict)
+    ports: dict[int, CallsByRight] = field(default_factory=dict)
     spots: list[RulePlace] = field(default_factory=list)
     asked_by: defaultdict[str, set[str]] = field(default_factory=lambda: defaultdict(set))
 
@@ -138,7 +138,7 @@ def _would_gain(denial: Denial) -> bool:
     return any(rights - _ON_NAMES for rights in asked) or between and several
 
 
-def _target(access: Access, log: Log, matched: Matched | None) -> Target:
+def _target(access: DeniedAccess, log: Log, matched: Matched | None) -> Target:
     if matched is not None:
         return Target(matched.layers[access.domain], "")
     return Target(None, maker_of(log.domains[access.domain]))
@@ -150,19 +150,19 @@ def _command(denial: Denial) -> str:
     return words if length < LONGEST_COMMAND - 1 else f"{words}.."
 
 
-def _place(access: Access, denial: Denial, matched: Matched | None) -> RulePlace | None:
+def _place(access: DeniedAccess, denial: Denial, matched: Matched | None) -> RulePlace | None:
     """Where the rule for what is lacking on a path can be."""
     objection = access.objection
     if not isinstance(objection, Missing):
         return None
-    path, made = objection.path, denial.call is not None and denial.call.making is Making.NEW
+    path, made = objection.path, denial.call is not None and denial.call.making is MakesFile.NEW
     process = varying.of_process(path)
     if process is not None:
         return RulePlace(directory_of(process), path, Cause.OF_PROCESS)
     if path.endswith(_REMOVED):
         return RulePlace(directory_of(path), path.removesuffix(_REMOVED), Cause.MADE)
     if matched is not None and matched.is_made(access, denial.stamp.milliseconds):
-        making = denial.call is not None and denial.call.making is not Making.NO
+        making = denial.call is not None and denial.call.making is not MakesFile.NO
         return RulePlace(directory_of(path), path, Cause.MADE if making else Cause.REPLACED)
     if made and set(objection.rights) <= FILE_RIGHTS:
         return RulePlace(directory_of(path), path, Cause.MADE)
@@ -183,13 +183,13 @@ def _want(
             missing_rights.unite(wanted.ports, {port: {right: {call} for right in rights}})
 
 
-def _rules(wanted: _Wanted) -> Iterator[Rule]:
+def _rules(wanted: _Wanted) -> Iterator[SuggestedRule]:
     """The rules for what is lacking; those on directories say which commands asked for a name there."""
     for rule in missing_rights.rules(Wanted(wanted.paths, wanted.spots, wanted.ports)):
         yield replace(rule, remarks=(*_on_names(rule, wanted.asked_by), *rule.remarks))
 
 
-def _on_names(rule: Rule, asked_by: Mapping[str, Iterable[str]]) -> Iterator[Remark]:
+def _on_names(rule: SuggestedRule, asked_by: Mapping[str, Iterable[str]]) -> Iterator[Remark]:
     """A remark on a rule that is on a directory because of a name in it."""
     if isinstance(rule.place, str) and rule.rights & _ON_NAMES:
         commands = sorted(asked_by.get(rule.place, ()))

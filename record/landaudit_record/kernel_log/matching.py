@@ -18,7 +18,7 @@ from ..common.rights import FS, NET
 from ..common.trees import upwards
 from ..engine.answers import Closed, Missing, Mounting, Objection, Scoped, Tracing, Unplaced
 from ..policy.policies import Layer, PathRule, Policy, PortRule
-from .denials import Access, Denial, Domain, Log, Maker
+from .denials import Denial, DeniedAccess, Log, LoggedDomain, Maker
 
 
 @dataclass(frozen=True)
@@ -49,12 +49,12 @@ class Matched:
         number = self.layers.get(domain)
         return next((layer for layer in self.policy.layers if layer.number == number), None)
 
-    def is_granted_now(self, access: Access) -> bool:
+    def is_granted_now(self, access: DeniedAccess) -> bool:
         """Whether the layer of the policy, as it is now, has what the layer of the log lacked."""
         layer = self.layer_of(access.domain)
         return layer is not None and not refuses(layer, access.objection)
 
-    def is_made(self, access: Access, milliseconds: int) -> bool:
+    def is_made(self, access: DeniedAccess, milliseconds: int) -> bool:
         """Whether the layer has a rule on the very path of a later denial: then another object came there."""
         layer, objection = self.layer_of(access.domain), access.objection
         if layer is None or not isinstance(objection, Missing) or milliseconds < 1000 * self.changed:
@@ -66,7 +66,7 @@ class Matched:
         time = denial.stamp.milliseconds
         return all(self.is_granted_now(it) and not self.is_made(it, time) for it in denial.accesses)
 
-    def rules_above(self, access: Access) -> Iterator[RuleAbove]:
+    def rules_above(self, access: DeniedAccess) -> Iterator[RuleAbove]:
         """The rules of the layer of a denial that are on its object or port, or above it."""
         layer = self.layer_of(access.domain)
         if layer is not None:
@@ -110,8 +110,8 @@ def _by_process(log: Log, refused: Iterable[str]) -> Iterator[list[str]]:
 
     Once all domains of a process have ended, its pid may be that of another process.
     """
-    groups: list[list[Domain]] = []
-    newest: dict[Maker, list[Domain]] = {}
+    groups: list[list[LoggedDomain]] = []
+    newest: dict[Maker, list[LoggedDomain]] = {}
     for domain in sorted((log.domains[number] for number in refused), key=lambda it: int(it.number, 16)):
         group = None if domain.maker is None else newest.get(domain.maker)
         if group is None or all(it.ended is not None and it.ended < domain.first for it in group):

@@ -13,7 +13,7 @@ from ..summaries.page.cards import rule_text
 from ..summaries.page.markup import Markup, element, together
 from ..summaries.page.parts import in_a_line
 from ..summaries.page.sections import REFUSALS, Section
-from ..summaries.page.tables import Row, about, named, paragraph, row, table
+from ..summaries.page.tables import TableRow, about, named, paragraph, row, table
 from ..summaries.summary_text import names, why
 from . import text
 from .counting import Counted
@@ -74,7 +74,7 @@ def _succeeded(refusals: Mapping[Refusal, Counter[str]]) -> Markup:
     return table("kinds same", REFUSALS, rows, once=("layers", "program")) if refusals else Markup()
 
 
-def _row(item: tuple[Refusal, Counter[str]]) -> Row:
+def _row(item: tuple[Refusal, Counter[str]]) -> TableRow:
     """A kind of denied calls."""
     refusal, programs = item
     layers = ", ".join(layer.name for layer in refusal.layers)

@@ -68,7 +68,7 @@ class Stamp:
 
 
 @dataclass(frozen=True)
-class Record:
+class LogRecord:
     """A record: what it is of, its text, and whether the kernel printed it itself."""
 
     kind: RecordType
@@ -89,7 +89,7 @@ class Record:
 
 
 @dataclass(frozen=True)
-class Unread:
+class UnreadRecord:
     """A line that is a record of Landlock and can't be read, with its place and the reason."""
 
     place: str
@@ -117,7 +117,7 @@ _LOSSES = re.compile(
     rb"kauditd_printk_skb: [0-9]+ callbacks suppressed|Missed [0-9]+ kernel messages"
 )
 
-Line = Record | Unread | Lost
+Line = LogRecord | UnreadRecord | Lost
 
 
 class Cut(Exception):
@@ -144,20 +144,20 @@ def _record(line: bytes, place: str) -> Line | None:
         if loss is not None:
             return Lost(place, os.fsdecode(loss[0]))
         if _ABOUT_LANDLOCK.search(line):
-            return Unread(place, "has no audit(TIME:SERIAL) as the kernel writes it: give the log as auditd or "
+            return UnreadRecord(place, "has no audit(TIME:SERIAL) as the kernel writes it: give the log as auditd or "
                                  "journalctl -k writes it")
         return None
     kind = _BY_NAME.get(os.fsdecode(match[1]), RecordType.OTHER)
     stamp = Stamp(int(match[2]) * 1000 + int(match[3]), int(match[4]))
     if kind is RecordType.OTHER:
-        return Record(kind, stamp, printed=by_auditd is None)
-    record = Record(kind, stamp, match[5], by_auditd is None)
+        return LogRecord(kind, stamp, printed=by_auditd is None)
+    record = LogRecord(kind, stamp, match[5], by_auditd is None)
     try:
         if kind in OF_LANDLOCK and not record.fields:
             raise Cut("has no fields: is it cut?")
         return record
     except Cut as fault:
-        return Unread(place, str(fault))
+        return UnreadRecord(place, str(fault))
 
 
 def _fields(text: bytes) -> dict[str, str]:

@@ -17,7 +17,7 @@ from ..suggest import suggestion_text
 from ..summaries import summary_text
 from ..summaries.summary_text import Style
 from .counting import NOT_SAID, Counted, maker_of, of_maker
-from .denials import Domain, Log
+from .denials import Log, LoggedDomain
 from .granting import Granted
 from .matching import Matched, RuleAbove
 
@@ -36,7 +36,7 @@ NOT_ALL = "NOT ALL IS LOGGED:"
 
 
 @dataclass(frozen=True)
-class Shown:
+class LogOptions:
     """What is shown of a log: `each` kind and domain by itself, the command that prints rules, and why other calls have
     none.
     """
@@ -46,7 +46,7 @@ class Shown:
     staying: Sequence[str] = ()
 
 
-def lines(found: Counted, title: str, style: Style, shown: Shown = Shown()) -> Iterator[str]:
+def lines(found: Counted, title: str, style: Style, shown: LogOptions = LogOptions()) -> Iterator[str]:
     """The lines of a summary, each without its line feed and at most as wide as the style says."""
     yield from map(style.bold, layout.folded(title, style.width))
     for line in layout.folded(in_short(found), style.width):
@@ -135,7 +135,7 @@ def _domains(found: Counted, style: Style, *, each: bool) -> Iterator[str]:
         yield f"  --all lists {counted(len(domains) - len(rows), 'more domain')}"
 
 
-def domain_row(domain: Domain, matched: Matched | None) -> tuple[str, ...]:
+def domain_row(domain: LoggedDomain, matched: Matched | None) -> tuple[str, ...]:
     """A domain in words: its number, who made it, how many denials the log has and the kernel counted, its layer."""
     maker, layer = domain.maker, None if matched is None else matched.layers.get(domain.number)
     program = "-" if maker is None else f"{maker.program} ({maker.comm})"

@@ -14,10 +14,10 @@ from pathlib import Path
 
 from ..common.rights import FILE_RIGHTS, FS, SCOPES, Rights
 from . import ruling
-from .differing_layers import Abis, Mounts, Room, Unscoped
+from .differing_layers import Abis, MountChanges, Room, Unscoped
 from .policies import Policy
 from .regions import Region
-from .ruling import Answer, Comparison, Layers, Numbers, Objects, Ruled
+from .ruling import Comparison, ComparisonAnswer, Layers, Numbers, Ruled, RuledObjects
 from .sides import OF_OPENED, REFER, Sides, united
 
 #: The rights to make objects of each kind, which a move to another directory asks for.
@@ -55,7 +55,7 @@ class Gain:
 Named = Mapping[tuple[str, Region], Abis]
 """At which ABIs a right differs in a region, as paths are named."""
 
-Found = Chain | Gain | Mounts | Unscoped | Room
+FoundAnywhere = Chain | Gain | MountChanges | Unscoped | Room
 
 
 @dataclass
@@ -63,10 +63,10 @@ class _Telling:
     """What is found so far, by what the numbers of objects stand for."""
 
     objects: Sequence[Region]
-    found: dict[Found, Abis] = field(default_factory=dict)
+    found: dict[FoundAnywhere, Abis] = field(default_factory=dict)
     _paths: dict[Numbers, tuple[tuple[str, ...], str | None]] = field(default_factory=dict)
 
-    def add(self, one: Found, abi: int) -> None:
+    def add(self, one: FoundAnywhere, abi: int) -> None:
         """Adds an ABI at which something was found."""
         self.found[one] = self.found.get(one, _NOTHING) | {abi}
 
@@ -84,9 +84,9 @@ class _Telling:
 
 
 def more(
-    program: Path, one: Policy, other: Policy, objects: Objects, sides: Sequence[Sides], named: Named,
+    program: Path, one: Policy, other: Policy, objects: RuledObjects, sides: Sequence[Sides], named: Named,
     moved: Mapping[str, Abis],
-) -> dict[Found, Abis]:
+) -> dict[FoundAnywhere, Abis]:
     """What passes under one policy and not under the other beside what differs as paths are named, with the ABIs.
 
     `sides` have the other policy as the old one, and `moved` are the paths under which moves differ as paths are named.
@@ -102,7 +102,7 @@ def more(
     return telling.found
 
 
-def _gone(objects: Objects, named: Named, abi: int) -> dict[int, Rights]:
+def _gone(objects: RuledObjects, named: Named, abi: int) -> dict[int, Rights]:
     """The rights that differ at an ABI as paths are named, by objects."""
     gone: dict[int, Rights] = {}
     for (right, region), at in named.items():
@@ -119,7 +119,7 @@ Everywhere = Mapping[int, Collection[str]]
 
 
 def _tell_chains(
-    program: Path, objects: Objects, sides: Sequence[Sides], telling: _Telling, everywhere: Everywhere
+    program: Path, objects: RuledObjects, sides: Sequence[Sides], telling: _Telling, everywhere: Everywhere
 ) -> None:
     """Tells each object by which alone something passes, and then those by which it does together without these."""
     gone: list[tuple[Sides, Mapping[int, Rights]]] = [(of, {}) for of in sides]
@@ -130,8 +130,8 @@ def _tell_chains(
 
 
 def _asked(
-    program: Path, objects: Objects, gone: Sequence[tuple[Sides, Mapping[int, Rights]]]
-) -> Iterator[tuple[Sides, Mapping[int, Rights], list[Answer]]]:
+    program: Path, objects: RuledObjects, gone: Sequence[tuple[Sides, Mapping[int, Rights]]]
+) -> Iterator[tuple[Sides, Mapping[int, Rights], list[ComparisonAnswer]]]:
     """The answers on all rights, and then on OF_OPENED for each right to open, if a layer handles it."""
     asked = [[of.beyond(less), *(of.opened(opening, less) for opening in of.openings)] for of, less in gone]
     found = iter(ruling.answers(program, objects, [comparison for each in asked for comparison in each]))
@@ -140,7 +140,7 @@ def _asked(
 
 
 def _tell_answers(
-    of: Sides, answers: Sequence[Answer], telling: _Telling, everywhere: Everywhere
+    of: Sides, answers: Sequence[ComparisonAnswer], telling: _Telling, everywhere: Everywhere
 ) -> dict[int, Rights]:
     """Tells what answers found, and gives the objects by which alone something passes."""
     gone: dict[int, Rights] = {}
@@ -168,7 +168,7 @@ def _alone(single: Numbers) -> list[Numbers]:
 # ---- what may pass of moves
 
 
-def _movable(program: Path, objects: Objects, sides: Sequence[Sides]) -> dict[int, Collection[str]]:
+def _movable(program: Path, objects: RuledObjects, sides: Sequence[Sides]) -> dict[int, Collection[str]]:
     """The rights at each ABI to make objects of the kinds that the new policy lets be moved to other directories."""
     asked = [of.moved(making) for of in sides for making in MAKING]
     found = iter(ruling.answers(program, objects, asked))
@@ -177,7 +177,7 @@ def _movable(program: Path, objects: Objects, sides: Sequence[Sides]) -> dict[in
 
 def _tell_gains(
     program: Path,
-    objects: Objects,
+    objects: RuledObjects,
     sides: Sequence[Sides],
     telling: _Telling,
     kinds: Mapping[int, Collection[str]],
@@ -205,12 +205,12 @@ def _tell_layers(program: Path, one: Policy, other: Policy, sides: Sequence[Side
     """
     both = [(of.abi, Comparison(_scoped(other, of.old, scopes=scopes), _scoped(one, of.new, scopes=scopes)))
             for of in sides for scopes in (False, True)]
-    answers = ruling.answers(program, Objects({}), [comparison for _, comparison in both])
+    answers = ruling.answers(program, RuledObjects({}), [comparison for _, comparison in both])
     for (abi, comparison), answer in zip(both, answers):
         if answer.spare_layers:
             telling.add(Room(len(comparison.new), len(comparison.old)), abi)
         for lost in sorted(answer.lost):
-            telling.add(Unscoped(lost) if lost in SCOPES else Mounts(), abi)
+            telling.add(Unscoped(lost) if lost in SCOPES else MountChanges(), abi)
 
 
 def _scoped(policy: Policy, layers: Layers, *, scopes: bool) -> Layers:

@@ -22,7 +22,7 @@ from pathlib import Path
 from typing import Any
 
 from ..common import resolving, variables
-from ..common.documents import Place, check_keys, tables, unknown
+from ..common.documents import DocumentPlace, check_keys, tables, unknown
 from ..common.numbered import Numbered
 from ..common.operations import DESCRIPTOR_CALLS, EXCHANGE, JUDGED, MAKING, OPERATIONS, REMOVING
 from ..common.resolving import DISK, LinkLoop
@@ -93,12 +93,12 @@ class Cases:
 
 def read(path: Path, given: Given = NOTHING_GIVEN) -> Cases:
     """The cases in a file; any error in it is a Problem that names its position and says what would be right."""
-    document, place = variables.read(path, given).table, Place(path)
+    document, place = variables.read(path, given).table, DocumentPlace(path)
     check_keys(document, ("refused", "allowed", *over_sets.KINDS), place)
     found = Cases(path)
     for key in ("refused", "allowed"):
         for number, table in enumerate(tables(document.get(key, []), key, place), start=1):
-            reader = _Reader(found.tree, table, place / Numbered(key, number))
+            reader = _CaseReader(found.tree, table, place / Numbered(key, number))
             found.cases.append(reader.case(refused=key == "refused"))
     found.questions.extend(over_sets.read(document, place))
     if not found.cases and not found.questions:
@@ -107,12 +107,12 @@ def read(path: Path, given: Given = NOTHING_GIVEN) -> Cases:
 
 
 @dataclass(frozen=True)
-class _Reader:
+class _CaseReader:
     """Reads one case, and lists what it names in the tree."""
 
     tree: Tree
     table: Mapping[str, Any]
-    place: Place
+    place: DocumentPlace
 
     def case(self, *, refused: bool) -> Case:
         """The case."""

@@ -17,7 +17,7 @@ from .policies import Policy
 
 
 @dataclass(frozen=True)
-class Outcome:
+class CheckedCase:
     """A case with landaudit's answer at each of its ABIs, and the rules that grant one or more rights of the call."""
 
     case: Case
@@ -41,11 +41,11 @@ class Checked:
 
     policy: Path
     cases: Path
-    outcomes: Sequence[Outcome]
+    outcomes: Sequence[CheckedCase]
     decisions: Sequence[Decision]
 
     @property
-    def results(self) -> Sequence[Outcome | Decision]:
+    def results(self) -> Sequence[CheckedCase | Decision]:
         """All of them: the cases first."""
         return (*self.outcomes, *self.decisions)
 
@@ -66,7 +66,7 @@ def check(landaudit: Path, policy: Policy, given: Cases) -> Checked:
     return Checked(policy.path, given.path, outcomes, deciding.decisions(policy, given.questions))
 
 
-def _outcomes(landaudit: Path, policy: Policy, given: Cases) -> Iterator[Outcome]:
+def _outcomes(landaudit: Path, policy: Policy, given: Cases) -> Iterator[CheckedCase]:
     """Each case with its answers."""
     if not given.cases:
         return
@@ -80,4 +80,4 @@ def _outcomes(landaudit: Path, policy: Policy, given: Cases) -> Iterator[Outcome
         for answer in answers.values():
             if answer.verdict == MOOT:
                 raise Problem(f"{given.path}: {case.text}: Landlock is not asked: {answer.reason}")
-        yield Outcome(case, answers, granted)
+        yield CheckedCase(case, answers, granted)

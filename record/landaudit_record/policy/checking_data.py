@@ -7,7 +7,7 @@ from typing import Any
 
 from ..engine import answers
 from ..engine.answers import Answer, Objection
-from .checking import Checked, Outcome
+from .checking import Checked, CheckedCase
 from .checking_text import not_asked, objection_text
 from .deciding import Breach, Decision
 from .differing_data import area_data
@@ -30,7 +30,7 @@ def as_data(checked: Checked) -> dict[str, Any]:
     }
 
 
-def _of_case(outcome: Outcome) -> dict[str, Any]:
+def _of_case(outcome: CheckedCase) -> dict[str, Any]:
     case = outcome.case
     return {
         "must_be": case.must_be,

@@ -8,7 +8,7 @@ from ..common.numbered import Numbered
 from ..common.rights import FS
 from ..common.wording import span
 from ..engine.answers import Answer, Kept, Objection
-from .checking import Outcome
+from .checking import CheckedCase
 from .deciding import Decision
 from .granting import Grant
 from .over_sets import ALL_ABIS
@@ -17,9 +17,9 @@ Details = Mapping[str, str | Sequence[str]]
 """What is known of a result: texts, or lists of texts, by what they are about."""
 
 
-def title(result: Outcome | Decision) -> str:
+def title(result: CheckedCase | Decision) -> str:
     """What must be, and at which ABIs if these are not all."""
-    if isinstance(result, Outcome):
+    if isinstance(result, CheckedCase):
         asked, must = result.case, f"{result.case.must_be}: {result.case.text}"
         return must + _at(asked.abis)
     return f"{result.question.kind}: {result.question.text}{_at(result.question.abis)}"
@@ -29,12 +29,12 @@ def _at(abis: range) -> str:
     return "" if abis == ALL_ABIS else f" at ABI {span(abis)}"
 
 
-def about(result: Outcome | Decision) -> Details:
+def about(result: CheckedCase | Decision) -> Details:
     """Why a result is as it is."""
-    return _of_case(result) if isinstance(result, Outcome) else _of_question(result)
+    return _of_case(result) if isinstance(result, CheckedCase) else _of_question(result)
 
 
-def _of_case(outcome: Outcome) -> Details:
+def _of_case(outcome: CheckedCase) -> Details:
     """The answer at each ABI, with the rules that grant the call, or the layers that refuse it and why."""
     found: dict[str, str | Sequence[str]] = {}
     for abis, answer in together(outcome.answers):

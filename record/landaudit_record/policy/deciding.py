@@ -24,7 +24,7 @@ from .granting import Grant
 from .over_sets import ALL_ABIS, SetQuestion, Together
 from .policies import Policy
 from .regions import Area, Region, Regions, areas, as_named
-from .ruling import Comparison, Layers, Objects, Rule, Ruled
+from .ruling import Comparison, Layers, RuleOnObjects, Ruled, RuledObjects
 from .sides import REFER
 
 _EVERYTHING = Ruled(1, FS.groups["all"], ())
@@ -66,7 +66,7 @@ def decisions(policy: Policy, questions: Sequence[SetQuestion]) -> list[Decision
     policy = parents.under_all_names(policy, places.kinds)
     by_abi = {abi: [_Granting.of(layer, policy, places) for layer in fitting.fit(policy, abi)[0]] for abi in ALL_ABIS}
     asked = list(dict.fromkeys((abi, rights) for one in questions for abi in one.abis for rights in one.asked_at(abi)))
-    objects = Objects.of([path for path in places.kinds if path != ROOT])
+    objects = RuledObjects.of([path for path in places.kinds if path != ROOT])
     ruled = {abi: _on_objects(layers, objects) for abi, layers in by_abi.items()}
     comparisons = [_comparison(ruled[abi], rights) for abi, rights in asked]
     answers = ruling.answers(landaudit_rules.find(), objects, comparisons)
@@ -148,11 +148,12 @@ class _Granting:
         yield from (grant for over in upwards(path) for grant in self.on.get(over, ()))
 
 
-def _on_objects(layers: Sequence[_Granting], objects: Objects) -> Layers:
+def _on_objects(layers: Sequence[_Granting], objects: RuledObjects) -> Layers:
     """Layers with what they grant on each object."""
     paths = [ROOT, *objects.paths]
     return tuple(Ruled(layer.number, layer.handled, tuple(
-        Rule(NONE.union(*(grant.rights for grant in layer.grants(path))), (objects.directory(path),)) for path in paths
+        RuleOnObjects(NONE.union(*(grant.rights for grant in layer.grants(path))), (objects.directory(path),))
+        for path in paths
     )) for layer in layers)
 
 
@@ -165,12 +166,12 @@ def _comparison(layers: Layers, rights: Together) -> Comparison:
 # ---- what passes, in as few areas as there are
 
 
-Passing = Mapping[tuple[int, Together], frozenset[str]]
+PassingPaths = Mapping[tuple[int, Together], frozenset[str]]
 """The paths on which rights pass together at an ABI."""
 
 
 def _breaches(
-    question: SetQuestion, abi: int, layers: Sequence[_Granting], places: _Places, passing: Passing
+    question: SetQuestion, abi: int, layers: Sequence[_Granting], places: _Places, passing: PassingPaths
 ) -> tuple[Breach, ...]:
     """All that passes at an ABI although a question says that it does not."""
     by_area: defaultdict[Area, list[str]] = defaultdict(list)

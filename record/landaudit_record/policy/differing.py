@@ -21,14 +21,14 @@ from .differing_layers import Abis, OfLayers
 from .moving import Move
 from .policies import Policy
 from .regions import Region, Regions
-from .ruling import Answer, Comparison, Objects, Passing
+from .ruling import Comparison, ComparisonAnswer, Passing, RuledObjects
 from .sides import OF_OPENED, OPENING, REFER, Sides
 
 _NONE: Abis = frozenset()
 
 
 @dataclass(frozen=True)
-class About:
+class RightAt:
     """A right in a region, or on a port and those like it; without both, on each port without a rule."""
 
     right: str
@@ -41,7 +41,7 @@ class About:
         return self.region.path if self.region is not None and self.region.as_file else None
 
 
-Subject = About | Move | OfLayers | Chain | Gain
+Differing = RightAt | Move | OfLayers | Chain | Gain
 
 
 @dataclass
@@ -49,11 +49,11 @@ class Differences:
     """What one policy lets pass and another refuses, with the ABIs at which it does; how many calls were compared."""
 
     regions: Regions
-    more: dict[Subject, Abis] = field(default_factory=dict)
-    less: dict[Subject, Abis] = field(default_factory=dict)
+    more: dict[Differing, Abis] = field(default_factory=dict)
+    less: dict[Differing, Abis] = field(default_factory=dict)
     tried: int = 0
 
-    def add(self, subject: About | Move, old: Abis, new: Abis) -> None:
+    def add(self, subject: RightAt | Move, old: Abis, new: Abis) -> None:
         """Notes the ABIs at which one policy lets a call pass and the other refuses it."""
         file = subject.as_file
         for found, alone in ((self.more, new - old), (self.less, old - new)):
@@ -66,7 +66,7 @@ def differences(program: Path, old: Policy, new: Policy, abis: range) -> Differe
     """All differences of two policies at some ABIs."""
     rules = landaudit_rules.find()
     regions = Regions.of((old, new))
-    objects = Objects.of(regions.ruled)
+    objects = RuledObjects.of(regions.ruled)
     both = [sides.at(regions, objects, abi) for abi in abis]
     found = Differences(regions)
     answers = ruling.answers(rules, objects, [_asked(of, objects, regions) for of in both])
@@ -85,13 +85,13 @@ def differences(program: Path, old: Policy, new: Policy, abis: range) -> Differe
     return found
 
 
-def _named(differing: Mapping[Subject, Abis]) -> Named:
+def _named(differing: Mapping[Differing, Abis]) -> Named:
     """The rights that differ in regions, with the ABIs at which they do."""
     return {(subject.right, subject.region): abis for subject, abis in differing.items()
-            if isinstance(subject, About) and subject.region is not None}
+            if isinstance(subject, RightAt) and subject.region is not None}
 
 
-def _moved_to(differing: Mapping[Subject, Abis]) -> Mapping[str, Abis]:
+def _moved_to(differing: Mapping[Differing, Abis]) -> Mapping[str, Abis]:
     """The paths to under which moves differ, with the ABIs at which they do."""
     found: dict[str, Abis] = {}
     for subject, abis in differing.items():
@@ -103,12 +103,12 @@ def _moved_to(differing: Mapping[Subject, Abis]) -> Mapping[str, Abis]:
 # ---- what landaudit-rules answers
 
 
-def _asked(of: Sides, objects: Objects, regions: Regions) -> Comparison:
+def _asked(of: Sides, objects: RuledObjects, regions: Regions) -> Comparison:
     """The policies, with the regions and a port of each group; one more port stands for those without a rule."""
     return Comparison(of.old, of.new, objects.parents(), len(regions.numbered_ports))
 
 
-def _tried(objects: Objects, regions: Regions) -> int:
+def _tried(objects: RuledObjects, regions: Regions) -> int:
     """How many rights are asked about: each for files in each region, but REFER, and each for ports on each port."""
     files = objects.files().count(True)
     directories = objects.files().count(False)
@@ -116,7 +116,7 @@ def _tried(objects: Objects, regions: Regions) -> int:
     return of_files + len(NET.since) * len(regions.numbered_ports)
 
 
-def _rights(objects: Objects, regions: Regions, answer: Answer) -> Iterator[tuple[About, bool]]:
+def _rights(objects: RuledObjects, regions: Regions, answer: ComparisonAnswer) -> Iterator[tuple[RightAt, bool]]:
     """Each right in each region and on each port where one policy alone lets it pass, and whether the new one does."""
     named, ports = objects.named(), regions.numbered_ports
     for right in FS.since:
@@ -124,12 +124,12 @@ def _rights(objects: Objects, regions: Regions, answer: Answer) -> Iterator[tupl
             for number, is_new in _alone(answer.regions[right]):
                 region = named[number]
                 if (not region.as_file or right in FILE_RIGHTS) and _can_be_told(right, number, answer):
-                    yield About(right, region), is_new
+                    yield RightAt(right, region), is_new
     for right in NET.since:
-        yield from ((About(right, port=ports[number]), is_new) for number, is_new in _alone(answer.ports[right]))
+        yield from ((RightAt(right, port=ports[number]), is_new) for number, is_new in _alone(answer.ports[right]))
 
 
-def _can_be_told(right: str, number: int, answer: Answer) -> bool:
+def _can_be_told(right: str, number: int, answer: ComparisonAnswer) -> bool:
     """Whether a right can be told from a call: OF_OPENED is asked of what both policies let be opened."""
     return right != OF_OPENED or any(number in answer.regions[opening].both for opening in OPENING)
 
@@ -139,7 +139,7 @@ def _alone(passing: Passing) -> Iterator[tuple[int, bool]]:
     yield from ((number, number in passing.new) for number in sorted(passing.old | passing.new))
 
 
-def _passing(objects: Objects, answers: Sequence[Answer]) -> moving.Pass:
+def _passing(objects: RuledObjects, answers: Sequence[ComparisonAnswer]) -> moving.Pass:
     """Under which paths each right passes, under each policy at each ABI."""
     named = objects.named()
 

@@ -6,8 +6,8 @@ from collections.abc import Iterable
 from typing import Any
 
 from ..common.wording import runs
-from .differing_layers import Mounts, Room, Unscoped
-from .differing_rows import Gains, Moves, Objects, Ports, Rights, Row, What
+from .differing_layers import MountChanges, Room, Unscoped
+from .differing_rows import DifferenceRow, Gains, Moves, RightsInArea, RightsOnMoved, RightsOnPorts, What
 from .differing_text import row_text
 from .regions import Area
 from .reviewing import Review
@@ -32,19 +32,19 @@ def as_data(review: Review) -> dict[str, Any]:
     }
 
 
-def _rows(rows: Iterable[Row], review: Review) -> list[dict[str, Any]]:
+def _rows(rows: Iterable[DifferenceRow], review: Review) -> list[dict[str, Any]]:
     return [{**_what(row.what), "abis": sorted(row.abis), "text": row_text(row, review)} for row in rows]
 
 
 def _what(what: What) -> dict[str, Any]:
     """A difference by its kind."""
     match what:
-        case Rights(rights, area):
+        case RightsInArea(rights, area):
             return {"kind": "rights", "rights": list(rights), "area": area_data(area)}
-        case Objects(rights, layer, directories, file):
+        case RightsOnMoved(rights, layer, directories, file):
             return {"kind": "objects", "rights": list(rights), "layer": layer, "directories": list(directories),
                     "file": file}
-        case Ports(rights, ports, every):
+        case RightsOnPorts(rights, ports, every):
             ranges = [[run[0], run[-1]] for run in runs(ports)]
             return {"kind": "ports", "rights": list(rights), "every_but": every, "ports": ranges}
         case Moves(kinds, sources, themselves, to):
@@ -54,7 +54,7 @@ def _what(what: What) -> dict[str, Any]:
             on = [area_data(Area(source.path, as_file=source.as_file)) for source in sources]
             into = [area_data(Area(directory))]
             return {"kind": "gains", "rights": list(rights), "layer": layer, "from": on, "to": into}
-        case Mounts():
+        case MountChanges():
             return {"kind": "mounts"}
         case Unscoped(scope):
             return {"kind": "scope", "scope": scope}

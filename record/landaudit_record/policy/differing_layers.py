@@ -19,7 +19,7 @@ _OF_SCOPE = {
 
 
 @dataclass(frozen=True)
-class Mounts:
+class MountChanges:
     """Changes of what is mounted, which each layer refuses that handles a right for files."""
 
     def __str__(self) -> str:
@@ -50,4 +50,4 @@ class Room:
                 f"and not {self.other}")
 
 
-OfLayers = Mounts | Unscoped | Room
+OfLayers = MountChanges | Unscoped | Room

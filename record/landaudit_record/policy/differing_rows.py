@@ -8,14 +8,14 @@ from dataclasses import dataclass
 
 from ..common.rights import FILE_RIGHTS, FS, NET
 from .anywhere import Chain, Gain
-from .differing import About, Differences, Subject
-from .differing_layers import Abis, Mounts, Room, Unscoped
+from .differing import Differences, Differing, RightAt
+from .differing_layers import Abis, MountChanges, Room, Unscoped
 from .moving import Move
 from .regions import Area, Region, Regions, areas
 
 
 @dataclass(frozen=True)
-class Rights:
+class RightsInArea:
     """Rights for files that pass in an area, as paths are named."""
 
     rights: tuple[str, ...]
@@ -23,7 +23,7 @@ class Rights:
 
 
 @dataclass(frozen=True)
-class Objects:
+class RightsOnMoved:
     """Rights that pass by rules on objects once these are moved or linked, and that a layer refuses there.
 
     Without objects they pass everywhere.
@@ -36,7 +36,7 @@ class Objects:
 
 
 @dataclass(frozen=True)
-class Ports:
+class RightsOnPorts:
     """Rights that pass on some ports or, with `every`, on each port but these."""
 
     rights: tuple[str, ...]
@@ -64,38 +64,40 @@ class Gains:
     sources: tuple[Region, ...]
 
 
-What = Rights | Objects | Ports | Moves | Gains | Mounts | Unscoped | Room
+What = RightsInArea | RightsOnMoved | RightsOnPorts | Moves | Gains | MountChanges | Unscoped | Room
 
 
 @dataclass(frozen=True)
-class Row:
+class DifferenceRow:
     """What passes under one policy alone, and the ABIs at which it does."""
 
     what: What
     abis: Abis
 
 
-def rows(differing: Mapping[Subject, Abis], found: Differences) -> tuple[Row, ...]:
+def rows(differing: Mapping[Differing, Abis], found: Differences) -> tuple[DifferenceRow, ...]:
     """What one policy alone lets pass, the oldest ABIs first."""
-    by_abis: defaultdict[Abis, list[Subject]] = defaultdict(list)
+    by_abis: defaultdict[Abis, list[Differing]] = defaultdict(list)
     for subject, at in differing.items():
         by_abis[at].append(subject)
     in_order = sorted(by_abis.items(), key=lambda it: sorted(it[0]))
-    return tuple(Row(what, at) for at, subjects in in_order for what in _together(subjects, found.regions, at))
+    return tuple(
+        DifferenceRow(what, at) for at, subjects in in_order for what in _together(subjects, found.regions, at)
+    )
 
 
-def _together(subjects: list[Subject], regions: Regions, abis: Abis) -> Iterator[What]:
+def _together(subjects: list[Differing], regions: Regions, abis: Abis) -> Iterator[What]:
     """What differs at the same ABIs, by kinds of differences."""
-    rights = [subject for subject in subjects if isinstance(subject, About)]
+    rights = [subject for subject in subjects if isinstance(subject, RightAt)]
     yield from _rights(rights, regions, abis)
     yield from _objects([subject for subject in subjects if isinstance(subject, Chain)])
     yield from _ports(rights, regions)
     yield from _moves([subject for subject in subjects if isinstance(subject, Move)], regions)
     yield from _gains([subject for subject in subjects if isinstance(subject, Gain)])
-    yield from (subject for subject in subjects if isinstance(subject, (Mounts, Unscoped, Room)))
+    yield from (subject for subject in subjects if isinstance(subject, (MountChanges, Unscoped, Room)))
 
 
-def _rights(subjects: list[About], regions: Regions, abis: Abis) -> Iterator[Rights]:
+def _rights(subjects: list[RightAt], regions: Regions, abis: Abis) -> Iterator[RightsInArea]:
     """Rights for files, those of the same areas together."""
     by_right: defaultdict[str, set[Region]] = defaultdict(set)
     for subject in subjects:
@@ -105,20 +107,20 @@ def _rights(subjects: list[About], regions: Regions, abis: Abis) -> Iterator[Rig
     for right in FS.ordered(by_right):
         for area in areas(regions, by_right[right], of_files=right in FILE_RIGHTS, abis=abis):
             by_area[area].append(right)
-    yield from (Rights(tuple(rights), area) for area, rights in by_area.items())
+    yield from (RightsInArea(tuple(rights), area) for area, rights in by_area.items())
 
 
-def _objects(chains: list[Chain]) -> Iterator[Objects]:
+def _objects(chains: list[Chain]) -> Iterator[RightsOnMoved]:
     """Rights that pass once objects are moved or linked, those by the same rules together, and each without rules."""
     by_objects: defaultdict[tuple[int, tuple[str, ...], str | None], list[str]] = defaultdict(list)
     for chain in chains:
         by_objects[chain.layer, chain.directories, chain.file].append(chain.right)
     for (layer, directories, file), rights in by_objects.items():
         together = [tuple(rights)] if directories or file is not None else [(right,) for right in rights]
-        yield from (Objects(each, layer, directories, file) for each in together)
+        yield from (RightsOnMoved(each, layer, directories, file) for each in together)
 
 
-def _ports(subjects: list[About], regions: Regions) -> Iterator[Ports]:
+def _ports(subjects: list[RightAt], regions: Regions) -> Iterator[RightsOnPorts]:
     """Rights for ports, those of the same ports together."""
     by_right: defaultdict[str, set[int | None]] = defaultdict(set)
     for subject in subjects:
@@ -130,7 +132,7 @@ def _ports(subjects: list[About], regions: Regions) -> Iterator[Ports]:
         named = (port for tried, ports in regions.tried_ports.items() if (tried in by_right[right]) != every
                  for port in ports)
         by_ports[tuple(sorted(named)), every].append(right)
-    yield from (Ports(tuple(rights), ports, every) for (ports, every), rights in by_ports.items())
+    yield from (RightsOnPorts(tuple(rights), ports, every) for (ports, every), rights in by_ports.items())
 
 
 def _moves(moves: list[Move], regions: Regions) -> Iterator[Moves]:

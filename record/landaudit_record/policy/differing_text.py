@@ -5,7 +5,7 @@ from __future__ import annotations
 from collections.abc import Iterable, Iterator
 
 from ..common.wording import plain, runs, span, spans
-from .differing_rows import Gains, Moves, Objects, Ports, Rights, Row, What
+from .differing_rows import DifferenceRow, Gains, Moves, RightsInArea, RightsOnMoved, RightsOnPorts, What
 from .reviewing import EVERYTHING, Review
 from .sides import OF_OPENED, REFER
 
@@ -52,7 +52,7 @@ def tried(review: Review) -> str:
     return f"{review.tried:,} calls tried{' under each' if review.old else ''}, at ABI {span(review.abis)}"
 
 
-def sections(review: Review) -> Iterator[tuple[str, tuple[Row, ...]]]:
+def sections(review: Review) -> Iterator[tuple[str, tuple[DifferenceRow, ...]]]:
     """The differences in both directions, each with a head; without an old policy, in one."""
     besides = ", but for what is accepted" if review.accepted else ""
     if review.old is None:
@@ -70,10 +70,10 @@ def sections(review: Review) -> Iterator[tuple[str, tuple[Row, ...]]]:
 def refusing_layer(what: What, review: Review) -> int | None:
     """The layer of the other policy that refuses a difference, where that is not said by its place."""
     is_read = review.old is not None or review.allowed == EVERYTHING
-    return what.layer if is_read and isinstance(what, (Objects, Gains)) else None
+    return what.layer if is_read and isinstance(what, (RightsOnMoved, Gains)) else None
 
 
-def row_text(row: Row, review: Review) -> str:
+def row_text(row: DifferenceRow, review: Review) -> str:
     """A row in words, with its ABIs if they are not all."""
     behind = "" if row.abis == frozenset(review.abis) else f" (at ABI {spans(row.abis)})"
     layer = refusing_layer(row.what, review)
@@ -90,12 +90,12 @@ def text(what: What) -> str:
 def halves(what: What) -> tuple[str, str]:
     """A difference in words: what differs, and where."""
     match what:
-        case Rights(rights, area):
+        case RightsInArea(rights, area):
             return ", ".join(rights), str(area)
-        case Objects(rights, _, directories, file):
+        case RightsOnMoved(rights, _, directories, file):
             objects = [*directories, *([] if file is None else [f"{file} as a file"])]
             return (", ".join(rights), _by_rules(objects)) if objects else (_EVERYWHERE[rights[0]], "")
-        case Ports(rights, ports, every):
+        case RightsOnPorts(rights, ports, every):
             some = _listed(ports)
             where = f"every port, but for {some}" if every and some else some or "every port"
             return ", ".join(rights), f"on {where}"

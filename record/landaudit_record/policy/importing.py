@@ -34,7 +34,7 @@ NO_PROGRAM = "-"
 
 
 @dataclass(frozen=True)
-class Rule:
+class ImportedRule:
     """A rule on a path or on a TCP port. If the run made the object at the path, `made` is its name in the tree."""
 
     on: str | int
@@ -43,12 +43,12 @@ class Rule:
 
 
 @dataclass(frozen=True)
-class Ruleset:
+class ImportedRuleset:
     """What a ruleset has when a process restricts itself by it; `dropped` says what of it a policy can't have."""
 
     fs: Rights
     net: Rights
-    rules: tuple[Rule, ...] = ()
+    rules: tuple[ImportedRule, ...] = ()
     scoped: tuple[str, ...] = ()
     dropped: tuple[str, ...] = ()
 
@@ -63,7 +63,7 @@ class Own:
     """The layers that a program puts in force by itself, the oldest first, and its path, `-` if it is not known."""
 
     program: str
-    layers: tuple[Ruleset, ...]
+    layers: tuple[ImportedRuleset, ...]
 
 
 @dataclass
@@ -82,19 +82,19 @@ class Times:
 class _Open:
     """A ruleset that processes hold, which may still get rules."""
 
-    now: Ruleset
+    now: ImportedRuleset
 
 
 @dataclass
-class _Process:
+class _RestrictedProcess:
     """What a process has: its program, its layers since it runs that, the programs of those before, its rulesets."""
 
     program: str = NO_PROGRAM
-    layers: tuple[Ruleset, ...] = ()
+    layers: tuple[ImportedRuleset, ...] = ()
     before: tuple[str, ...] = ()
     rulesets: dict[int, _Open] = field(default_factory=dict)
 
-    def forked(self) -> _Process:
+    def forked(self) -> _RestrictedProcess:
         """A child, which holds the same rulesets."""
         return replace(self, rulesets=dict(self.rulesets))
 
@@ -120,17 +120,17 @@ class Following:
         self._tree = tree
         self._found = found
         self._failed = failed
-        self._by_pid: dict[int, _Process] = {}
+        self._by_pid: dict[int, _RestrictedProcess] = {}
         self._rule: tuple[int, int] | None = None
 
     def take(self, record: Record) -> Restricted | None:
         """Follows a record, and gives the restriction that it is, if it is one."""
         pid = record["pid"]
-        process = self._by_pid.setdefault(pid, _Process())
+        process = self._by_pid.setdefault(pid, _RestrictedProcess())
         done = self._restrict(process, record) if record["op"] == "restrict" else None
         match record["op"]:
             case "start":
-                self._by_pid[pid] = _Process()
+                self._by_pid[pid] = _RestrictedProcess()
             case "fork":
                 self._by_pid[record["child"]] = process.forked()
             case "exit":
@@ -143,7 +143,7 @@ class Following:
             self._run(self._by_pid[record.get("child", pid)], self._tree.real(ran["path"]), again=True)
         return done
 
-    def _run(self, process: _Process, program: str, *, again: bool) -> None:
+    def _run(self, process: _RestrictedProcess, program: str, *, again: bool) -> None:
         """A process runs a program: the layers that it has are no longer the program's own."""
         own = Own(process.program, process.layers)
         if own in self._found and not again:
@@ -151,7 +151,7 @@ class Following:
         process.before += (process.program,) * len(process.layers)
         process.program, process.layers = program, ()
 
-    def _on_ruleset(self, process: _Process, record: Record) -> None:
+    def _on_ruleset(self, process: _RestrictedProcess, record: Record) -> None:
         rs, kernel = record["rs"], record.get("kernel", "ok")
         if record["op"] == "create":
             if "scoped" in record:
@@ -172,10 +172,10 @@ class Following:
         self._rule = (record["pid"], call) if type(call) is int else None
         return self._rule is not None and self._rule == before
 
-    def _fails(self, process: _Process, record: Record) -> None:
+    def _fails(self, process: _RestrictedProcess, record: Record) -> None:
         self._failed[f"{record['op']} of {process.program}: {record['kernel']}"] += 1
 
-    def _restrict(self, process: _Process, record: Record) -> Restricted | None:
+    def _restrict(self, process: _RestrictedProcess, record: Record) -> Restricted | None:
         if record.get("kernel", "ok") != "ok":
             self._fails(process, record)
             return None
@@ -188,7 +188,7 @@ class Following:
             self._count(record["pid"], process, before, own)
         return Restricted(record["pid"], own, "again" in record)
 
-    def _count(self, pid: int, process: _Process, before: Own, own: Own) -> None:
+    def _count(self, pid: int, process: _RestrictedProcess, before: Own, own: Own) -> None:
         """Counts the layers of a process, in place of those that it had before in the same program."""
         found = self._found
         if before in found and pid in found[before].pids:
@@ -201,13 +201,13 @@ class Following:
         times.under.update(dict.fromkeys(process.before, 1))
 
 
-def _made(record: Record) -> Ruleset:
+def _made(record: Record) -> ImportedRuleset:
     """A ruleset without rules, from the record that makes it."""
     dropped: list[str] = []
     fs, net = _known(record, "fs", FS, "handles", dropped), _known(record, "net", NET, "handles", dropped)
     scoped = tuple(scope for scope in record.get("scoped", ()) if scope in SCOPES)
     dropped += [f"it has the scope {scope}" for scope in record.get("scoped", ()) if scope not in SCOPES]
-    return Ruleset(fs, net, scoped=scoped, dropped=tuple(dropped))
+    return ImportedRuleset(fs, net, scoped=scoped, dropped=tuple(dropped))
 
 
 def _known(record: Record, member: str, family: Family, says: str, dropped: list[str]) -> Rights:
@@ -219,7 +219,7 @@ def _known(record: Record, member: str, family: Family, says: str, dropped: list
     return rights & set(family.since)
 
 
-def _with_rule(ruleset: Ruleset, record: Record, tree: Tree) -> Ruleset:
+def _with_rule(ruleset: ImportedRuleset, record: Record, tree: Tree) -> ImportedRuleset:
     """A ruleset with the rule of a record, or with the reason why that is dropped."""
     on = record["port"] if record["op"] == "add_port" else str(shown(record, "path"))
     family, handled = (NET, ruleset.net) if record["op"] == "add_port" else (FS, ruleset.fs)
@@ -233,7 +233,7 @@ def _with_rule(ruleset: Ruleset, record: Record, tree: Tree) -> Ruleset:
         text = [f"its rule on {on} ({named}): {why}"] if why is not None else []
         return replace(ruleset, dropped=(*dropped, *text))
     made = record["path"] if isinstance(on, str) and not tree.is_there_before(record["path"]) else None
-    return replace(ruleset, rules=(*ruleset.rules, Rule(on, rights, made)), dropped=tuple(dropped))
+    return replace(ruleset, rules=(*ruleset.rules, ImportedRule(on, rights, made)), dropped=tuple(dropped))
 
 
 def _refusal(record: Record, rights: Rights, handled: Rights, tree: Tree) -> str | None:
@@ -254,7 +254,7 @@ def _refusal(record: Record, rights: Rights, handled: Rights, tree: Tree) -> str
 
 
 @dataclass(frozen=True)
-class Found:
+class InForce:
     """What programs of a recording put in force by themselves, in the order of the first times.
 
     `failed` counts calls on rulesets that the kernel refused, `unseen` those that could not be recorded, by class.
@@ -265,7 +265,7 @@ class Found:
     unseen: Counter[str]
 
 
-def found(recording: Finished, tree: Tree) -> Found:
+def found(recording: Finished, tree: Tree) -> InForce:
     """What the programs of a recording put in force by themselves."""
     own: dict[Own, Times] = {}
     failed: Counter[str] = Counter()
@@ -275,7 +275,7 @@ def found(recording: Finished, tree: Tree) -> Found:
         for _, record in told(part.trace, OF_PROCESSES, RAN):
             following.take(record)
         scoping |= following.scoping
-    return Found(own, failed, _unseen(recording.folder / "unsaid.jsonl", scoping))
+    return InForce(own, failed, _unseen(recording.folder / "unsaid.jsonl", scoping))
 
 
 def _unseen(unsaid: Path, scoping: Container[int]) -> Counter[str]:
@@ -301,7 +301,7 @@ def policy(own: Own, path: Path) -> Policy:
     return Policy(path, tuple(_layer(ruleset, number) for number, ruleset in enumerate(some, start=1)))
 
 
-def _layer(ruleset: Ruleset, number: int) -> Layer:
+def _layer(ruleset: ImportedRuleset, number: int) -> Layer:
     by_rights = {"path_beneath": _together(ruleset.rules, str), "net_port": _together(ruleset.rules, int)}
     paths = tuple(PathRule(Numbered("path_beneath", at), Access(rights), tuple(map(str, on)))
                   for at, (rights, on) in enumerate(by_rights["path_beneath"].items(), start=1))
@@ -315,7 +315,7 @@ def _access(rights: Rights, family: Family) -> Access:
     return Access(grouped=rights) if rights == family.groups["all"] else Access(rights)
 
 
-def _together(rules: Sequence[Rule], kind: type) -> dict[Rights, list[str | int]]:
+def _together(rules: Sequence[ImportedRule], kind: type) -> dict[Rights, list[str | int]]:
     """What the rules of a kind are on, by their rights: several rules on one thing grant together what each grants."""
     rights: dict[str | int, Rights] = {}
     for rule in rules:

@@ -10,14 +10,14 @@ from ..common.comments import Comments
 from ..common.problems import USAGE, Problem
 from ..common.wording import counted, plain, some_of
 from . import importing
-from .importing import Found, Own
+from .importing import InForce, Own
 
 MOST_SHOWN = 8
 #: Calls of Landlock that were not recorded may have made a policy other than what is printed.
 NOT_ALL = "NOT ALL IS KNOWN"
 
 
-def choose(found: Found, name: str, program: str | None, process: int | None) -> Own:
+def choose(found: InForce, name: str, program: str | None, process: int | None) -> Own:
     """The one policy of a program, or of a process; a Problem that says what there is if there is none, or several."""
     if not found.own:
         raise Problem(f"{name}: no process restricts itself{_unseen(found, ', but ')}")
@@ -35,7 +35,7 @@ def choose(found: Found, name: str, program: str | None, process: int | None) ->
                   f"--program or --process: {plain(there)}", USAGE)
 
 
-def _listed(found: Found, some: Iterable[Own]) -> Iterator[str]:
+def _listed(found: InForce, some: Iterable[Own]) -> Iterator[str]:
     """Each policy by its program, its number of layers and rules, and its first process."""
     for own in some:
         times = found.own[own]
@@ -44,7 +44,7 @@ def _listed(found: Found, some: Iterable[Own]) -> Iterator[str]:
                f"{counted(rules, 'rule')}, {counted(len(times.pids), 'time')})")
 
 
-def comments(found: Found, own: Own, name: str) -> Comments:
+def comments(found: InForce, own: Own, name: str) -> Comments:
     """The comments on a program's policy, its layers and its rules."""
     written = Comments(list(_whole(found, own, name)))
     layers = [ruleset for ruleset in own.layers if ruleset.is_layer]
@@ -58,7 +58,7 @@ def comments(found: Found, own: Own, name: str) -> Comments:
     return written
 
 
-def _whole(found: Found, own: Own, name: str) -> Iterator[str]:
+def _whole(found: InForce, own: Own, name: str) -> Iterator[str]:
     times = found.own[own]
     yield f"what {own.program} puts in force by itself, as recorded in {name}"
     processes = "process" if len(times.pids) == 1 else "processes"
@@ -76,7 +76,7 @@ def _whole(found: Found, own: Own, name: str) -> Iterator[str]:
         yield _unseen(found)
 
 
-def _unseen(found: Found, before: str = "") -> str:
+def _unseen(found: InForce, before: str = "") -> str:
     """What of the calls of Landlock the recording does not have."""
     if not found.unseen:
         return ""
@@ -84,7 +84,7 @@ def _unseen(found: Found, before: str = "") -> str:
     return f"{before}{NOT_ALL}: {calls} of Landlock could not be recorded: {_counts(found.unseen)}"
 
 
-def notes(found: Found) -> list[str]:
+def notes(found: InForce) -> list[str]:
     """Notes for standard error: what makes the policy another one than the program's."""
     return [_unseen(found)] if found.unseen else []
 

@@ -51,7 +51,7 @@ class Where:
 
 
 @dataclass(frozen=True)
-class Remark:
+class LintRemark:
     """A part of a policy, and what there is to say of it: a warning, or a note, which is nothing to mend."""
 
     where: Where
@@ -64,7 +64,7 @@ class Remark:
 
 
 @dataclass(frozen=True)
-class _On:
+class _RuleOnObject:
     """A rule on one object of this machine: `path` is where its parent leads, `rights` what it can grant there."""
 
     parent: Parent
@@ -83,14 +83,14 @@ class _Layer:
     """A layer with its rules, each on the objects that its parents lead to."""
 
     layer: Layer
-    rules: Sequence[_On]
+    rules: Sequence[_RuleOnObject]
 
     @property
     def handled(self) -> Rights:
         """The rights for files that it handles."""
         return self.layer.handled_access_fs.rights
 
-    def granted(self, path: str, but: _On | None = None) -> Rights:
+    def granted(self, path: str, but: _RuleOnObject | None = None) -> Rights:
         """The rights that its rules grant on a path, without one of them."""
         over = set(upwards(path))
         return NONE.union(*(on.rights for on in self.rules if on is not but and on.path in over))
@@ -113,20 +113,20 @@ class Linting:
 
     @cached_property
     def _layers(self) -> list[_Layer]:
-        by_number: dict[int, list[_On]] = {layer.number: [] for layer in self.policy.layers}
+        by_number: dict[int, list[_RuleOnObject]] = {layer.number: [] for layer in self.policy.layers}
         for parent in parents.each(self.policy, DISK):
             if parent.led.blocked is None:
                 by_number[parent.layer].append(self._on(parent))
         return [_Layer(layer, by_number[layer.number]) for layer in self.policy.layers]
 
-    def _on(self, parent: Parent) -> _On:
+    def _on(self, parent: Parent) -> _RuleOnObject:
         seen = disk.look(parent.led.path)
         is_file = seen is not None and seen.kind != "dir"
         handled = self.policy.layers[parent.layer - 1].handled_access_fs.rights
         rights = parent.rule.allowed_access.rights & handled
-        return _On(parent, parent.led.path, is_file, rights & FILE_RIGHTS if is_file else rights)
+        return _RuleOnObject(parent, parent.led.path, is_file, rights & FILE_RIGHTS if is_file else rights)
 
-    def remarks(self) -> Iterator[Remark]:
+    def remarks(self) -> Iterator[LintRemark]:
         """All remarks: those on each rule in the order of the policy, then those on all of it."""
         yield from self._of_parents()
         for number, layer in enumerate(self._layers):
@@ -135,7 +135,7 @@ class Linting:
             yield from self._of_ports(layer.layer, self.policy.layers[:number] + self.policy.layers[number + 1 :])
         yield from self._written_and_run()
 
-    def _of_parents(self) -> Iterator[Remark]:
+    def _of_parents(self) -> Iterator[LintRemark]:
         """What this machine has at the parents of the policy's own rules."""
         for parent in parents.each(self.policy, DISK):
             if parent.rule.group is not None:
@@ -150,16 +150,16 @@ class Linting:
             elif led.now:
                 yield self._note(parent, LINK, f"leads by a link to {led.path}, on which the rule is")
 
-    def _warning(self, parent: Parent, kind: FindingKind, text: str) -> Remark:
-        return Remark(self._where(parent), kind, Level.WARNING, text)
+    def _warning(self, parent: Parent, kind: FindingKind, text: str) -> LintRemark:
+        return LintRemark(self._where(parent), kind, Level.WARNING, text)
 
-    def _note(self, parent: Parent, kind: FindingKind, text: str) -> Remark:
-        return Remark(self._where(parent), kind, Level.NOTE, text)
+    def _note(self, parent: Parent, kind: FindingKind, text: str) -> LintRemark:
+        return LintRemark(self._where(parent), kind, Level.NOTE, text)
 
     def _where(self, parent: Parent) -> Where:
         return Where(self.policy.path, parent.layer, parent.rule.place, parent.written)
 
-    def _of_rule(self, layer: _Layer, index: int, on: _On) -> Iterator[Remark]:
+    def _of_rule(self, layer: _Layer, index: int, on: _RuleOnObject) -> Iterator[LintRemark]:
         named = FS.ordered(on.rule.allowed_access.outright - FILE_RIGHTS) if on.is_file else []
         if named:
             text = f"is no directory, so the kernel refuses the rule for {', '.join(named)}"
@@ -173,9 +173,9 @@ class Linting:
         if on.rule.group is None:
             yield from self._without_effect(layer, index, on)
 
-    def _without_effect(self, layer: _Layer, index: int, on: _On) -> Iterator[Remark]:
+    def _without_effect(self, layer: _Layer, index: int, on: _RuleOnObject) -> Iterator[LintRemark]:
         """What a rule grants that other rules of its layer grant too, and what another layer refuses anyway."""
-        left, others = on.rights, list[_On]()
+        left, others = on.rights, list[_RuleOnObject]()
         for at, one in enumerate(layer.rules):
             if (one.path != on.path or at < index) and one.path in upwards(on.path) and left & one.rights:
                 left -= one.rights
@@ -191,7 +191,7 @@ class Linting:
                     yield self._warning(on.parent, IDLE, f"{', '.join(none)} without effect: layer "
                                         f"{other.layer.number} grants it neither there nor beneath")
 
-    def _of_ports(self, layer: Layer, others: Sequence[Layer]) -> Iterator[Remark]:
+    def _of_ports(self, layer: Layer, others: Sequence[Layer]) -> Iterator[LintRemark]:
         """Rules on ports that grant nothing new, or what another layer refuses."""
         granted: dict[int, Rights] = {}
         for rule in layer.net_port:
@@ -199,15 +199,15 @@ class Linting:
                 where = Where(self.policy.path, layer.number, rule.place, port)
                 rights = rule.allowed_access.rights & layer.handled_access_net.rights
                 if rights <= granted.get(port, NONE):
-                    yield Remark(where, IDLE, Level.WARNING, "without effect: rules before it grant as much")
+                    yield LintRemark(where, IDLE, Level.WARNING, "without effect: rules before it grant as much")
                 granted[port] = granted.get(port, NONE) | rights
                 for other in others:
                     none = NET.ordered(rights & other.handled_access_net.rights - _on_port(other.net_port, port))
                     if none:
                         text = f"{', '.join(none)} without effect: layer {other.number} does not grant it there"
-                        yield Remark(where, IDLE, Level.WARNING, text)
+                        yield LintRemark(where, IDLE, Level.WARNING, text)
 
-    def _written_and_run(self) -> Iterator[Remark]:
+    def _written_and_run(self) -> Iterator[LintRemark]:
         """Where files may be written and executed: the topmost places."""
         places = {ROOT, *(on.path for layer in self._layers for on in layer.rules)}
         told: set[str] = set()
@@ -216,7 +216,7 @@ class Linting:
             if not told & over and all(_BOTH <= layer.lets_pass(path) for layer in self._layers):
                 told.add(path)
                 there = "everywhere" if path == ROOT else f"at {path} and beneath" if _is_dir(path) else f"at {path}"
-                yield Remark(Where(self.policy.path), WRITE_RUN, Level.WARNING,
+                yield LintRemark(Where(self.policy.path), WRITE_RUN, Level.WARNING,
                              f"files {there} may be both written and executed")
 
 

@@ -56,7 +56,7 @@ class Move:
 
 
 @dataclass(frozen=True)
-class Tried:
+class TriedMove:
     """A move, and the ABIs at which either policy lets it pass."""
 
     move: Move
@@ -64,7 +64,7 @@ class Tried:
     new: Abis
 
 
-def tried(program: Path, old: Policy, new: Policy, regions: Regions, abis: range, passing: Pass) -> Iterator[Tried]:
+def tried(program: Path, old: Policy, new: Policy, regions: Regions, abis: range, passing: Pass) -> Iterator[TriedMove]:
     """The moves that may pass under some policy, as landaudit answers them."""
     questions = list(_moves(regions, passing))
     if not questions:
@@ -142,14 +142,14 @@ def _moved(regions: Regions, kind: str, to: str, leaving: frozenset[str]) -> Ite
 # ---- asking
 
 
-def _asked(asker: Asker, confined: Sequence[Sequence[str]], questions: Sequence[_Question]) -> Iterator[Tried]:
+def _asked(asker: Asker, confined: Sequence[Sequence[str]], questions: Sequence[_Question]) -> Iterator[TriedMove]:
     """Each move with the ABIs at which each of two policies lets it pass."""
     size = max(FEW, -(-len(questions) // PROCESSES))
     parts = [questions[first:first + size] for first in range(0, len(questions), size)]
     passing = _passing(asker.verdicts(Trial(own, part) for part in parts for own in confined))
     for part in parts:
         old = list(islice(passing, len(part)))
-        yield from (Tried(move, before, after) for (move, _), before, after in zip(part, old, passing))
+        yield from (TriedMove(move, before, after) for (move, _), before, after in zip(part, old, passing))
 
 
 def _passing(verdicts: Iterator[tuple[Move, Mapping[str, Abis]]]) -> Iterator[Abis]:

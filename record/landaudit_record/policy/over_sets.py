@@ -21,7 +21,7 @@ from dataclasses import dataclass
 from typing import Any
 
 from ..common import options, resolving
-from ..common.documents import Place, check_keys, listed, one_or_several, tables
+from ..common.documents import DocumentPlace, check_keys, listed, one_or_several, tables
 from ..common.numbered import Numbered
 from ..common.resolving import DISK, LinkLoop
 from ..common.rights import FS, NEWEST_ABI, OLDEST_ABI, Rights, judged
@@ -72,20 +72,20 @@ class SetQuestion:
         return FS.ordered(self.grouped - FS.known(abi))
 
 
-def read(document: Mapping[str, Any], place: Place) -> Iterator[SetQuestion]:
+def read(document: Mapping[str, Any], place: DocumentPlace) -> Iterator[SetQuestion]:
     """The questions of a file of cases."""
     for kind in KINDS:
         for number, table in enumerate(tables(document.get(kind, []), kind, place), start=1):
-            yield _Reader(kind, table, place / Numbered(kind, number)).question()
+            yield _QuestionReader(kind, table, place / Numbered(kind, number)).question()
 
 
 @dataclass(frozen=True)
-class _Reader:
+class _QuestionReader:
     """Reads one question."""
 
     kind: str
     table: Mapping[str, Any]
-    place: Place
+    place: DocumentPlace
 
     def question(self) -> SetQuestion:
         """The question."""
@@ -105,7 +105,7 @@ class _Reader:
         grouped = access.rights - access.outright
         return SetQuestion(self.kind, tuple(self.table[key]), asked, grouped, under, abis_of(self.table, self.place))
 
-    def _path(self, value: Any, place: Place) -> str:
+    def _path(self, value: Any, place: DocumentPlace) -> str:
         """A path without links, as the kernel walks it on this machine."""
         path = read_parent(value, place)
         try:
@@ -119,7 +119,7 @@ class _Reader:
         return led.path
 
 
-def abis_of(table: Mapping[str, Any], place: Place) -> range:
+def abis_of(table: Mapping[str, Any], place: DocumentPlace) -> range:
     """The ABIs that a table is about: those of its `abi`, or all."""
     try:
         return judged(options.abis(str(table.get("abi", span(ALL_ABIS)))))

@@ -9,7 +9,7 @@ from collections.abc import Callable, Iterable, Iterator
 from dataclasses import dataclass, replace
 
 from ..common.problems import Problem
-from ..common.resolving import NOWHERE, ROOT, Known, LinkLoop, Walked, walked
+from ..common.resolving import NOWHERE, ROOT, KnownObjects, LinkLoop, Walked, walked
 from .policies import PathRule, Policy
 
 
@@ -28,7 +28,7 @@ class Parent:
         return f"layer {self.layer}, {self.rule.place}, parent {self.written}"
 
 
-def each(policy: Policy, known: Known) -> Iterator[Parent]:
+def each(policy: Policy, known: KnownObjects) -> Iterator[Parent]:
     """Each parent of a policy's rules, and where it leads; a loop of links is a Problem."""
     for layer in policy.layers:
         for rule in layer.path_beneath:
@@ -41,7 +41,7 @@ def each(policy: Policy, known: Known) -> Iterator[Parent]:
                 yield Parent(layer.number, rule, written, led)
 
 
-def followed(policy: Policy, known: Known) -> Policy:
+def followed(policy: Policy, known: KnownObjects) -> Policy:
     """The policy with what its parents lead to: a rule is on an object, and not on a link to it.
 
     A parent that the kernel can't open is on no object. One that can only be a directory keeps a slash at its end.

@@ -36,7 +36,7 @@ from pathlib import Path
 from typing import Any, TypeVar
 
 from ..common import variables
-from ..common.documents import Place, check_keys, listed, one_or_several, tables, unknown
+from ..common.documents import DocumentPlace, check_keys, listed, one_or_several, tables, unknown
 from ..common.numbered import Numbered
 from ..common.rights import ABI_OF_SCOPES, FS, NET, NEWER, NEWEST_ABI, NONE, SCOPES, Family, Rights
 from ..common.variables import NOTHING_GIVEN, Filled, Given
@@ -150,12 +150,12 @@ class Policy:
 def read(path: Path, given: Given = NOTHING_GIVEN) -> Policy:
     """The policy in a file; any error in it is a Problem that names its position and says what would be right."""
     filled = variables.read(path, given)
-    return _Reading(filled, given).policy(Place(path))
+    return _PolicyReading(filled, given).policy(DocumentPlace(path))
 
 
-def accepted(path: Path, given: Given, *, only: bool) -> Iterator[tuple[Mapping[str, Any], Place]]:
+def accepted(path: Path, given: Given, *, only: bool) -> Iterator[tuple[Mapping[str, Any], DocumentPlace]]:
     """The tables of a file that say what is accepted. With `only`, the file may contain nothing else."""
-    document, place = variables.read(path, given).table, Place(path)
+    document, place = variables.read(path, given).table, DocumentPlace(path)
     if only:
         check_keys(document, (ACCEPTED,), place)
     found = tables(document.get(ACCEPTED, []), ACCEPTED, place)
@@ -177,13 +177,13 @@ class Group:
 
 
 @dataclass(frozen=True)
-class _Reading:
+class _PolicyReading:
     """Reads a policy from a document, and the groups that it includes."""
 
     filled: Filled
     given: Given
 
-    def policy(self, place: Place) -> Policy:
+    def policy(self, place: DocumentPlace) -> Policy:
         """The policy."""
         document = self.filled.table
         check_keys(document, ("layer", "include", variables.KEY, ACCEPTED), place)
@@ -197,7 +197,7 @@ class _Reading:
                   for number, it in enumerate(found, start=1))
         return Policy(place.path, tuple(layers), self.filled.defaults, self.filled.written)
 
-    def _layer(self, table: Mapping[str, Any], number: int, included: Sequence[Group], place: Place) -> Layer:
+    def _layer(self, table: Mapping[str, Any], number: int, included: Sequence[Group], place: DocumentPlace) -> Layer:
         """A layer, with the rules of the groups that its policy includes after its own."""
         keys = ("handled_access_fs", "handled_access_net", "include", "path_beneath", "net_port", "scoped")
         check_keys(table, keys, place)
@@ -208,7 +208,7 @@ class _Reading:
             place.fault('handles nothing: give handled_access_fs or handled_access_net rights, as ["all"]')
         named = [*included, *self._included(table, place)]
 
-        def path_rule(it: Mapping[str, Any], name: Numbered, at: Place) -> PathRule | None:
+        def path_rule(it: Mapping[str, Any], name: Numbered, at: DocumentPlace) -> PathRule | None:
             """A rule; None if it only includes groups."""
             if "include" not in it:
                 return _path_rule(it, name, fs.rights, at)
@@ -222,15 +222,15 @@ class _Reading:
         of_groups = (rule for group in groups.values() for rule in group.in_layer(fs.rights))
         return Layer(number, fs, net, (*filter(None, paths), *of_groups), ports, scoped)
 
-    def _included(self, table: Mapping[str, Any], place: Place) -> tuple[Group, ...]:
+    def _included(self, table: Mapping[str, Any], place: DocumentPlace) -> tuple[Group, ...]:
         """The groups of rules that a table includes."""
         return one_or_several(table["include"], self._group, place / "include") if "include" in table else ()
 
-    def _group(self, value: Any, place: Place) -> Group:
+    def _group(self, value: Any, place: DocumentPlace) -> Group:
         """A group of rules by its name, or one's own by its file."""
         if isinstance(value, str) and value.startswith(variables.OWN_GROUP):
             file = place.path.parent / value
-            return _group_in(variables.read(file, self.given, self.filled.defaults), value, Place(file))
+            return _group_in(variables.read(file, self.given, self.filled.defaults), value, DocumentPlace(file))
         names = group_names()
         if value not in names:
             place.fault(f"unknown group of rules {unknown(str(value), names)}; a file is written as ./site.toml")
@@ -250,11 +250,11 @@ def group_rules(name: str, handled: Rights) -> Iterator[PathRule]:
 @cache
 def _group(name: str) -> Group:
     """A group that is installed."""
-    place = Place(GROUPS / f"{name}.toml")
+    place = DocumentPlace(GROUPS / f"{name}.toml")
     return _group_in(variables.read(place.path, NOTHING_GIVEN), name, place)
 
 
-def _group_in(filled: Filled, name: str, place: Place) -> Group:
+def _group_in(filled: Filled, name: str, place: DocumentPlace) -> Group:
     """The group of a file."""
     check_keys(filled.table, ("path_beneath",), place, all_needed=True)
     handled = FS.groups["all"]
@@ -262,7 +262,7 @@ def _group_in(filled: Filled, name: str, place: Place) -> Group:
     return Group(name, tuple(replace(rule, place=replace(rule.place, group=name), group=name) for rule in rules))
 
 
-def _scopes(value: Any, place: Place) -> tuple[str, ...]:
+def _scopes(value: Any, place: DocumentPlace) -> tuple[str, ...]:
     """The scopes of a layer, by the names of the kernel's constants (landlock_create_ruleset(2))."""
     if not isinstance(value, list):
         place.fault(f"must be a list of scopes, of {listed(SCOPES)}")
@@ -273,7 +273,10 @@ def _scopes(value: Any, place: Place) -> tuple[str, ...]:
 
 
 def _rules(
-    layer: Mapping[str, Any], kind: str, place: Place, rule: Callable[[Mapping[str, Any], Numbered, Place], T]
+    layer: Mapping[str, Any],
+    kind: str,
+    place: DocumentPlace,
+    rule: Callable[[Mapping[str, Any], Numbered, DocumentPlace], T],
 ) -> tuple[T, ...]:
     """The rules of one kind, each named by the kind and its number from 1."""
     found = tables(layer.get(kind, []), f"layer.{kind}", place)
@@ -281,19 +284,19 @@ def _rules(
     return tuple(rule(table, name, place / name) for name, table in zip(names, found))
 
 
-def _path_rule(table: Mapping[str, Any], name: Numbered, handled: Rights, place: Place) -> PathRule:
+def _path_rule(table: Mapping[str, Any], name: Numbered, handled: Rights, place: DocumentPlace) -> PathRule:
     check_keys(table, ("allowed_access", "parent"), place, all_needed=True)
     access = _allowed(table["allowed_access"], FS, handled, "handled_access_fs", place / "allowed_access")
     return PathRule(name, access, one_or_several(table["parent"], read_parent, place / "parent"))
 
 
-def _port_rule(table: Mapping[str, Any], name: Numbered, handled: Rights, place: Place) -> PortRule:
+def _port_rule(table: Mapping[str, Any], name: Numbered, handled: Rights, place: DocumentPlace) -> PortRule:
     check_keys(table, ("allowed_access", "port"), place, all_needed=True)
     access = _allowed(table["allowed_access"], NET, handled, "handled_access_net", place / "allowed_access")
     return PortRule(name, access, one_or_several(table["port"], read_port, place / "port"))
 
 
-def _allowed(value: Any, family: Family, handled: Rights, handled_key: str, place: Place) -> Access:
+def _allowed(value: Any, family: Family, handled: Rights, handled_key: str, place: DocumentPlace) -> Access:
     """What a rule allows. A right that is named and not handled would make the kernel refuse the rule."""
     access = read_access(value, family, place)
     if not access.rights:
@@ -306,7 +309,7 @@ def _allowed(value: Any, family: Family, handled: Rights, handled_key: str, plac
     return access
 
 
-def read_access(value: Any, family: Family, place: Place) -> Access:
+def read_access(value: Any, family: Family, place: DocumentPlace) -> Access:
     """A list of rights and groups of rights."""
     if not isinstance(value, list):
         place.fault(f"must be a list of rights {family.what}, of {listed(family.words())}")
@@ -334,7 +337,7 @@ def _no_right(word: str, family: Family) -> str:
     return f"unknown right {family.what} {unknown(word, family.words())}"
 
 
-def read_parent(value: Any, place: Place) -> str:
+def read_parent(value: Any, place: DocumentPlace) -> str:
     """An absolute path."""
     if not isinstance(value, str):
         place.fault(f"{value!r} is not a path: write it as a text, as \"/usr\"")
@@ -347,7 +350,7 @@ def read_parent(value: Any, place: Place) -> str:
     return value
 
 
-def read_port(value: Any, place: Place) -> int:
+def read_port(value: Any, place: DocumentPlace) -> int:
     """The number of a TCP port."""
     if type(value) is not int or not 0 <= value <= HIGHEST_PORT:
         place.fault(f"{value!r} is not a port: write a number from 0 to {HIGHEST_PORT}")

@@ -16,7 +16,7 @@ from .policies import Access, Layer, PathRule, Policy, PortRule
 #: The most columns of a list on one line.
 WIDTH = 120
 
-Remark = Callable[[int, PathRule | PortRule], str]
+RuleRemark = Callable[[int, PathRule | PortRule], str]
 """A remark on a rule of the layer with a number; an empty one is none."""
 
 Words = tuple[str, ...]
@@ -110,7 +110,7 @@ def no_remark(layer: int, rule: PathRule | PortRule) -> str:
 
 
 def lines(
-    policy: Policy, comments: Comments = Comments(), remark: Remark = no_remark, *, included: bool = False
+    policy: Policy, comments: Comments = Comments(), remark: RuleRemark = no_remark, *, included: bool = False
 ) -> Iterator[str]:
     """The lines of a policy with its comments; `remark` gives a remark on a rule of the layer with a number.
 
@@ -141,7 +141,7 @@ def _variables(policy: Policy, comments: Comments, included: bool) -> Iterator[s
         yield ""
 
 
-def _layer(layer: Layer, written: Written, comments: Comments, remark: Remark, included: bool) -> Iterator[str]:
+def _layer(layer: Layer, written: Written, comments: Comments, remark: RuleRemark, included: bool) -> Iterator[str]:
     yield from _comments(comments.on_layer(layer.number))
     yield "[[layer]]"
     for key, access, family in (("fs", layer.handled_access_fs, FS), ("net", layer.handled_access_net, NET)):
@@ -168,7 +168,7 @@ def _layer(layer: Layer, written: Written, comments: Comments, remark: Remark, i
 
 
 def _head(
-    layer: Layer, rule: PathRule | PortRule, before: PathRule | PortRule | None, comments: Comments, remark: Remark
+    layer: Layer, rule: PathRule | PortRule, before: PathRule | PortRule | None, comments: Comments, remark: RuleRemark
 ) -> Iterator[str]:
     """The comments before a rule."""
     yield ""

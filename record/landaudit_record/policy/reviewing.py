@@ -8,9 +8,9 @@ from pathlib import Path
 
 from ..common.rights import FS, NET, SCOPES
 from . import differing, differing_rows
-from .differing import Subject
+from .differing import Differing
 from .differing_layers import Abis, Room
-from .differing_rows import Row
+from .differing_rows import DifferenceRow
 from .policies import Access, Layer, Policy
 from .widenings import Widening
 
@@ -31,9 +31,9 @@ class Review:
     new: Path
     abis: range
     tried: int
-    more: tuple[Row, ...]
-    less: tuple[Row, ...]
-    accepted: tuple[tuple[Widening, tuple[Row, ...]], ...] = ()
+    more: tuple[DifferenceRow, ...]
+    less: tuple[DifferenceRow, ...]
+    accepted: tuple[tuple[Widening, tuple[DifferenceRow, ...]], ...] = ()
     not_there: tuple[Widening, ...] = ()
 
     @property
@@ -62,10 +62,10 @@ def review(
     taken = {one: {subject: at for subject, at in found.more.items() if one.covers(subject, found.regions)}
              for one in accepted}
     more = {subject: at for subject, at in found.more.items() if not any(subject in of for of in taken.values())}
-    told: set[Subject] = set()
-    rows: list[tuple[Widening, tuple[Row, ...]]] = []
+    told: set[Differing] = set()
+    rows: list[tuple[Widening, tuple[DifferenceRow, ...]]] = []
     for one, subjects in taken.items():
-        first: dict[Subject, Abis] = {subject: at for subject, at in subjects.items() if subject not in told}
+        first: dict[Differing, Abis] = {subject: at for subject, at in subjects.items() if subject not in told}
         told |= first.keys()
         rows += [(one, differing_rows.rows(first, found))] if first else []
     return Review(

@@ -21,13 +21,13 @@ Numbers = tuple[int, ...]
 
 
 @dataclass(frozen=True)
-class Objects:
+class RuledObjects:
     """The objects that comparisons are about: the root, and each path with a rule as a directory and as a file."""
 
     paths: Mapping[str, int]
 
     @classmethod
-    def of(cls, paths: Iterable[str]) -> Objects:
+    def of(cls, paths: Iterable[str]) -> RuledObjects:
         """The objects of paths, of which none is the root."""
         return cls({path: number for number, path in enumerate(paths)})
 
@@ -54,21 +54,21 @@ class Objects:
 
 
 @dataclass(frozen=True)
-class Rule:
+class RuleOnObjects:
     """What a rule grants on objects by their numbers."""
 
     rights: Rights
     objects: Numbers
 
-    def less(self, gone: Mapping[int, Rights]) -> Iterable[Rule]:
+    def less(self, gone: Mapping[int, Rights]) -> Iterable[RuleOnObjects]:
         """The rule without some rights on some objects."""
         if gone.keys().isdisjoint(self.objects):
             return (self,)
-        return (Rule(self.rights - gone.get(number, frozenset()), (number,)) for number in self.objects)
+        return (RuleOnObjects(self.rights - gone.get(number, frozenset()), (number,)) for number in self.objects)
 
 
 @dataclass(frozen=True)
-class PortRule:
+class RuleOnPorts:
     """What a rule grants on ports by their numbers."""
 
     rights: Rights
@@ -81,10 +81,10 @@ class Ruled:
 
     number: int
     handled: Rights
-    rules: tuple[Rule, ...]
+    rules: tuple[RuleOnObjects, ...]
     scoped: frozenset[str] = frozenset()
     handled_net: Rights = NONE
-    port_rules: tuple[PortRule, ...] = ()
+    port_rules: tuple[RuleOnPorts, ...] = ()
 
     def less(self, gone: Mapping[int, Rights]) -> Ruled:
         """The layer without some rights on some objects."""
@@ -93,7 +93,7 @@ class Ruled:
     def only(self, right: str, named: str | None = None) -> Ruled:
         """The layer with one right alone, which gets another name if one is given."""
         rights = frozenset({named or right})
-        rules = tuple(Rule(rights, rule.objects) for rule in self.rules if right in rule.rights)
+        rules = tuple(RuleOnObjects(rights, rule.objects) for rule in self.rules if right in rule.rights)
         return Ruled(self.number, rights if right in self.handled else frozenset(), rules)
 
     def record(self, *, of_ports: bool) -> dict[str, Any]:
@@ -125,7 +125,7 @@ class Comparison:
     parents: Numbers = ()
     ports: int = 0
 
-    def line(self, objects: Objects) -> str:
+    def line(self, objects: RuledObjects) -> str:
         """The comparison as a line of JSON."""
         sides = {name: [layer.record(of_ports=self.ports > 0) for layer in side]
                  for name, side in (("old", self.old), ("new", self.new))}
@@ -151,7 +151,7 @@ class Passing:
 
 
 @dataclass(frozen=True)
-class Answer:
+class ComparisonAnswer:
     """What landaudit-rules found: where each right passes and, for each right for files and each old layer by its index,
     what passes once objects are moved."""
 
@@ -164,7 +164,7 @@ class Answer:
     spare_layers: int
 
     @classmethod
-    def read(cls, found: Mapping[str, Any]) -> Answer:
+    def read(cls, found: Mapping[str, Any]) -> ComparisonAnswer:
         """The answer on a line."""
         of = {name: dict(zip(FS.since, found[name])) for name in ("single", "objects", "gains")}
         return cls(
@@ -185,9 +185,9 @@ def _passing(rights: Iterable[str], found: Sequence[Mapping[str, list[int]]]) ->
             for right, where in zip(rights, found)}
 
 
-def answers(program: Path, objects: Objects, comparisons: Sequence[Comparison]) -> list[Answer]:
+def answers(program: Path, objects: RuledObjects, comparisons: Sequence[Comparison]) -> list[ComparisonAnswer]:
     """What is found of comparisons; those that are the same are asked about once."""
     lines = [comparison.line(objects) for comparison in comparisons]
     asked = list(dict.fromkeys(lines))
     found = dict(zip(asked, landaudit_rules.ask(program, asked)))
-    return [Answer.read(found[line][0]) for line in lines]
+    return [ComparisonAnswer.read(found[line][0]) for line in lines]

@@ -12,7 +12,7 @@ from ..common.rights import FILE_RIGHTS, Rights
 from ..common.trees import ROOT
 from .fitting import FittedLayer
 from .regions import Regions, as_named
-from .ruling import Comparison, Layers, Objects, PortRule, Rule, Ruled
+from .ruling import Comparison, Layers, RuleOnObjects, RuleOnPorts, Ruled, RuledObjects
 
 #: A right that no call asks alone: the device must be opened first, for reading or for writing.
 OF_OPENED = "ioctl_dev"
@@ -73,7 +73,7 @@ def united(one: Mapping[int, Rights], other: Mapping[int, Rights]) -> dict[int, 
     return {number: one.get(number, none) | other.get(number, none) for number in one.keys() | other.keys()}
 
 
-def at(regions: Regions, objects: Objects, abi: int) -> Sides:
+def at(regions: Regions, objects: RuledObjects, abi: int) -> Sides:
     """The layers of the two policies of some regions at an ABI."""
     ports = {port: number for number, port in enumerate(regions.tried_ports)}
     one, other = (tuple(_ruled(layer, regions, objects, ports, abi) for layer in by_abi[abi])
@@ -81,16 +81,16 @@ def at(regions: Regions, objects: Objects, abi: int) -> Sides:
     return Sides(abi, one, other)
 
 
-def _ruled(layer: FittedLayer, regions: Regions, objects: Objects, ports: Mapping[int, int], abi: int) -> Ruled:
+def _ruled(layer: FittedLayer, regions: Regions, objects: RuledObjects, ports: Mapping[int, int], abi: int) -> Ruled:
     """A layer with rules on objects, and on a port of each group."""
-    rules: list[Rule] = []
+    rules: list[RuleOnObjects] = []
     for rule in layer.path_rules:
         named = {parent: as_named(parent) for parent in rule.parents}
         files = (path for parent, path in named.items()
                  if not parent.endswith("/") and path != ROOT and not regions.is_directory(path, abi))
-        rules.append(Rule(frozenset(rule.on_directory), tuple(map(objects.directory, named.values()))))
-        rules.append(Rule(FILE_RIGHTS.intersection(rule.on("reg")), tuple(map(objects.file, files))))
-    port_rules = tuple(PortRule(frozenset(rule.on_port), tuple(ports[port] for port in rule.ports if port in ports))
+        rules.append(RuleOnObjects(frozenset(rule.on_directory), tuple(map(objects.directory, named.values()))))
+        rules.append(RuleOnObjects(FILE_RIGHTS.intersection(rule.on("reg")), tuple(map(objects.file, files))))
+    port_rules = tuple(RuleOnPorts(frozenset(rule.on_port), tuple(ports[port] for port in rule.ports if port in ports))
                        for rule in layer.port_rules)
     return Ruled(layer.number, frozenset(layer.handled_fs), tuple(rules), handled_net=frozenset(layer.handled_net),
                  port_rules=port_rules)

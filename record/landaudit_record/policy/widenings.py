@@ -14,14 +14,14 @@ from pathlib import Path
 from typing import Any
 
 from ..common import resolving
-from ..common.documents import Place, check_keys, listed, one_or_several, text, unknown
+from ..common.documents import DocumentPlace, check_keys, listed, one_or_several, text, unknown
 from ..common.resolving import DISK, LinkLoop
 from ..common.rights import FS, NET, NONE, SCOPES, Rights
 from ..common.trees import ROOT, upwards
 from ..common.variables import NOTHING_GIVEN, Given
 from .anywhere import Chain, Gain
-from .differing import About, Subject
-from .differing_layers import Mounts, Room, Unscoped
+from .differing import Differing, RightAt
+from .differing_layers import MountChanges, Room, Unscoped
 from .moving import Move
 from . import policies
 from .policies import read_parent, read_port
@@ -58,10 +58,10 @@ class Widening:
             return f"{rights} under {', '.join(self.under)}"
         return f"{rights} on {'every port' if self.ports is None else f'port {listed(map(str, sorted(self.ports)))}'}"
 
-    def covers(self, subject: Subject, regions: Regions) -> bool:
+    def covers(self, subject: Differing, regions: Regions) -> bool:
         """Whether the whole of a difference is accepted."""
         match subject:
-            case About(right, region, port):
+            case RightAt(right, region, port):
                 here = self._covers_port(port, regions) if region is None else _within((region.path,), self.under)
                 return right in self.rights and here
             case Chain(right, _, directories, file):
@@ -73,7 +73,7 @@ class Widening:
                 return _within((source,), self.sources) and _within((to,), self.to)
             case Unscoped(scope):
                 return self.change == scope
-            case Mounts():
+            case MountChanges():
                 return self.change == MOUNTS
             case Room():
                 return self.change == LAYERS
@@ -93,7 +93,7 @@ def read(path: Path, given: Given = NOTHING_GIVEN) -> tuple[Widening, ...]:
     return tuple(_widening(table, place) for table, place in policies.accepted(path, given, only=True))
 
 
-def _widening(table: Mapping[str, Any], place: Place) -> Widening:
+def _widening(table: Mapping[str, Any], place: DocumentPlace) -> Widening:
     keys = tuple(dict.fromkeys(key for form in FORMS for key in form))
     check_keys(table, (*keys, "reason"), place)
     reason, form = text(table, "reason", place), tuple(key for key in keys if key in table)
@@ -109,7 +109,7 @@ def _widening(table: Mapping[str, Any], place: Place) -> Widening:
                     change)
 
 
-def _rights(value: Any, form: tuple[str, ...], place: Place) -> Rights:
+def _rights(value: Any, form: tuple[str, ...], place: DocumentPlace) -> Rights:
     """Rights for files where there is a path, else for ports."""
     family = FS if "under" in form else NET
     words = value if isinstance(value, list) and value else []
@@ -119,7 +119,7 @@ def _rights(value: Any, form: tuple[str, ...], place: Place) -> Rights:
     return NONE.union(*(family.groups.get(word, frozenset({word})) for word in words))
 
 
-def _path(value: Any, place: Place) -> str:
+def _path(value: Any, place: DocumentPlace) -> str:
     """A path, by what it leads to on this machine: policies are compared by that."""
     path = read_parent(value, place)
     try:

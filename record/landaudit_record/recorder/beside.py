@@ -86,7 +86,7 @@ class _Listing:
 
 
 @dataclass(frozen=True, slots=True)
-class _Read:
+class _ReadFile:
     """What a file said about how it is run, where the log runs it, and how long the log was after the file was read.
 
     While the `state` of the file is the same, the file says the same.
@@ -98,7 +98,7 @@ class _Read:
     state: tuple[int, ...] | None
 
 
-class Mounts:
+class WatchedMounts:
     """What is mounted, and what of it is not looked at."""
 
     def __init__(self, file: Path = MOUNTS) -> None:
@@ -147,7 +147,7 @@ class _Growth:
             os.close(self._fd)
 
 
-class Beside:
+class LogFollower:
     """Follows the log of a run in a thread of its own, from `start` to `stop`, which writes what was seen.
 
     `directory` is where the command starts, `since` when the run began, `watched` are directories that were listed
@@ -165,12 +165,12 @@ class Beside:
         self._looks: dict[str, list[_Look]] = {}
         self._in_watched: dict[str, Seen | None] = {}
         self._listings: dict[str, _Listing | None] = {}
-        self._reads: dict[str, list[_Read]] = {}
+        self._reads: dict[str, list[_ReadFile]] = {}
         self._real: dict[str, str] = {}
         self._led: set[_Led] = set()
         self._run_until = 0
         self._waiting: list[str] = []
-        self._mounts = Mounts()
+        self._mounts = WatchedMounts()
         self._at = 0
         self._until = math.inf
         self._stops = threading.Event()
@@ -308,7 +308,7 @@ class Beside:
             name = os.readlink(own).removesuffix(" (deleted)")
             if is_in_memory(name):
                 read = replace(disk.program_at(own, self._formats), until=0)
-                self._reads.setdefault(name, []).append(_Read(read, run, self._length(), None))
+                self._reads.setdefault(name, []).append(_ReadFile(read, run, self._length(), None))
                 self._read_program(read.interpreter or "/", run)
 
     def _read_program(self, path: str, run: int) -> None:
@@ -322,7 +322,7 @@ class Beside:
             if not reads or state is None or reads[-1].state != state:
                 program = disk.program(path, self._formats)
                 program = program if _state(path) == state else replace(program, known=False)
-                reads.append(_Read(program, run, self._length(), state))
+                reads.append(_ReadFile(program, run, self._length(), state))
             interpreter = reads[-1].program.interpreter
             if interpreter is None:
                 return

@@ -12,14 +12,14 @@ from . import disk, hearing, strace_log, unrecorded
 from .calls import HANDLERS, arguments, ptrace
 from .unwritten import NOT_UNDERSTOOD, CannotSay
 from .modes import NOBODY_KNOWN
-from .mounted import Places
+from .mounted import MountPlaces
 from .names import Doubts, Names, UnknownWay
 from .ports import Ports
-from .processes import Handle, Place, Process, Thread
+from .processes import Directories, Handle, Process, Thread
 from .recordings import BESIDE, OBJECTS, WITNESS, About, read_about, read_before
 from .scene import Scene
-from .strace_log import Call, Ended, Superseded, Unread
-from .writing import LIMITS, Limits, Recording, Tree
+from .strace_log import Call, Ended, Superseded, UnreadLine
+from .writing import LIMITS, Limits, ListedTree, Recording
 
 CORE_FILE = "a core file that the kernel was to write"
 TAKEN_AWAY = "a file system that was taken from its server, for which strace waited: its use failed from then on"
@@ -53,9 +53,9 @@ def _convert(
 ) -> Converted | None:
     """One conversion; None if it added to the `found` doubts."""
     log = strace_log.find_log(folder)
-    places = Places(about.mounts)
+    places = MountPlaces(about.mounts)
     names = Names(kept, read_before(folder), about.watched, about.whiteouts, about.unlisted, doubts, places)
-    with Recording(folder, Tree(names), limits) as recording, Progress("records") as progress:
+    with Recording(folder, ListedTree(names), limits) as recording, Progress("records") as progress:
         births = strace_log.births(log)
         scene = Scene(names, kept, recording, births, ports, reads_links=about.readlink, hides=about.hidepid)
         for event in strace_log.events(log, births.ends, scene.near):
@@ -80,14 +80,14 @@ def _convert(
         return recording.finish(ended, scene.further_names(), about.untraced, about.too_large)
 
 
-def _take(scene: Scene, event: Ended | Superseded | Unread) -> None:
+def _take(scene: Scene, event: Ended | Superseded | UnreadLine) -> None:
     """Takes an event that is not a call."""
     match event:
         case Ended():
             _take_end(scene, event)
         case Superseded():
             _take_over(scene, event)
-        case Unread():
+        case UnreadLine():
             scene.recording.leave_out(NOT_UNDERSTOOD, event.line, event.tid, event.text, asks=True)
 
 
@@ -117,7 +117,7 @@ def _take_call(scene: Scene, about: About, call: Call) -> None:
 def _started(scene: Scene, about: About, call: Call) -> Thread:
     """A thread that no fork made: that of the first process, or of a process whose start was not seen."""
     process = Process(call.tid, user=NOBODY_KNOWN if scene.recording.records else about.user)
-    thread = Thread(call.tid, process, Place("/", "/"))
+    thread = Thread(call.tid, process, Directories("/", "/"))
     scene.go_to(thread, about.directory)
     if scene.recording.records:
         process.confined = True

@@ -30,7 +30,7 @@ from .recordings import About
 from .scene import DEVICES
 from .unrecorded import NOT_RECORDED, described, tell_gaps
 from .witness import Heard, text
-from .writing import LIMITS, Limits, Recording, Tree
+from .writing import LIMITS, Limits, ListedTree, Recording
 
 RAN_BEFORE = "a process that ran before it was heard: what it asked before is not known"
 RUNS_ON = "a process that ran on after the recording: what it asked then is not known"
@@ -51,7 +51,7 @@ def convert(folder: Path, about: About, limits: Limits = LIMITS) -> Converted:
     """Writes the trees and traces of a recording from its events."""
     heard = Heard(folder / witness.EVENTS)
     objects = Identities()
-    with Recording(folder, Tree(objects), limits) as recording, Progress("records") as progress:
+    with Recording(folder, ListedTree(objects), limits) as recording, Progress("records") as progress:
         hearing = Hearing(recording, objects, about, _last_uses(heard))
         for line, event in heard.events():
             hearing.take(line, event)
@@ -87,7 +87,7 @@ def _is_kept(event: jsonl.Record) -> bool:
 
 
 @dataclass(slots=True, eq=False, kw_only=True)
-class _Process:
+class _HeardProcess:
     """A process: its threads as far as they are known, its open files by address, and its layers.
 
     `whole` says that all its threads are known. `threads` has the rulesets by which each of them restricted itself,
@@ -98,7 +98,7 @@ class _Process:
     """
 
     pid: int
-    maker: _Process | None = None
+    maker: _HeardProcess | None = None
     whole: bool = True
     threads: dict[int, list[str]] = field(default_factory=dict)
     layers: list[str] = field(default_factory=list)
@@ -112,7 +112,7 @@ class _Process:
 
 
 @dataclass(slots=True)
-class _Ruleset:
+class _HeardRuleset:
     """A ruleset: the rights that it handles, and the records of its rules without their ruleset."""
 
     handled: dict[str, Any]
@@ -127,9 +127,9 @@ class Hearing:
         self._objects = objects
         self._about = about
         self._last_uses = last_uses
-        self._processes: dict[int, _Process] = {}
-        self._ended: dict[int, _Process] = {}
-        self._rulesets: dict[str, _Ruleset] = {}
+        self._processes: dict[int, _HeardProcess] = {}
+        self._ended: dict[int, _HeardProcess] = {}
+        self._rulesets: dict[str, _HeardRuleset] = {}
         self._opened: dict[str, int] = {}
         self._ruled: list[tuple[str, Node]] = []
         self._remounts: set[int] = set()
@@ -177,11 +177,11 @@ class Hearing:
 
     # Processes
 
-    def _known(self, line: int, event: jsonl.Record) -> _Process:
+    def _known(self, line: int, event: jsonl.Record) -> _HeardProcess:
         """The process of an event; one that is heard for the first time begins."""
         process = self._processes.get(event["pid"])
         if process is None:
-            process = self._processes[event["pid"]] = _Process(pid=event["pid"])
+            process = self._processes[event["pid"]] = _HeardProcess(pid=event["pid"])
             is_first = self._recording.records == 0 and bool(self._about.command)
             nnp, admin = (self._about.nnp, self._about.admin) if is_first else (False, True)
             self._recording.write("start", process.pid, line, nnp=nnp, admin=admin)
@@ -193,7 +193,7 @@ class Hearing:
             process.threads.setdefault(event["tid"], list(process.layers))
         return process
 
-    def _found(self, line: int, event: jsonl.Record, process: _Process) -> None:
+    def _found(self, line: int, event: jsonl.Record, process: _HeardProcess) -> None:
         """A process that ran before: it runs a program, so that a policy has a place before all that it asks."""
         if process.whole or process.program:
             return
@@ -204,7 +204,7 @@ class Hearing:
             name = self._recording.tree.place(path, self._objects.expect(path, "reg"))
             self._run(line, event, process, name, None, None)
 
-    def _forked(self, line: int, event: jsonl.Record, process: _Process) -> None:
+    def _forked(self, line: int, event: jsonl.Record, process: _HeardProcess) -> None:
         """A thread that begins, or a process with a copy of what its maker has."""
         child, thread = event["child"], event["thread"]
         layers = process.threads.get(event["tid"], process.layers)
@@ -214,7 +214,7 @@ class Hearing:
         self._end(line, child)
         if layers != process.layers:
             self._leave_out(OF_ONE_THREAD, line, event)
-        self._processes[child] = _Process(
+        self._processes[child] = _HeardProcess(
             pid=child,
             maker=process,
             whole=process.whole,
@@ -225,14 +225,14 @@ class Hearing:
         )
         self._recording.write("fork", process.pid, line, child=child)
 
-    def _executed(self, line: int, event: jsonl.Record, process: _Process) -> None:
+    def _executed(self, line: int, event: jsonl.Record, process: _HeardProcess) -> None:
         """A program runs: no other thread is left, under the process's own number."""
         layers = process.threads.get(event["tid"], process.layers)
         process.threads = {process.pid: layers}
         process.whole = True
         self._settle(line, event, process)
 
-    def _exited(self, line: int, event: jsonl.Record, process: _Process) -> None:
+    def _exited(self, line: int, event: jsonl.Record, process: _HeardProcess) -> None:
         process.threads.pop(event["tid"], None)
         self._settle(line, event, process)
         if event["last"]:
@@ -245,7 +245,7 @@ class Hearing:
             self._ended[pid] = process
             self._recording.write("exit", pid, line)
 
-    def _may_refuse(self, process: _Process, target: int) -> bool:
+    def _may_refuse(self, process: _HeardProcess, target: int) -> bool:
         """Whether a process may be under other layers than the one that reaches it, as in `others.may_refuse`."""
         other = self._processes.get(target) or self._ended.get(target)
         at = other
@@ -253,21 +253,21 @@ class Hearing:
             at = at.maker
         return other is None or at is None or other.layers[: len(process.layers)] != process.layers
 
-    def _looked(self, line: int, event: jsonl.Record, process: _Process) -> None:
+    def _looked(self, line: int, event: jsonl.Record, process: _HeardProcess) -> None:
         self._reaches(PTRACE, line, event, process)
         if self._may_refuse(process, event["target"]):
             self._recording.leave_out(INTO_ANOTHER, line, event["pid"], described(event), asks=True, reach=True)
 
-    def _signaled(self, line: int, event: jsonl.Record, process: _Process) -> None:
+    def _signaled(self, line: int, event: jsonl.Record, process: _HeardProcess) -> None:
         self._reaches(SIGNAL, line, event, process)
 
-    def _reaches(self, asks: str, line: int, event: jsonl.Record, process: _Process) -> None:
+    def _reaches(self, asks: str, line: int, event: jsonl.Record, process: _HeardProcess) -> None:
         if event["target"] != process.pid:
             self._recording.reaches(asks, process.pid, [event["target"]], line, described(event))
 
     # Files
 
-    def _open(self, line: int, event: jsonl.Record, process: _Process) -> None:
+    def _open(self, line: int, event: jsonl.Record, process: _HeardProcess) -> None:
         if event.get("other") and not self._objects.is_below_root(event.get("chain") or []):
             return  # asked for who mounted an overlayfs, at a file of its layers
         self._opened[event["file"]] = line
@@ -283,7 +283,7 @@ class Hearing:
         elif rights:
             self._open_file(line, event, process, path, shown)
 
-    def _open_file(self, line: int, event: jsonl.Record, process: _Process, path: str, shown: str | None) -> None:
+    def _open_file(self, line: int, event: jsonl.Record, process: _HeardProcess, path: str, shown: str | None) -> None:
         """A file that is opened; its number stays open as long as events are about the file."""
         if line not in self._last_uses or event["answer"]:
             fd = self._made_up(process)
@@ -299,7 +299,7 @@ class Hearing:
             self._recording.add_close(process.pid, line, fd)
 
     def _run(
-        self, line: int, event: jsonl.Record, process: _Process, path: str, shown: str | None, role: str | None
+        self, line: int, event: jsonl.Record, process: _HeardProcess, path: str, shown: str | None, role: str | None
     ) -> None:
         """A file that is opened to be run."""
         fd = self._made_up(process)
@@ -307,11 +307,11 @@ class Hearing:
         self._say(line, event, "exec", path=path, role=role, shown=shown)
         self._recording.add_close(process.pid, line, fd)
 
-    def _made_up(self, process: _Process) -> int:
+    def _made_up(self, process: _HeardProcess) -> int:
         process.made_up += 1
         return process.made_up
 
-    def _on_file(self, line: int, event: jsonl.Record, process: _Process) -> None:
+    def _on_file(self, line: int, event: jsonl.Record, process: _HeardProcess) -> None:
         """A call on an open file, unless it was opened outside of the recording: then no policy refuses the call."""
         opening = self._opened.get(event["file"])
         if opening is None or not _is_kept(event):
@@ -333,18 +333,18 @@ class Hearing:
             del process.opened[event["file"]]
             self._recording.add_close(process.pid, line, fd)
 
-    def _on_object(self, line: int, event: jsonl.Record, process: _Process) -> None:
+    def _on_object(self, line: int, event: jsonl.Record, process: _HeardProcess) -> None:
         path, shown = self._spot(event)
         self._say(line, event, event["hook"].removeprefix("path_"), path=path, shown=shown)
 
-    def _make(self, line: int, event: jsonl.Record, process: _Process) -> None:
+    def _make(self, line: int, event: jsonl.Record, process: _HeardProcess) -> None:
         path, shown = self._spot(event)
         op = event["hook"].removeprefix("path_")
         self._say(line, event, op, path=path, kind=event.get("kind"), shown=shown)
         if event["answer"] == 0:
             self._objects.makes(shown or path)
 
-    def _move(self, line: int, event: jsonl.Record, process: _Process) -> None:
+    def _move(self, line: int, event: jsonl.Record, process: _HeardProcess) -> None:
         op = event["hook"].removeprefix("path_")
         flags = event.get("flags", 0)
         if flags & RENAME_WHITEOUT:
@@ -356,25 +356,25 @@ class Hearing:
         self._say(line, event, op, **members)
         self._objects.moves(shown or path, shown_to or to)
 
-    def _mount(self, line: int, event: jsonl.Record, process: _Process) -> None:
+    def _mount(self, line: int, event: jsonl.Record, process: _HeardProcess) -> None:
         if not witness.is_again(event, self._remounts):
             self._say(line, event, "mount")
 
-    def _on_port(self, line: int, event: jsonl.Record, process: _Process) -> None:
+    def _on_port(self, line: int, event: jsonl.Record, process: _HeardProcess) -> None:
         if witness.asks_port(event):
             self._say(line, event, event["hook"].removeprefix("socket_"), port=event["port"])
 
     # Layers
 
-    def _create(self, line: int, event: jsonl.Record, process: _Process) -> None:
+    def _create(self, line: int, event: jsonl.Record, process: _HeardProcess) -> None:
         scoped, alone = scopes_of(event["scoped"]), not (event["fs"] or event["net"])
         if event["answer"] == 0:
             handled = {"fs": named(event["fs"], FS), "net": named(event["net"], NET), "scoped": scoped}
-            self._rulesets[event["ruleset"]] = _Ruleset({name: words for name, words in handled.items() if words})
+            self._rulesets[event["ruleset"]] = _HeardRuleset({name: words for name, words in handled.items() if words})
         if not can_be_judged(scoped, alone=alone):
             self._recording.leave_out(OF_SCOPES, line, process.pid, described(event), asks=True)
 
-    def _add_rule(self, line: int, event: jsonl.Record, process: _Process) -> None:
+    def _add_rule(self, line: int, event: jsonl.Record, process: _HeardProcess) -> None:
         ruleset = self._rulesets.get(event["ruleset"])
         if ruleset is None or event["answer"]:
             return
@@ -389,7 +389,7 @@ class Hearing:
         shown = {"shown": real} if real != path else {}
         ruleset.rules.append(("add_path", {"path": path, "fs": named(event["allowed"], FS), **shown}))
 
-    def _restrict(self, line: int, event: jsonl.Record, process: _Process) -> None:
+    def _restrict(self, line: int, event: jsonl.Record, process: _HeardProcess) -> None:
         """A thread gets a layer; the process has it once each of its threads does."""
         if event["answer"]:
             return
@@ -399,14 +399,14 @@ class Hearing:
         process.threads[event["tid"]].append(event["ruleset"])
         self._settle(line, event, process)
 
-    def _settle(self, line: int, event: jsonl.Record, process: _Process) -> None:
+    def _settle(self, line: int, event: jsonl.Record, process: _HeardProcess) -> None:
         """Writes the layers that all threads of a process have and the trace has not."""
         threads = list(process.threads.values())
         process.apart = any(layers != threads[0] for layers in threads)
         for address in [] if process.apart or not threads else threads[0][len(process.layers) :]:
             self._add_layer(line, event, process, address)
 
-    def _add_layer(self, line: int, event: jsonl.Record, process: _Process, address: str) -> None:
+    def _add_layer(self, line: int, event: jsonl.Record, process: _HeardProcess, address: str) -> None:
         """Writes all that makes a layer: the ruleset as it is now, which may be another process's, and its use."""
         process.layers.append(address)
         ruleset = self._rulesets.get(address)
@@ -426,7 +426,7 @@ class Hearing:
         self._recording.write("close_rs", process.pid, line, rs=number)
 
 
-_Handler = Callable[[Hearing, int, jsonl.Record, _Process], None]
+_Handler = Callable[[Hearing, int, jsonl.Record, _HeardProcess], None]
 _HANDLERS: dict[str, _Handler] = {
     "file_open": Hearing._open,
     "file_truncate": Hearing._on_file,

@@ -53,7 +53,7 @@ def run(listening: Witness, command: list[str]) -> Outcome:
     Signals go where `tracing.run` sends them.
     """
     tracing.adopt_orphans()
-    passing = tracing.Passing()
+    passing = tracing.SignalForwarder()
     with passing.installed():
         first = os.posix_spawnp(command[0], command, os.environ)
         passing.reached = lambda: _started(listening)

@@ -61,7 +61,7 @@ def served(among: Iterable[Mount]) -> set[Mount]:
     return {mount for mount in among if mount.kind.partition(".")[0] in SERVED}
 
 
-class Places:
+class MountPlaces:
     """The mounts of a run when it began, each with its place, its device, what of the file system it shows, its type.
 
     `procs` are the places of proc(5) file systems beside /proc.

@@ -16,7 +16,7 @@ from typing import Protocol
 from . import values
 from .disk import WHITEOUT, Disk, Program, Seen
 from .unwritten import CannotSay
-from .mounted import Places
+from .mounted import MountPlaces
 
 MOST_LINKS = 40
 #: Under this directory, links do not lead where their targets say (proc(5)).
@@ -179,10 +179,10 @@ class Names:
         whiteouts: str = "char",
         unlisted: Sequence[str] = (),
         doubts: Doubts | None = None,
-        places: Places | None = None,
+        places: MountPlaces | None = None,
     ) -> None:
         self.whiteouts = whiteouts
-        self.places = Places() if places is None else places
+        self.places = MountPlaces() if places is None else places
         self.doubts = Doubts() if doubts is None else doubts
         self.line = 0
         self._late: dict[str, _Late] = {}
@@ -195,7 +195,7 @@ class Names:
         self._linked: dict[str, Node] = {}
         self.root = Node("dir", origin="", start="", first="/")
         self._starts: dict[str, Node | None] = {"/": self.root}
-        self._walked: dict[_Way, Found] = {}
+        self._walked: dict[_WalkKey, Found] = {}
         self._breaks: set[str] = set()
         self._reached: dict[str, Node] = {"": self.root}
         self.turns = 0
@@ -430,7 +430,7 @@ class Names:
         return node
 
     def _turn(self, directory: Node) -> None:
-        """Counts that a directory got or lost a name in another one, unless this is in /proc: see `Objects`."""
+        """Counts that a directory got or lost a name in another one, unless this is in /proc: see `MetObjects`."""
         if directory.origin is None or not directory.origin.startswith(_IN_PROC):
             self.turns += 1
 
@@ -512,11 +512,11 @@ class Names:
         """
         over, _, name = path.rpartition("/")
         if name in _NO_NAMES or name == "..":
-            return _Walk(self, root, directory, path, follow, links).found()
-        way = (root, "" if path.startswith("/") else directory, over)
-        led = self._walked.get(way)
+            return _PathWalk(self, root, directory, path, follow, links).found()
+        key = (root, "" if path.startswith("/") else directory, over)
+        led = self._walked.get(key)
         if led is None:
-            return _Walk(self, root, directory, path, follow, links, way).found()
+            return _PathWalk(self, root, directory, path, follow, links, key).found()
         if led.node is None:
             return Found([*led.names, name], None, led.broken)
         child = self.child(led.node, name)
@@ -525,27 +525,34 @@ class Names:
         if child is None:
             return Found([*led.names, name], None, len(led.names))
         if follow and child.kind == "sym":
-            return _Walk(self, root, directory, path, follow, links).found()
+            return _PathWalk(self, root, directory, path, follow, links).found()
         return Found([*led.names, name], child)
 
-    def keep_way(self, way: "_Way", led: Found) -> None:
+    def keep_way(self, key: "_WalkKey", led: Found) -> None:
         """Keeps where the path of a directory led; if it broke off, until anything changes at that place."""
         if len(self._walked) == values.KEPT:
             self._forget_ways()
-        self._walked[way] = led
+        self._walked[key] = led
         if led.broken is not None:
             self._breaks.update(led.names[max(led.broken - 1, 0) : led.broken + 1])
 
 
 #: The root, the directory where a path begins that does not begin at the root, and the path of a directory.
-_Way = tuple[str, str, str]
+_WalkKey = tuple[str, str, str]
 
 
-class _Walk:
-    """The resolution of one path; `way` is the key of its directory, if the result is to be kept."""
+class _PathWalk:
+    """The resolution of one path; `key` is that of its directory, if the result is to be kept."""
 
     def __init__(
-        self, names: Names, root: str, directory: str, path: str, follow: bool, links: Links, way: _Way | None = None
+        self,
+        names: Names,
+        root: str,
+        directory: str,
+        path: str,
+        follow: bool,
+        links: Links,
+        key: _WalkKey | None = None,
     ) -> None:
         self._names = names
         self._links = links
@@ -555,8 +562,8 @@ class _Walk:
         self._follows_last = follow or path.endswith("/")
         self._followed = 0
         self._node = names.below_root(self._here)
-        self._way = way
-        self._keeps = way is not None
+        self._key = key
+        self._keeps = key is not None
 
     def found(self) -> Found:
         """Where the path leads."""
@@ -583,8 +590,8 @@ class _Walk:
         A walk through /proc, whose links differ between processes, is not kept.
         """
         self._keeps = False
-        if self._way is not None and names[:1] != PROC and (broken is not None or self._is_in_directory()):
-            self._names.keep_way(self._way, Found(names, None if broken is not None else self._node, broken))
+        if self._key is not None and names[:1] != PROC and (broken is not None or self._is_in_directory()):
+            self._names.keep_way(self._key, Found(names, None if broken is not None else self._node, broken))
 
     def _step(self, directory: Node, name: str) -> bool:
         """Goes to a name in the directory, or where it leads as a link; false if there is nothing to go to."""

@@ -57,7 +57,7 @@ class Handle:
 
 
 @dataclass(slots=True)
-class Place:
+class Directories:
     """Root and working directory, shared by the threads of a process.
 
     `since` is the line of the log on which a thread last came to the working directory; `unsure` says that another
@@ -112,6 +112,6 @@ class Thread:
 
     tid: int
     process: Process
-    place: Place
+    directories: Directories
     layers: int = 0
     forked: int | None = None

@@ -4,7 +4,7 @@ from __future__ import annotations
 
 import re
 from bisect import bisect_left
-from collections.abc import Iterable, Sequence
+from collections.abc import Callable, Iterable, Sequence
 from contextlib import suppress
 from dataclasses import dataclass, replace
 from typing import Any
@@ -17,11 +17,11 @@ from .looks import Near
 from .modes import NOBODY_KNOWN
 from .names import OWN_FILES, Found, Names, Node, join, split
 from .ports import Ports
-from .processes import Handle, Place, Process, Thread
+from .processes import Directories, Handle, Process, Thread
 from .recordings import RULESET
 from .strace_log import Birth, Births, Call
 from .values import Descriptor
-from .writing import Recording, Tree
+from .writing import ListedTree, Recording
 
 AT_FDCWD = -100
 CLONE_FS = 0x200
@@ -52,7 +52,7 @@ class Spot:
     `broken` is how many names of the real path lead to the last directory on it, where the object is missing.
     """
 
-    tree: Tree
+    tree: ListedTree
     real: str
     node: Node | None
     broken: int = 0
@@ -232,11 +232,11 @@ class Scene:
         if base is None or base.number == AT_FDCWD:
             directory = self._working_directory(thread, base, relative=not path.startswith("/"))
         else:
-            directory = base.path if base.path is not None else thread.place.directory
+            directory = base.path if base.path is not None else thread.directories.directory
         links = self._links
         if links is None or links.thread is not thread:
             links = self._links = ThreadLinks(self, thread)
-        found = self.names.find(thread.place.root, directory, path, follow, links)
+        found = self.names.find(thread.directories.root, directory, path, follow, links)
         if found.broken is not None and found.names[:1] == [PROC] and (link := _OF_PROCESS.match(found.path)):
             self.through.add(int(link[1]))
         return found
@@ -246,19 +246,19 @@ class Scene:
 
         For a relative path it must be known whether another thread has gone elsewhere since.
         """
-        place, call = thread.place, self.call
-        moves = call is not None and (call.line < place.since or self._is_moving(call, place))
+        directories, call = thread.directories, self.call
+        moves = call is not None and (call.line < directories.since or self._is_moving(call, directories))
         if not moves and base is not None and base.path is not None:
-            place.directory, place.unsure = base.path, False
-        if relative and (moves or place.unsure):
+            directories.directory, directories.unsure = base.path, False
+        if relative and (moves or directories.unsure):
             raise CannotSay(MOVING)
-        return place.directory
+        return directories.directory
 
-    def _is_moving(self, call: Call, place: Place) -> bool:
+    def _is_moving(self, call: Call, directories: Directories) -> bool:
         """Whether another thread with the same working directory goes elsewhere during a call."""
         for tid, moves in self.births.moves.items():
             thread = self.threads.get(tid)
-            if tid == call.tid or thread is None or thread.place is not place:
+            if tid == call.tid or thread is None or thread.directories is not directories:
                 continue
             last = bisect_left(moves, (call.end, 0)) - 1
             if last >= 0 and moves[last][1] > call.line:
@@ -267,8 +267,8 @@ class Scene:
 
     def list_links(self, thread: Thread, base: Descriptor | None, path: str) -> None:
         """Lists the symbolic links on the way of a path, once for each directory and path."""
-        directory = base.path if base is not None and base.path is not None else thread.place.directory
-        walk = (thread.place.root, "" if path.startswith("/") else directory, path)
+        directory = base.path if base is not None and base.path is not None else thread.directories.directory
+        walk = (thread.directories.root, "" if path.startswith("/") else directory, path)
         if walk not in self._walked:
             with suppress(CannotSay):
                 self.find(thread, base, path, True)
@@ -277,11 +277,11 @@ class Scene:
 
     def go_to(self, thread: Thread, directory: str) -> None:
         """A thread works in a directory from now on."""
-        place, call = thread.place, self.call
+        directories, call = thread.directories, self.call
         if call is not None:
-            place.unsure = call.line < place.since or self._is_moving(call, place)
-            place.since = call.end
-        place.directory = directory
+            directories.unsure = call.line < directories.since or self._is_moving(call, directories)
+            directories.since = call.end
+        directories.directory = directory
         self.near.relative = self.near.relative or split(directory)[:1] == (PROC,)
 
     def written(self, found: Found) -> Spot:
@@ -313,14 +313,15 @@ class Scene:
             self.names.never(spot.real)
         return spot
 
-    def moved(self, ways: dict[str, str]) -> None:
+    def moved(self, moves: dict[str, str]) -> None:
         """Directories moved: the processes that work in them, and what is open in them, move along."""
-        places = {id(thread.place): thread.place for thread in self.threads.values()}
-        for place in places.values():
-            place.directory, place.root = (_went(path, ways) for path in (place.directory, place.root))
+        shared = {id(thread.directories): thread.directories for thread in self.threads.values()}
+        for directories in shared.values():
+            old = (directories.directory, directories.root)
+            directories.directory, directories.root = (_went(path, moves) for path in old)
         for process in self.processes.values():
             for handle in process.table.values():
-                handle.path = _went(handle.path, ways) if handle.path is not None else None
+                handle.path = _went(handle.path, moves) if handle.path is not None else None
 
     # Descriptors
 
@@ -422,9 +423,9 @@ class Scene:
         maker = self.known(birth.maker, line, text)
         if maker is None:
             return
-        place = maker.place if birth.flags & CLONE_FS else replace(maker.place)
+        directories = maker.directories if birth.flags & CLONE_FS else replace(maker.directories)
         if birth.flags & CLONE_THREAD:
-            self._join(Thread(tid, maker.process, place, maker.layers))
+            self._join(Thread(tid, maker.process, directories, maker.layers))
             return
         process = Process(
             tid,
@@ -437,7 +438,7 @@ class Scene:
         )
         process.table = {number: handle.copy() for number, handle in maker.process.table.items()}
         process.next_made_up = maker.process.next_made_up
-        self._join(Thread(tid, process, place, maker.layers))
+        self._join(Thread(tid, process, directories, maker.layers))
         self.processes[tid] = process
         if birth.flags & CLONE_FILES:
             self.recording.leave_out(SHARED_TABLE, line, maker.process.pid, text, asks=True)
@@ -535,9 +536,9 @@ class ThreadLinks:
             case "exe":
                 return (named.process.program, None) if named.process.program else None
             case "cwd":
-                return named.place.directory, None
+                return named.directories.directory, None
             case "root":
-                return named.place.root, None
+                return named.directories.root, None
         if number is None:
             return None
         handle = named.process.table.get(int(number))
@@ -548,9 +549,13 @@ class ThreadLinks:
         return (handle.path, None) if handle.node is None else (handle.node.path, handle.node)
 
 
-def _went(path: str, ways: dict[str, str]) -> str:
+#: What a call of a thread becomes.
+Handler = Callable[[Scene, Thread, Call], None]
+
+
+def _went(path: str, moves: dict[str, str]) -> str:
     """A path after directories moved."""
-    for start, end in ways.items():
+    for start, end in moves.items():
         if path == start or path.startswith(start + "/"):
             return end + path[len(start) :]
     return path

@@ -124,7 +124,7 @@ class Superseded:
 
 
 @dataclass(slots=True)
-class Unread:
+class UnreadLine:
     """A line that strace did not write."""
 
     line: int
@@ -132,7 +132,7 @@ class Unread:
     text: str
 
 
-Event = Call | Ended | Superseded | Unread
+Event = Call | Ended | Superseded | UnreadLine
 
 
 @dataclass(frozen=True, slots=True)
@@ -270,20 +270,20 @@ def events(path: Path, ends: Mapping[int, str] | None = None, near: Near | None 
 
     Calls that only look are left out, but for those of which `near` says that they may look into another process.
     """
-    reader = _Reader(ends or {}, near or Near())
+    reader = _StraceReader(ends or {}, near or Near())
     read = reader.read
     with open_log(path) as lines:
         for number, line in enumerate(lines, start=1):
             tid, space, text = line.removesuffix("\n").partition(" ")
             if not space or not tid.isdecimal():
-                yield Unread(number, 0, line.rstrip("\n"))
+                yield UnreadLine(number, 0, line.rstrip("\n"))
                 continue
             event = read(number, int(tid), text.lstrip(" "))
             if event is not None:
                 yield event
 
 
-class _Reader:
+class _StraceReader:
     """Reads line after line: of each thread it keeps the first half of the call that has not ended."""
 
     def __init__(self, ends: Mapping[int, str], near: Near) -> None:
@@ -330,7 +330,7 @@ class _Reader:
             return None
         begun = self._begun.pop(tid, None)
         if begun is None:
-            return None if resumed[1] in DROPPED else Unread(number, tid, text)
+            return None if resumed[1] in DROPPED else UnreadLine(number, tid, text)
         end = _DONE if tid in self._superseding else text[resumed.end() :]
         self._superseding.discard(tid)
         return _call(begun[0], tid, begun[1] + end, number)
@@ -355,7 +355,7 @@ class _Reader:
 def _call(number: int, tid: int, text: str, end: int | None = None) -> Event:
     said = _said(text)
     if said is None:
-        return Unread(number, tid, text)
+        return UnreadLine(number, tid, text)
     name, arguments, value, error, note = said
     return Call(number, tid, name, arguments, value, error, note, text, number if end is None else end)
 

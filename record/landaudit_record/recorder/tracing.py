@@ -121,7 +121,7 @@ def run(log: Path, command: list[str], *, readlink: bool = False) -> Outcome:
     running: if the tracer was killed, what it traced is killed too, since most of its calls would fail.
     """
     adopt_orphans()
-    passing = Passing()
+    passing = SignalForwarder()
     with passing.installed():
         # Files that Python opens itself are not inherited (PEP 446), so these are the descriptors that it was given.
         words, environment = quiet(command_line(log, command, readlink=readlink), os.environ)
@@ -147,7 +147,7 @@ def _wait(tracer: int) -> int:
             return os.waitstatus_to_exitcode(status)
 
 
-class Passing:
+class SignalForwarder:
     """Passes signals that ask for the end to all that is recorded; kills it after a while, or at a second one."""
 
     def __init__(self) -> None:

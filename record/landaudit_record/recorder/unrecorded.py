@@ -16,7 +16,7 @@ from ..common.operations import DESCRIPTOR_CALLS, JUDGED, MAKING, MOVES, PATH_CA
 from . import witness
 from .calls.ptrace import INTO_ANOTHER
 from .witness import Heard, text
-from .writing import Recording, Tree
+from .writing import ListedTree, Recording
 
 NOT_RECORDED = "asked, not recorded: "
 AT_ANOTHER = "asked at another object than the record names: "
@@ -32,7 +32,7 @@ _KINDS = {"dir": "dir", "char": "device", "block": "device"}
 _UNSTABLE = "/proc/"
 
 #: What is asked: the operation, the process, and the object with what the rights depend on.
-Question = tuple[str, ...]
+HeardQuestion = tuple[str, ...]
 
 
 def tell(folder: Path, recording: Recording) -> None:
@@ -40,7 +40,7 @@ def tell(folder: Path, recording: Recording) -> None:
     heard = witness.heard_beside(folder)
     if heard is None:
         return
-    asked = Asked(recording.tree)
+    asked = TraceQuestions(recording.tree)
     for record in recording.written():
         asked.take(record)
     looks = {entry["pid"] for entry in recording.left_out() if entry.get("class") == INTO_ANOTHER}
@@ -67,12 +67,12 @@ def tell_gaps(recording: Recording, heard: Heard, *, has_layers: bool) -> None:
         recording.leave_out(UNHEARD, 0, 0, witness.PROGRAM, asks=True)
 
 
-class Asked:
+class TraceQuestions:
     """What the records of a trace ask, in their order: for each question its objects, and the calls that ask it."""
 
-    def __init__(self, tree: Tree) -> None:
+    def __init__(self, tree: ListedTree) -> None:
         self._tree = tree
-        self._names: dict[Question, deque[tuple[str, int]]] = defaultdict(deque)
+        self._names: dict[HeardQuestion, deque[tuple[str, int]]] = defaultdict(deque)
         self._opened: dict[int, dict[int, jsonl.Record]] = defaultdict(dict)
         self._held: dict[int, set[int]] = defaultdict(set)
         self.layers: Counter[int] = Counter()
@@ -83,7 +83,7 @@ class Asked:
         if taken is not None:
             taken(self, record)
 
-    def find(self, question: Question) -> tuple[str, int] | None:
+    def find(self, question: HeardQuestion) -> tuple[str, int] | None:
         """The name of the object at which the next record asks a question, and its call; None if no record is left."""
         names = self._names.get(question)
         return names.popleft() if names else None
@@ -168,21 +168,21 @@ class Asked:
         self._held.pop(record["pid"], None)
 
 
-_TAKEN: dict[str, Callable[[Asked, jsonl.Record], None]] = {
-    **dict.fromkeys(JUDGED, Asked._without_object),
-    **dict.fromkeys(PATH_CALLS, Asked._on_object),
-    **dict.fromkeys(MAKING, Asked._make),
-    **dict.fromkeys(MOVES, Asked._move),
-    **dict.fromkeys(DESCRIPTOR_CALLS, Asked._on_descriptor),
-    "open": Asked._open,
-    "adopt": Asked._close,
-    "close": Asked._close,
-    "dup": Asked._dup,
-    "fork": Asked._fork,
-    "exit": Asked._exit,
-    "create": Asked._create,
-    "close_rs": Asked._close_ruleset,
-    "restrict": Asked._restrict,
+_TAKEN: dict[str, Callable[[TraceQuestions, jsonl.Record], None]] = {
+    **dict.fromkeys(JUDGED, TraceQuestions._without_object),
+    **dict.fromkeys(PATH_CALLS, TraceQuestions._on_object),
+    **dict.fromkeys(MAKING, TraceQuestions._make),
+    **dict.fromkeys(MOVES, TraceQuestions._move),
+    **dict.fromkeys(DESCRIPTOR_CALLS, TraceQuestions._on_descriptor),
+    "open": TraceQuestions._open,
+    "adopt": TraceQuestions._close,
+    "close": TraceQuestions._close,
+    "dup": TraceQuestions._dup,
+    "fork": TraceQuestions._fork,
+    "exit": TraceQuestions._exit,
+    "create": TraceQuestions._create,
+    "close_rs": TraceQuestions._close_ruleset,
+    "restrict": TraceQuestions._restrict,
 }
 
 
@@ -194,7 +194,7 @@ def _real(record: jsonl.Record, path: str = "path", shown: str = "shown") -> str
 class Check:
     """Looks for the record of each event; `looks` and `signals` are the threads of which such calls are counted."""
 
-    def __init__(self, recording: Recording, asked: Asked, looks: set[int], signals: set[int]) -> None:
+    def __init__(self, recording: Recording, asked: TraceQuestions, looks: set[int], signals: set[int]) -> None:
         self._recording = recording
         self._asked = asked
         self._counted = {"ptrace_access_check": looks, "task_kill": signals}
@@ -212,7 +212,7 @@ class Check:
                 self._ask(question, number, event)
             self._ask_others(number, event)
 
-    def _ask(self, question: Question, number: int, event: jsonl.Record) -> None:
+    def _ask(self, question: HeardQuestion, number: int, event: jsonl.Record) -> None:
         found = self._asked.find(question)
         if found is None and question[0] == "rename":
             found = self._asked.find(_onto_a_file(question))
@@ -230,7 +230,7 @@ class Check:
     def _leave_out(self, reason: str, number: int, event: jsonl.Record) -> None:
         self._recording.leave_out(f"{reason}{event['hook']}", number, event["pid"], described(event), asks=True)
 
-    def _questions(self, event: jsonl.Record) -> Iterator[Question]:
+    def _questions(self, event: jsonl.Record) -> Iterator[HeardQuestion]:
         """What is asked by an event that a policy for files or ports may refuse."""
         hook, pid = event["hook"], str(event["pid"])
         chain = event.get("chain") or []
@@ -255,7 +255,7 @@ class Check:
             kind = {"path_mkdir": "dir", "path_symlink": "sym"}.get(hook) or event["kind"]
             yield "make", pid, text(event["path"]), kind
 
-    def _open(self, event: jsonl.Record, kind: str) -> Iterator[Question]:
+    def _open(self, event: jsonl.Record, kind: str) -> Iterator[HeardQuestion]:
         """An open file; what is opened for who mounted a file system (overlayfs) is not asked of the process."""
         if event.get("other"):
             return
@@ -266,13 +266,13 @@ class Check:
         if "x" in event["rights"]:
             yield "exec", str(event["pid"]), path
 
-    def _on_file(self, event: jsonl.Record, kind: str) -> Iterator[Question]:
+    def _on_file(self, event: jsonl.Record, kind: str) -> Iterator[HeardQuestion]:
         """A call on a descriptor that a followed process opened; no policy refuses it on others."""
         is_asked = event["hook"] == "file_truncate" or kind in ("char", "block")
         if event["file"] in self._opened and is_asked:
             yield "truncate" if event["hook"] == "file_truncate" else "ioctl", str(event["pid"]), text(event["path"])
 
-    def _mount(self, event: jsonl.Record) -> Iterator[Question]:
+    def _mount(self, event: jsonl.Record) -> Iterator[HeardQuestion]:
         """A change of mounts; mount(2) with MS_REMOUNT asks twice."""
         if not witness.is_again(event, self._remounts):
             yield "mount", str(event["pid"])
@@ -297,7 +297,7 @@ def _over(kind: str | None) -> str:
     return "nothing" if kind in (None, "none") else "dir" if kind == "dir" else "file"
 
 
-def _onto_a_file(question: Question) -> Question:
+def _onto_a_file(question: HeardQuestion) -> HeardQuestion:
     """A rename onto a file: it asks what one to a free name asks, and more."""
     return (*question[:5], question[5].replace("nothing", "file"), *question[6:])
 

@@ -44,7 +44,7 @@ UNDONE = ".converting-"
 _NO_PATH = re.compile(r"\A[^/]|\A\Z|/\.{0,2}(?:/|\Z)|\0")
 
 
-class Objects(Protocol):
+class MetObjects(Protocol):
     """All objects that a run met, by their names at this moment and when the run began.
 
     `turns` counts how often a directory got or lost a name, which changes the names of what is beneath it; those in
@@ -64,7 +64,7 @@ class Objects(Protocol):
         """The other paths that an object has by other mounts when the run begins."""
 
 
-class Tree:
+class ListedTree:
     """The names under which a recording lists objects; an object that is moved or linked has several.
 
     An object's name is its path or, if another object has that, the path with a number after it. An object that existed
@@ -72,7 +72,7 @@ class Tree:
     the run makes at one path share a name if they are of one kind: no rule is on them, so Landlock treats them alike.
     """
 
-    def __init__(self, names: Objects) -> None:
+    def __init__(self, names: MetObjects) -> None:
         self._names = names
         self._owners: dict[str, Node | str] = {"/": names.root}
         self._given: dict[tuple[str, Node | str], str] = {}
@@ -272,7 +272,7 @@ class Recording:
     names until the conversion is done, so that an earlier conversion stays whole.
     """
 
-    def __init__(self, folder: Path, tree: Tree, limits: Limits = LIMITS) -> None:
+    def __init__(self, folder: Path, tree: ListedTree, limits: Limits = LIMITS) -> None:
         self._folder = folder
         self.tree = tree
         self._limits = limits
@@ -510,7 +510,7 @@ class _PartInMaking:
                     out.write(jsonl.line({**json.loads(line), "path": name}).encode())
         beside.replace(self.part.trace)
 
-    def finish(self, tree: Tree) -> Size:
+    def finish(self, tree: ListedTree) -> Size:
         """Writes the tree, and says how large the part is."""
         objects = tree.write(self.part.tree, self.objects)
         return Size(self.records, self.again, objects, self.part.trace.stat().st_size)

@@ -24,16 +24,16 @@ class CallId(NamedTuple):
 
 
 # Rights, each with the calls that ask for it.
-Lacking = dict[str, set[CallId]]
+CallsByRight = dict[str, set[CallId]]
 # The rights that are lacking on each path, or on each path and port.
-OnPaths = dict[str, Lacking]
-Wants = dict[str | int, Lacking]
+OnPaths = dict[str, CallsByRight]
+Wants = dict[str | int, CallsByRight]
 
 On = TypeVar("On", str, int, str | int)
 
 
 @dataclass(frozen=True)
-class Rule:
+class SuggestedRule:
     """A rule to write, on a path or on ports, how many calls ask for it, and remarks on it."""
 
     place: str | tuple[int, ...]
@@ -48,22 +48,22 @@ class Wanted:
 
     paths: OnPaths
     spots: Sequence[RulePlace]
-    ports: dict[int, Lacking]
+    ports: dict[int, CallsByRight]
 
 
-def together(rules: Iterable[Rule]) -> list[tuple[Rule, ...]]:
+def together(rules: Iterable[SuggestedRule]) -> list[tuple[SuggestedRule, ...]]:
     """Rules on paths with equal rights together, where the first of them is.
 
     Each rule on ports is by itself, and each with a remark, so that it is told of what.
     """
-    found: dict[Rights | Rule, list[Rule]] = {}
+    found: dict[Rights | SuggestedRule, list[SuggestedRule]] = {}
     for rule in rules:
         alone = rule.remarks or not isinstance(rule.place, str)
         found.setdefault(rule if alone else rule.rights, []).append(rule)
     return [tuple(same) for same in found.values()]
 
 
-def unite(wants: dict[On, Lacking], more: dict[On, Lacking]) -> None:
+def unite(wants: dict[On, CallsByRight], more: dict[On, CallsByRight]) -> None:
     """Adds the rights that further calls lack."""
     for place, rights in more.items():
         here = wants.setdefault(place, {})
@@ -93,17 +93,17 @@ def placed(
     return found
 
 
-def rules(wanted: Wanted) -> list[Rule]:
+def rules(wanted: Wanted) -> list[SuggestedRule]:
     """The rules that grant what is lacking and nothing that could be left out; those that most calls ask come first.
 
     A right that a rule on a directory above a path grants is not granted again.
     """
     granted = narrowed(wanted.paths)
-    of_paths = [Rule(place, frozenset(rights), asking(rights)) for place, rights in granted.items()]
+    of_paths = [SuggestedRule(place, frozenset(rights), asking(rights)) for place, rights in granted.items()]
     return remarked([*of_paths, *port_rules(wanted.ports)], wanted.spots)
 
 
-def asking(rights: Lacking) -> int:
+def asking(rights: CallsByRight) -> int:
     """How many calls ask for rights."""
     return number_of(rights.values())
 
@@ -123,7 +123,7 @@ def narrowed(wants: OnPaths) -> OnPaths:
     return granted
 
 
-def remarked(found: Iterable[Rule], spots: Iterable[RulePlace]) -> list[Rule]:
+def remarked(found: Iterable[SuggestedRule], spots: Iterable[RulePlace]) -> list[SuggestedRule]:
     """Rules with remarks; those that most calls ask for come first."""
     ordered = sorted(found, key=lambda rule: -rule.calls)
     places = {rule.place for rule in ordered}
@@ -134,7 +134,7 @@ def remarked(found: Iterable[Rule], spots: Iterable[RulePlace]) -> list[Rule]:
     return [replace(rule, remarks=(*rule.remarks, *_remarks(rule, serving, doubted))) for rule in ordered]
 
 
-def _remarks(rule: Rule, serving: dict[str, list[RulePlace]], doubted: set[str]) -> Iterator[Remark]:
+def _remarks(rule: SuggestedRule, serving: dict[str, list[RulePlace]], doubted: set[str]) -> Iterator[Remark]:
     """The remarks on a rule; a name that looks made up is remarked on once, and is then among the doubted names."""
     if isinstance(rule.place, str):
         yield from placing.remarks(rule.place, serving[rule.place])
@@ -145,7 +145,7 @@ def _remarks(rule: Rule, serving: dict[str, list[RulePlace]], doubted: set[str])
         yield from (Remark(RemarkKind.WARNING, text) for text in sensitive.warnings(rule.place, rule.rights))
 
 
-def port_rules(wants: dict[int, Lacking]) -> list[Rule]:
+def port_rules(wants: dict[int, CallsByRight]) -> list[SuggestedRule]:
     """One rule for all ports on which the same rights are lacking."""
     ports: dict[Rights, list[int]] = defaultdict(list)
     calls: dict[Rights, set[CallId]] = defaultdict(set)
@@ -153,4 +153,4 @@ def port_rules(wants: dict[int, Lacking]) -> list[Rule]:
         rights = frozenset(wants[port])
         ports[rights].append(port)
         calls[rights].update(*wants[port].values())
-    return [Rule(tuple(ports[rights]), rights, number_of([calls[rights]])) for rights in ports]
+    return [SuggestedRule(tuple(ports[rights]), rights, number_of([calls[rights]])) for rights in ports]

@@ -47,7 +47,7 @@ def kind_of(right: str) -> str:
     return "devices" if right == "ioctl_dev" else "files" if right in FILE_RIGHTS else "directories"
 
 
-class Objects:
+class CountedObjects:
     """The objects under directories; each directory is counted once, and its count is kept."""
 
     def __init__(self, trees: Sequence[Tree]) -> None:

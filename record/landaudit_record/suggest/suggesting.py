@@ -18,8 +18,8 @@ from ..engine.processes import of_policy
 from ..engine.reading import Told, Walk
 from ..policy.policies import Access, Layer, PathRule, Policy, PortRule, group_rules
 from . import missing_rights, styling, widening
-from .missing_rights import CallId, Rule, Wanted, Wants
-from .objects import Objects
+from .missing_rights import CallId, SuggestedRule, Wanted, Wants
+from .objects import CountedObjects
 
 MOST_ROUNDS = 30
 #: The errors of a call in a process without layers that come from file modes, from file systems and from moves between
@@ -63,7 +63,7 @@ class Suggestion:
     rules, by call: nobody knows what was there before.
     """
 
-    rules: Mapping[int, list[Rule]]
+    rules: Mapping[int, list[SuggestedRule]]
     unmended: Counter[str]
     of_program: Counter[str]
     rounds: int
@@ -74,14 +74,16 @@ class Suggestion:
 
 
 @dataclass(frozen=True)
-class Making:
+class RuleMaking:
     """How rules are made from what a layer lacks: exact, or at most a number, by `objects`; with or without groups."""
 
     most: int | None = None
-    objects: Objects | None = None
+    objects: CountedObjects | None = None
     in_groups: bool = False
 
-    def rules(self, layer: Layer, wanted: Wanted, trees: Sequence[Tree]) -> tuple[Mapping[str, int], list[Rule]]:
+    def rules(
+        self, layer: Layer, wanted: Wanted, trees: Sequence[Tree]
+    ) -> tuple[Mapping[str, int], list[SuggestedRule]]:
         """The groups for a layer, each with how many calls need it, and the further rules."""
         groups: Mapping[str, int] = {}
         if self.in_groups:
@@ -97,7 +99,7 @@ def suggest(
     policy: Policy,
     abi: int,
     audit: Callable[[Policy], Iterable[tuple[int, Walk]]],
-    making: Making = Making(),
+    making: RuleMaking = RuleMaking(),
 ) -> Suggestion:
     """Adds rules until no layer of the policy refuses a call that a rule could fix.
 
@@ -107,13 +109,13 @@ def suggest(
     """
     found = Round()
     groups: dict[int, Mapping[str, int]] = {}
-    rules: dict[int, list[Rule]] = {}
+    rules: dict[int, list[SuggestedRule]] = {}
     lacked: dict[int, list[Wants]] = {layer.number: [{} for _ in recorded] for layer in policy.layers}
     new: list[dict[str, set[str]]] = [{} for _ in recorded]
     unsure: dict[CallId, str] = {}
     trees = [one.tree for one in recorded]
     for rounds in range(1, MOST_ROUNDS + 1):
-        found = _Look(recorded, policy, abi).over(audit(with_rules(policy, rules, groups)))
+        found = _AuditCollector(recorded, policy, abi).over(audit(with_rules(policy, rules, groups)))
         known = _number_of(lacked)
         unsure.update(found.unsure)
         for number, by_recording in found.wants.items():
@@ -141,13 +143,13 @@ def _number_of(lacked: Mapping[int, list[Wants]]) -> int:
     return sum(len(rights) for by_recording in lacked.values() for some in by_recording for rights in some.values())
 
 
-def needs_refer(layer: Layer, rules: Iterable[Rule]) -> bool:
+def needs_refer(layer: Layer, rules: Iterable[SuggestedRule]) -> bool:
     """Whether a layer must handle `refer` by name before the suggested rules may grant it."""
     return "refer" not in layer.handled_access_fs.rights and any("refer" in rule.rights for rule in rules)
 
 
 def with_rules(
-    policy: Policy, rules: Mapping[int, list[Rule]], groups: Mapping[int, Iterable[str]] | None = None
+    policy: Policy, rules: Mapping[int, list[SuggestedRule]], groups: Mapping[int, Iterable[str]] | None = None
 ) -> Policy:
     """A policy with suggested rules and groups of rules, each in its layer."""
     named = groups or {}
@@ -155,7 +157,7 @@ def with_rules(
     return replace(policy, layers=tuple(layers))
 
 
-def _layer_with(layer: Layer, rules: list[Rule], groups: Iterable[str]) -> Layer:
+def _layer_with(layer: Layer, rules: list[SuggestedRule], groups: Iterable[str]) -> Layer:
     handled = layer.handled_access_fs
     if needs_refer(layer, rules):
         handled = replace(handled, outright=handled.outright | {"refer"})
@@ -179,19 +181,19 @@ def place_of(number: int) -> Numbered:
     return Numbered("suggested", number)
 
 
-def _path_rules(rules: list[Rule]) -> Iterator[PathRule]:
+def _path_rules(rules: list[SuggestedRule]) -> Iterator[PathRule]:
     for number, same in enumerate(missing_rights.together(rules), start=1):
         if parents := tuple(rule.place for rule in same if isinstance(rule.place, str)):
             yield PathRule(place_of(number), Access(same[0].rights), parents)
 
 
-def _port_rules(rules: list[Rule]) -> Iterator[PortRule]:
+def _port_rules(rules: list[SuggestedRule]) -> Iterator[PortRule]:
     for number, same in enumerate(missing_rights.together(rules), start=1):
         yield from (PortRule(place_of(number), Access(rule.rights), rule.place)
                     for rule in same if not isinstance(rule.place, str))
 
 
-class _Look:
+class _AuditCollector:
     """Collects what one audit shows, over the walks of all recordings."""
 
     def __init__(self, recorded: Sequence[Recorded], policy: Policy, abi: int) -> None:

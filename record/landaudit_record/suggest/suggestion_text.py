@@ -12,7 +12,7 @@ from ..common.trees import directory_of
 from ..common.wording import counted, plain, quoted
 from ..policy import policy_text
 from ..policy.policies import Layer, Policy
-from .missing_rights import Rule, together
+from .missing_rights import SuggestedRule, together
 from .suggesting import Suggestion, needs_refer, place_of, with_rules
 
 
@@ -43,7 +43,7 @@ def whole(suggestion: Suggestion, policy: Policy, comments: Comments) -> Iterato
     yield from policy_text.lines(merged, replace(comments, parts=parts), included=True)
 
 
-def of_layer(layer: Layer, rules: list[Rule], groups: Mapping[str, int], policy: Policy) -> Iterator[str]:
+def of_layer(layer: Layer, rules: list[SuggestedRule], groups: Mapping[str, int], policy: Policy) -> Iterator[str]:
     """The rules of one layer, with what a person does with them."""
     where = f": paste them under the [[layer]] of that number in {plain(str(policy.path))}"
     only = "" if len(policy.layers) == 1 else where
@@ -61,7 +61,7 @@ def of_layer(layer: Layer, rules: list[Rule], groups: Mapping[str, int], policy:
     yield from written(rules)
 
 
-def written(rules: Iterable[Rule]) -> Iterator[str]:
+def written(rules: Iterable[SuggestedRule]) -> Iterator[str]:
     """Rules as TOML, each behind an empty line and its comments; an empty line ends them."""
     for same in together(rules):
         yield ""
@@ -70,7 +70,7 @@ def written(rules: Iterable[Rule]) -> Iterator[str]:
     yield ""
 
 
-def _said(same: Sequence[Rule]) -> Iterator[str]:
+def _said(same: Sequence[SuggestedRule]) -> Iterator[str]:
     """What is said of rules that are one: how many calls need each, and remarks."""
     least, most = min(rule.calls for rule in same), max(rule.calls for rule in same)
     each = " each" if len(same) > 1 else ""
@@ -78,7 +78,7 @@ def _said(same: Sequence[Rule]) -> Iterator[str]:
     yield from (str(remark) for rule in same for remark in rule.remarks)
 
 
-def _rule(same: Sequence[Rule]) -> Iterator[str]:
+def _rule(same: Sequence[SuggestedRule]) -> Iterator[str]:
     """Rules with equal rights, as one, with a line for each path."""
     first = same[0]
     if isinstance(first.place, str):
@@ -113,7 +113,7 @@ def ending(suggestion: Suggestion) -> Iterator[str]:
         yield from staying(left, why)
 
 
-def _many(rules: Mapping[int, list[Rule]]) -> Iterator[str]:
+def _many(rules: Mapping[int, list[SuggestedRule]]) -> Iterator[str]:
     """Hints about directories of which many paths have a rule."""
     found = Counter((layer, directory_of(rule.place)) for layer, some in rules.items() for rule in some
                     if isinstance(rule.place, str))

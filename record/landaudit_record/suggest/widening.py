@@ -16,8 +16,8 @@ from ..common.trees import directory_of, upwards
 from ..common.wording import counted, some_of
 from ..policy import sensitive
 from . import missing_rights
-from .missing_rights import OnPaths, Rule, Wanted
-from .objects import UNCOUNTED, Objects, kind_of
+from .missing_rights import OnPaths, SuggestedRule, Wanted
+from .objects import UNCOUNTED, CountedObjects, kind_of
 from .remarks import Remark, RemarkKind
 
 #: The names of the kinds of objects that a rule grants something on, in the singular.
@@ -43,15 +43,18 @@ class _Merger:
         return bool(set(sensitive.warnings(self.directory, self.rights)) - before)
 
 
-def rules(wanted: Wanted, objects: Objects, most: int) -> list[Rule]:
+def rules(wanted: Wanted, objects: CountedObjects, most: int) -> list[SuggestedRule]:
     """At most a number of rules that grant what is lacking, or as few as there can be."""
     exact = missing_rights.narrowed(wanted.paths)
     ports = _port_rules(wanted, most - len(exact))
     paths, room = exact, max(most - len(ports), 1)
     while len(paths) > room:
         paths = _merged(paths, _cheapest(paths, objects, len(paths) - room))
-    found = [Rule(place, frozenset(rights), missing_rights.asking(rights), more(place, frozenset(rights), exact, objects))
-             for place, rights in paths.items()]
+    found = [
+        SuggestedRule(place, rights, missing_rights.asking(lacking), more(place, rights, exact, objects))
+        for place, lacking in paths.items()
+        for rights in (frozenset(lacking),)
+    ]
     return missing_rights.remarked([*found, *ports], wanted.spots)
 
 
@@ -66,7 +69,7 @@ def _merged(paths: OnPaths, merger: _Merger) -> OnPaths:
     return missing_rights.narrowed(found)
 
 
-def _cheapest(paths: OnPaths, objects: Objects, excess: int) -> _Merger:
+def _cheapest(paths: OnPaths, objects: CountedObjects, excess: int) -> _Merger:
     """The merger that grants least for each rule that it saves; rules saved beyond the excess do not count.
 
     One that reaches secrets is taken only if all do.
@@ -83,7 +86,7 @@ def _cheapest(paths: OnPaths, objects: Objects, excess: int) -> _Merger:
     return next((it for it in ordered if not it.reaches_secrets()), ordered[0])
 
 
-def _mergers(directory: str, places: list[str], paths: OnPaths, objects: Objects) -> Iterator[_Merger]:
+def _mergers(directory: str, places: list[str], paths: OnPaths, objects: CountedObjects) -> Iterator[_Merger]:
     """The rights that can move to a directory: those that two of the rules under it have in common."""
     if directory not in paths and len({_branch(directory, place) for place in places}) == 1:
         return
@@ -108,7 +111,7 @@ def _branch(directory: str, place: str) -> str:
     return next(over for over in upwards(place) if directory_of(over) == directory)
 
 
-def more(place: str, rights: Rights, exact: OnPaths, objects: Objects) -> tuple[Remark, ...]:
+def more(place: str, rights: Rights, exact: OnPaths, objects: CountedObjects) -> tuple[Remark, ...]:
     """What a rule grants in addition to what is needed, a text for each kind of objects."""
     all_under, needed = objects.under(place), Counter[str]()
     for path, asked in exact.items():
@@ -133,7 +136,7 @@ def _number(number: int, kind: str) -> str:
     return f"1 {_CALLED[kind]}" if number == 1 else f"{number:,} {_CALLED[kind]}s"
 
 
-def _port_rules(wanted: Wanted, room: int) -> list[Rule]:
+def _port_rules(wanted: Wanted, room: int) -> list[SuggestedRule]:
     """The rules on ports; if there is no room for them all, one for all ports with all rights."""
     found = missing_rights.port_rules(wanted.ports)
     if len(found) <= max(room, 1):
@@ -143,4 +146,4 @@ def _port_rules(wanted: Wanted, room: int) -> list[Rule]:
     ports = sorted(wanted.ports)
     others = {right: [str(port) for port in ports if right not in wanted.ports[port]] for right in NET.ordered(rights)}
     more = (f"{right} on {counted(len(some), 'port')}: {some_of(some)}" for right, some in others.items() if some)
-    return [Rule(tuple(ports), rights, calls, tuple(Remark(RemarkKind.ALSO, text) for text in more))]
+    return [SuggestedRule(tuple(ports), rights, calls, tuple(Remark(RemarkKind.ALSO, text) for text in more))]

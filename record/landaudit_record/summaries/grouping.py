@@ -63,7 +63,7 @@ class RefusedKind:
 
 
 @dataclass(frozen=True)
-class Group:
+class RefusedGroup:
     """Kinds of refused calls that lack the same; the first spot of each is at or below the directory."""
 
     lacking: Lacking
@@ -91,7 +91,7 @@ class Group:
         return [_common([kind.spots[index] for kind in self.kinds]) for index in range(1, len(self.kinds[0].spots))]
 
 
-def grouped(refusals: Iterable[tuple[Refusal, Counter[str]]]) -> list[Group]:
+def grouped(refusals: Iterable[tuple[Refusal, Counter[str]]]) -> list[RefusedGroup]:
     """The groups of some refusals, which are in the order of the trace.
 
     The group of the first call comes first, since the program breaks there; then come the groups with the most calls.
@@ -143,13 +143,13 @@ def _common(paths: Sequence[str]) -> str:
     return posixpath.commonpath(paths) if paths and all(path.startswith(ROOT) for path in paths) else ""
 
 
-def _group(lacking: Lacking, kinds: Sequence[RefusedKind]) -> Group:
-    return Group(lacking, _common([spot for kind in kinds for spot in kind.spots[:1]]), tuple(kinds))
+def _group(lacking: Lacking, kinds: Sequence[RefusedKind]) -> RefusedGroup:
+    return RefusedGroup(lacking, _common([spot for kind in kinds for spot in kind.spots[:1]]), tuple(kinds))
 
 
-def _apart(groups: list[Group]) -> list[Group]:
+def _apart(groups: list[RefusedGroup]) -> list[RefusedGroup]:
     """Splits the loosest groups, those nearest to the root first, while there are few groups."""
-    done: list[Group] = []
+    done: list[RefusedGroup] = []
     waiting = [_loosest_first(group) for group in groups]
     heapq.heapify(waiting)
     while waiting:
@@ -164,7 +164,7 @@ def _apart(groups: list[Group]) -> list[Group]:
     return done
 
 
-def _loosest_first(group: Group) -> tuple[int, int, int, Group]:
+def _loosest_first(group: RefusedGroup) -> tuple[int, int, int, RefusedGroup]:
     """The key by which groups are ordered for splitting; no two groups have the same first call."""
     return _depth(group.directory), -len(group.kinds), group.order, group
 
@@ -173,13 +173,13 @@ def _depth(directory: str) -> int:
     return len([name for name in directory.split("/") if name])
 
 
-def _is_loose(group: Group, smaller: Sequence[Group]) -> bool:
+def _is_loose(group: RefusedGroup, smaller: Sequence[RefusedGroup]) -> bool:
     """Whether a group is too wide: its directory is near the root, or one directory below has most of it."""
     below = [len(one.kinds) for one in smaller if one.directory != group.directory]
     return _depth(group.directory) < _NEAR_ROOT or max(below, default=0) >= _MOST * len(group.kinds)
 
 
-def _branches(group: Group) -> list[Group]:
+def _branches(group: RefusedGroup) -> list[RefusedGroup]:
     """The groups below a group's directory, and what is in the directory itself."""
     if not group.directory:
         return [group]
@@ -188,5 +188,5 @@ def _branches(group: Group) -> list[Group]:
     for kind in group.kinds:
         branch, slash, _ = kind.spots[0][start:].partition("/")
         found[branch if slash else ""].append(kind)
-    inside = [Group(group.lacking, group.directory, tuple(found.pop("")))] if "" in found else []
+    inside = [RefusedGroup(group.lacking, group.directory, tuple(found.pop("")))] if "" in found else []
     return [*inside, *(_group(group.lacking, kinds) for kinds in found.values())]

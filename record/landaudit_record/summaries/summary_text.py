@@ -8,7 +8,7 @@ from collections.abc import Callable, Iterator, Sequence
 from dataclasses import dataclass, replace
 from typing import TextIO
 
-from ..audit.by_abi import Kind, Step
+from ..audit.by_abi import AbiStep, VisibleRefusal
 from ..audit.moot import FAILED_TOO, MISSED, Unasked
 from ..audit.summary import Refusal, RefusingLayer, Summary
 from ..audit.warnings import MadeByRun, ManyMoot, NoLayer, OfPolicy, ReplacedByRun, RuleUnused, Warned
@@ -20,7 +20,7 @@ from ..common.wording import counted, plain, some_of
 from ..engine.answers import UNOPENED, UNSURE, Closed, Kept, Missing, Objection
 from ..engine.subjects import ARROW, Subject
 from . import grouping
-from .grouping import Group, Lacking
+from .grouping import Lacking, RefusedGroup
 
 #: The answers in the order in which they are counted.
 VERDICTS = ("allowed", "refused", "moot")
@@ -71,7 +71,7 @@ class Style:
 
 
 @dataclass(frozen=True)
-class Beside:
+class SummaryExtras:
     """What is printed with a summary: notes, and the command that suggests rules; `each` asks for each kind of call,
     and `tree` writes the refused calls in place of tables.
     """
@@ -82,7 +82,7 @@ class Beside:
     tree: Callable[[Summary, Style, bool], Iterator[str]] | None = None
 
 
-def lines(summary: Summary, title: str, style: Style, beside: Beside = Beside()) -> Iterator[str]:
+def lines(summary: Summary, title: str, style: Style, beside: SummaryExtras = SummaryExtras()) -> Iterator[str]:
     """The lines of a summary, each without its line feed and at most as wide as the style says."""
     yield from map(style.bold, layout.folded(title, style.width))
     yield from _counts(summary, style)
@@ -121,7 +121,7 @@ def by_recording(each: Sequence[tuple[str, Summary]], style: Style) -> Iterator[
     yield from table((*columns, Column("recording", short=True)), rows, style.width)
 
 
-def by_abi(steps: Sequence[Step], style: Style) -> Iterator[str]:
+def by_abi(steps: Sequence[AbiStep], style: Style) -> Iterator[str]:
     """The lines of the table by ABI, which follows a summary."""
     yield from heading("by ABI: what breaks there first, and what is refused no more", style)
     verdicts = (*VERDICTS, UNSURE) if any(step.verdicts[UNSURE] for step in steps) else VERDICTS
@@ -130,7 +130,7 @@ def by_abi(steps: Sequence[Step], style: Style) -> Iterator[str]:
     yield from table((*columns, Column("what changes", short=True)), rows, style.width)
 
 
-def _step_rows(step: Step, verdicts: Sequence[str]) -> Iterator[list[Cell]]:
+def _step_rows(step: AbiStep, verdicts: Sequence[str]) -> Iterator[list[Cell]]:
     """The rows of an ABI: its counts are in the first, and each says one thing that changes."""
     counts = [words(f"{number:,}") for number in (step.abi, *(step.verdicts[verdict] for verdict in verdicts))]
     for said in _changes(step) or [words("")]:
@@ -138,7 +138,7 @@ def _step_rows(step: Step, verdicts: Sequence[str]) -> Iterator[list[Cell]]:
         counts = [words("")] * len(counts)
 
 
-def _changes(step: Step) -> list[Cell]:
+def _changes(step: AbiStep) -> list[Cell]:
     """What an ABI changes, compared with the one before it."""
     named = (("breaks: ", step.breaks), ("refused no more: ", step.no_more))
     said = [layout.names([_kind(kind) for kind in kinds], said=what) for what, kinds in named if kinds]
@@ -147,7 +147,7 @@ def _changes(step: Step) -> list[Cell]:
     return said
 
 
-def _kind(kind: Kind) -> str:
+def _kind(kind: VisibleRefusal) -> str:
     """A kind in a row; a call without a path or port is shown by the call and the error."""
     return " ".join(word for word in (kind.call, person(kind.subject), kind.error) if word != "-")
 
@@ -289,7 +289,7 @@ def _groups(summary: Summary, style: Style, said: str) -> Iterator[str]:
     yield from (f"  {line}" for line in layout.folded(f"--all lists {more}each kind by itself", style.width - 2))
 
 
-def _group_row(group: Group, summary: Summary) -> list[Cell]:
+def _group_row(group: RefusedGroup, summary: Summary) -> list[Cell]:
     """A group: how many calls, what they lack and where, and what else they have in common."""
     lacking, programs = group.lacking, group.programs
     named = dict.fromkeys(name for kind in group.kinds for name in summary.recordings.get(kind.refusal, ()))
@@ -308,7 +308,7 @@ def _why_column(lacking: Sequence[Sequence[Lack]]) -> Column:
     return Column("why", short=True, least=min(_MOST_KEPT, max(wide(layout.bare(texts)) for texts in lacking)))
 
 
-def where_of(group: Group) -> Cell:
+def where_of(group: RefusedGroup) -> Cell:
     """Where the calls of a group lack something: the one path, or how many below which directory."""
     spots, kinds = group.spots, group.kinds
     if len(kinds) == 1 and not group.directory:

@@ -34,13 +34,13 @@ BareCall = tuple[Any, ...]
 Enforced = int | tuple[BareCall, ...]
 """A layer: one of the policy by its number, or one of the program by the calls that made it."""
 
-Domain = tuple[Enforced, ...]
+EnforcedLayers = tuple[Enforced, ...]
 
 
 class LayeredCall(NamedTuple):
     """What a policy is asked: layers, the oldest first, and a call, or two if the first opens what the second uses."""
 
-    domain: Domain
+    domain: EnforcedLayers
     calls: tuple[BareCall, ...]
 
     @property
@@ -51,7 +51,7 @@ class LayeredCall(NamedTuple):
 
 
 @dataclass(slots=True)
-class _Ruleset:
+class _HeldRuleset:
     """A ruleset that processes hold, with its calls so far or, if it is the policy's, the number of its layer."""
 
     made: list[BareCall]
@@ -63,15 +63,15 @@ class _Ruleset:
 
 
 @dataclass(slots=True)
-class _Process:
+class _AskingProcess:
     """What a process has: its layers, its rulesets by number, and for each descriptor the question that opened it."""
 
-    domain: Domain = ()
-    rulesets: dict[int, _Ruleset] = field(default_factory=dict)
+    domain: EnforcedLayers = ()
+    rulesets: dict[int, _HeldRuleset] = field(default_factory=dict)
     opened: dict[int, LayeredCall | None] = field(default_factory=dict)
 
-    def forked(self) -> _Process:
-        return _Process(self.domain, dict(self.rulesets), dict(self.opened))
+    def forked(self) -> _AskingProcess:
+        return _AskingProcess(self.domain, dict(self.rulesets), dict(self.opened))
 
 
 class Distilling:
@@ -79,7 +79,7 @@ class Distilling:
 
     def __init__(self) -> None:
         self.questions: Counter[LayeredCall] = Counter()
-        self._by_pid: dict[int, _Process] = {}
+        self._by_pid: dict[int, _AskingProcess] = {}
         self._decoded: dict[bytes, Record] = {}
 
     def follow(self, trace: Path, report: Path) -> None:
@@ -118,7 +118,7 @@ class Distilling:
         """Reads a record of a process that is allowed."""
         op = record["op"]
         if op == "start":
-            self._by_pid[pid] = _Process()
+            self._by_pid[pid] = _AskingProcess()
             return
         process = self._by_pid[pid]
         if op in DESCRIPTOR_CALLS:
@@ -132,7 +132,7 @@ class Distilling:
         else:
             self._change(process, pid, record)
 
-    def _ask(self, domain: Domain, record: Record, calls: tuple[BareCall, ...]) -> LayeredCall | None:
+    def _ask(self, domain: EnforcedLayers, record: Record, calls: tuple[BareCall, ...]) -> LayeredCall | None:
         """Counts a question, if the policy is asked; the records that begin a part only repeat what there was."""
         if not any(type(layer) is int for layer in domain):
             return None
@@ -141,7 +141,7 @@ class Distilling:
             self.questions[question] += record.get("stands_for", 1)
         return question
 
-    def _change(self, process: _Process, pid: int, record: Record) -> None:
+    def _change(self, process: _AskingProcess, pid: int, record: Record) -> None:
         """What a record that asks nothing changes."""
         match record["op"]:
             case "fork":
@@ -156,7 +156,7 @@ class Distilling:
                 process.opened.pop(record["fd"], None)
             case "create":
                 origin = of_policy(record)
-                made = _Ruleset([call_of(record)], origin["layer"] if origin else None)
+                made = _HeldRuleset([call_of(record)], origin["layer"] if origin else None)
                 process.rulesets[record["rs"]] = made
             case "add_path" | "add_port":
                 process.rulesets[record["rs"]].made.append(call_of(record))

@@ -13,7 +13,7 @@ from dataclasses import dataclass, replace
 from itertools import chain
 from pathlib import Path, PurePosixPath
 
-from ..audit.auditor import Tried
+from ..audit.auditor import TriedPolicy
 from ..common.jsonl import Record
 from ..common.numbered import Numbered
 from ..common.rights import alone
@@ -22,7 +22,7 @@ from ..engine.asking import Asker, Trial
 from ..policy import called, fitting
 from ..policy.asking import FIRST_DESCRIPTOR, RULESET
 from ..policy.policies import Access, Layer, PathRule, Policy, PortRule
-from .distilling import Domain, Enforced, LayeredCall, call_of, text
+from .distilling import Enforced, EnforcedLayers, LayeredCall, call_of, text
 
 Refused = frozenset[tuple[int, int]]
 """Questions that are refused: on which tree each was asked, and its number there."""
@@ -110,14 +110,14 @@ def _wide_first(some: Iterable[Unit]) -> list[Unit]:
 
 
 @dataclass(frozen=True)
-class Asked:
+class AskedOnTree:
     """The questions that were asked on one tree by a recording, with how many calls asked each.
 
     A question is known by its number. `bodies` has its records without a process; `over` has the questions that are
     about paths at or under a path, or about a port.
     """
 
-    tried: Tried
+    tried: TriedPolicy
     tree: Path
     counted: Mapping[LayeredCall, int]
     questions: tuple[LayeredCall, ...]
@@ -125,7 +125,7 @@ class Asked:
     over: Mapping[str | int, frozenset[int]]
 
     @classmethod
-    def of(cls, tried: Tried, tree: Path, counted: Mapping[LayeredCall, int]) -> Asked:
+    def of(cls, tried: TriedPolicy, tree: Path, counted: Mapping[LayeredCall, int]) -> AskedOnTree:
         """Questions that were counted."""
         questions = tuple(counted)
         bodies = tuple(
@@ -178,7 +178,7 @@ def _with_what_is_over(place: str | int) -> Iterator[str | int]:
 class Tightening:
     """Takes away rights that no question of the recordings needs."""
 
-    def __init__(self, program: Path, abi: int, asked: Sequence[Asked], *, best_effort: bool) -> None:
+    def __init__(self, program: Path, abi: int, asked: Sequence[AskedOnTree], *, best_effort: bool) -> None:
         self._abi = abi
         self._asked = [(one, Asker(program, alone(abi), one.tree, best_effort)) for one in asked]
 
@@ -229,7 +229,7 @@ class Tightening:
         return [frozenset(refused) for refused in found]
 
     def _trials(
-        self, asked: Asked, policy: Policy, objects: Mapping[RuledObject, Collection[str | int]], choice: int,
+        self, asked: AskedOnTree, policy: Policy, objects: Mapping[RuledObject, Collection[str | int]], choice: int,
         some: Sequence[Unit]
     ) -> Iterator[Trial[tuple[int, int]]]:
         """The processes that ask without some rights of a policy: one for all questions under the same layers.
@@ -238,7 +238,7 @@ class Tightening:
         """
         questions = asked.touched(objects, some)
         inserted = asked.tried.inserted(without(policy, some), self._abi) if questions else []
-        by_domain: defaultdict[Domain, list[int]] = defaultdict(list)
+        by_domain: defaultdict[EnforcedLayers, list[int]] = defaultdict(list)
         for number in questions:
             by_domain[asked.questions[number].domain].append(number)
         for domain, numbers in by_domain.items():

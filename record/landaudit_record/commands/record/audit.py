@@ -10,7 +10,7 @@ from pathlib import Path
 from typing import Any
 
 from ...audit import accepting, by_abi, reaching, together
-from ...audit.auditor import Auditing, Tried
+from ...audit.auditor import Auditing, TriedPolicy
 from ...audit.summary import Accepted, Summaries, Summary, as_data
 from ...audit.together import Member
 from ...common import apart, json_text, layout, options, variables
@@ -25,7 +25,7 @@ from ...summaries import page, reporting, summary_text, tree_text
 from ...summaries.reporting import JSON, TEXT
 from ...summaries.reporting.audited import Audited
 from ...summaries.reporting.audited import report as audited_report
-from ...summaries.summary_text import Beside
+from ...summaries.summary_text import SummaryExtras
 
 NAME = "audit"
 #: The version of what --json prints: docs/audit.schema.json describes it, docs/CI.md says when it changes.
@@ -152,7 +152,7 @@ def _summaries(member: Member, auditing: Auditing, abis: range) -> list[Summary]
     return summaries
 
 
-def _by_part(auditing: Auditing, tried: Tried | None, step: range, abis: range) -> Iterator[Summaries]:
+def _by_part(auditing: Auditing, tried: TriedPolicy | None, step: range, abis: range) -> Iterator[Summaries]:
     """What some of the ABIs answer to each part. Parts are counted by processes of their own, while landaudit judges
     the next ones.
     """
@@ -197,7 +197,7 @@ def _lines(
     may_help = any(not isinstance(one, (Scoped, Tracing)) for layer in of_policy for one in layer.objections)
     suggesting = _suggesting(arguments, newest.abi) if may_help else []
     tree = tree_text.lines if arguments.tree else None
-    yield from summary_text.lines(newest, title, style, Beside(notes, suggesting, arguments.all, tree))
+    yield from summary_text.lines(newest, title, style, SummaryExtras(notes, suggesting, arguments.all, tree))
     if len(each) > 1:
         yield from summary_text.by_recording([(member.name, found[-1]) for member, found in each], style)
     if len(steps) > 1:

@@ -17,7 +17,7 @@ from ...kernel_log import page as page_of_denials
 from ...kernel_log.counting import Counted
 from ...kernel_log.granting import Granted
 from ...kernel_log.records import Line
-from ...kernel_log.text import Shown
+from ...kernel_log.text import LogOptions
 from ...policy import policies
 from ...policy.policies import Policy
 from ...summaries.summary_text import Style
@@ -118,7 +118,7 @@ def _lines(found: Counted, granted: Granted, policy: Policy | None, arguments: a
         yield from text.rules(granted, found, policy)
         return
     suggesting = _suggesting(arguments) if granted.rules else []
-    shown = Shown(arguments.all, suggesting, list(text.staying(granted, policy)))
+    shown = LogOptions(arguments.all, suggesting, list(text.staying(granted, policy)))
     yield from text.lines(found, _title(arguments), Style.of(sys.stdout), shown)
 
 

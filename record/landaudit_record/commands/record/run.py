@@ -139,7 +139,8 @@ def _record_by_strace(arguments: argparse.Namespace) -> int:
         command = _prepared(folder, about, policy, command)
         own = () if policy is None else witness.OWN_ANSWERS
         checking = witness.Witness(folder, (*witness.BESIDE, *own)) if arguments.witness else None
-    following = beside.Beside(folder / "strace.txt", about.directory, about.started, about.watched, about.registered)
+    log = folder / "strace.txt"
+    following = beside.LogFollower(log, about.directory, about.started, about.watched, about.registered)
     following.start()
     outcome = tracing.run(folder / "strace.txt", command, readlink=arguments.readlink)
     following.stop(folder / recordings.BESIDE)

@@ -14,8 +14,8 @@ from ...engine import landaudit
 from ...engine.reading import Walk
 from ...policy.policies import Policy
 from ...suggest import suggestion_text
-from ...suggest.objects import Objects
-from ...suggest.suggesting import Making, Recorded, suggest
+from ...suggest.objects import CountedObjects
+from ...suggest.suggesting import Recorded, RuleMaking, suggest
 
 EXACT, BASE = "exact", "base"
 NAME = "suggest"
@@ -85,10 +85,10 @@ def _number(text: str) -> int:
     return int(text)
 
 
-def _making(recorded: Sequence[Recorded], arguments: argparse.Namespace) -> Making:
+def _making(recorded: Sequence[Recorded], arguments: argparse.Namespace) -> RuleMaking:
     """How rules are made."""
-    objects = None if arguments.rules is None else Objects([one.tree for one in recorded])
-    return Making(arguments.rules, objects, in_groups=arguments.style == BASE)
+    objects = None if arguments.rules is None else CountedObjects([one.tree for one in recorded])
+    return RuleMaking(arguments.rules, objects, in_groups=arguments.style == BASE)
 
 
 def _recorded(member: Member) -> Recorded:

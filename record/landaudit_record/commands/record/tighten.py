@@ -10,7 +10,7 @@ from pathlib import Path
 
 from ... import RECORDER
 from ...audit import of_program, together
-from ...audit.auditor import Auditing, Tried
+from ...audit.auditor import Auditing, TriedPolicy
 from ...common.comments import Comments
 from ...common.options import add_judging, add_of_program, add_recordings, note
 from ...common.problems import WANTING, Problem
@@ -20,7 +20,7 @@ from ...engine import landaudit
 from ...policy import policy_text
 from ...policy.policies import PathRule, Policy, PortRule
 from ...tighten.distilling import Distilling, LayeredCall
-from ...tighten.tightening import Asked, Refused, RuledObject, Tightened, Tightening, places, units
+from ...tighten.tightening import AskedOnTree, Refused, RuledObject, Tightened, Tightening, places, units
 
 NAME = "tighten"
 HELP = "print the policy without the rights that no recording needs"
@@ -51,7 +51,7 @@ def run(arguments: argparse.Namespace) -> int:
     tried = [member.tried for member in members if member.tried is not None]
     with together.audits(members, program, NAME, best_effort=not arguments.as_recorded) as audits:
         before = [_questions(audit, one, policy, arguments.abi) for audit, one in zip(audits, tried)]
-        asked = [Asked.of(one, tree, found) for one, of in zip(tried, before) for tree, found in of.items()]
+        asked = [AskedOnTree.of(one, tree, found) for one, of in zip(tried, before) for tree, found in of.items()]
         audits[0].progress.say("trying each right")
         tightening = Tightening(program, arguments.abi, asked, best_effort=not arguments.as_recorded)
         of_run = [one.tree for one in tried]
@@ -87,7 +87,7 @@ def _with_unknown(tight: Policy, whole: Policy, unknown: frozenset[str]) -> Poli
     return replace(tight, layers=tuple(layers))
 
 
-def _questions(audit: Auditing, tried: Tried, policy: Policy, abi: int) -> _Asked:
+def _questions(audit: Auditing, tried: TriedPolicy, policy: Policy, abi: int) -> _Asked:
     """The questions of a recording to a policy, for each tree by itself."""
     by_tree: dict[Path, Distilling] = {}
     for files in audit.judged(alone(abi), tried, policy, explain=False):

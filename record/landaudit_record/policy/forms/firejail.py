@@ -53,7 +53,7 @@ class _Line:
 
 
 @dataclass
-class _Read:
+class _ReadSoFar:
     """What was read so far: rules, how lines write their paths, the values of macros, other lines, and included
     profiles that are not there.
     """
@@ -68,7 +68,7 @@ class _Read:
 
 def read(path: Path, given: Given) -> Imported:
     """The policy of a profile, with those that it includes; `given` has values for ${HOME} and other macros."""
-    found = _Read()
+    found = _ReadSoFar()
     for line in _lines(path, found, 0):
         _take(line, found, given)
     if not found.enforced:
@@ -79,7 +79,7 @@ def read(path: Path, given: Given) -> Imported:
     return Imported(Policy(path, (layer,), found.values, written), Comments(list(_said(path, found))))
 
 
-def _said(path: Path, found: _Read) -> Iterator[str]:
+def _said(path: Path, found: _ReadSoFar) -> Iterator[str]:
     yield f"from the profile {path} of {NAME} ({VERSION})"
     yield f"lines that say nothing about Landlock: {found.others.total()} in {counted(len(found.others) or 1, 'file')}"
     if found.absent:
@@ -87,7 +87,7 @@ def _said(path: Path, found: _Read) -> Iterator[str]:
     yield f"where the kernel refuses a rule, as one on a file, {NAME} goes on without it"
 
 
-def _lines(path: Path, found: _Read, depth: int) -> Iterator[_Line]:
+def _lines(path: Path, found: _ReadSoFar, depth: int) -> Iterator[_Line]:
     """The lines of a profile, and in place of an include those of the included one."""
     try:
         text = path.read_text(encoding="utf-8")
@@ -106,7 +106,7 @@ def _lines(path: Path, found: _Read, depth: int) -> Iterator[_Line]:
             yield from _included(line, named[1], found, depth)
 
 
-def _included(line: _Line, name: str, found: _Read, depth: int) -> Iterator[_Line]:
+def _included(line: _Line, name: str, found: _ReadSoFar, depth: int) -> Iterator[_Line]:
     """The lines of an included profile. firejail goes on without one that ends in .local and is not there."""
     file = line.file.parent / name
     if "${" in name:
@@ -119,7 +119,7 @@ def _included(line: _Line, name: str, found: _Read, depth: int) -> Iterator[_Lin
         line.fault(f"{file} is not there: copy it beside the profile, since it may have rules of Landlock")
 
 
-def _take(line: _Line, found: _Read, given: Given) -> None:
+def _take(line: _Line, found: _ReadSoFar, given: Given) -> None:
     """Reads a line."""
     if not line.text:
         return
@@ -135,7 +135,7 @@ def _take(line: _Line, found: _Read, given: Given) -> None:
         found.others[line.file] += 1
 
 
-def _paths(line: _Line, text: str, found: _Read, given: Given) -> Iterator[str]:
+def _paths(line: _Line, text: str, found: _ReadSoFar, given: Given) -> Iterator[str]:
     """The paths of a line: several if it has ${PATH}, which firejail takes from the environment."""
     values = {name: _value(line, name, given) for name in _MACRO.findall(text)}
     for one in values.get(_SEVERAL, "").split(":"):

@@ -17,7 +17,7 @@ from typing import Any, TypeVar
 
 from ...common import documents
 from ...common.comments import Comments
-from ...common.documents import JSON, Place, listed, one_or_several, tables, unknown
+from ...common.documents import JSON, DocumentPlace, listed, one_or_several, tables, unknown
 from ...common.numbered import Numbered
 from ...common.problems import Problem
 from ...common.rights import ABI_OF_SCOPES, FS, LATEST_ABI, NET, NEWEST_ABI, NONE, OLDEST_ABI, SCOPES, Family, Rights
@@ -45,8 +45,8 @@ def _groups(abi: int) -> Mapping[str, Rights]:
 def read(path: Path) -> Imported:
     """The policy of a file."""
     if path.suffix == JSON:
-        return _Reader(_json(path), Place(path), _camel).imported()
-    return _Reader(documents.read(path), Place(path), str).imported()
+        return _ConfigReader(_json(path), DocumentPlace(path), _camel).imported()
+    return _ConfigReader(documents.read(path), DocumentPlace(path), str).imported()
 
 
 def _json(path: Path) -> Mapping[str, Any]:
@@ -76,11 +76,11 @@ def _camel(key: str) -> str:
 
 
 @dataclass
-class _Reader:
+class _ConfigReader:
     """Reads a document; `key` gives a key as the document writes it."""
 
     document: Mapping[str, Any]
-    place: Place
+    place: DocumentPlace
     key: Callable[[str], str]
     abi: int = 0
 
@@ -106,10 +106,10 @@ class _Reader:
             self.place.at("abi").fault(f"{abi!r} is not an ABI that is known here: a number from {OLDEST_ABI} to {LATEST_ABI}")
         return int(abi)
 
-    def _keys(self, table: Mapping[str, Any], known: Sequence[str], place: Place) -> None:
+    def _keys(self, table: Mapping[str, Any], known: Sequence[str], place: DocumentPlace) -> None:
         documents.check_keys(table, tuple(map(self.key, known)), place)
 
-    def _tables(self, name: str) -> Iterator[tuple[Mapping[str, Any], Place]]:
+    def _tables(self, name: str) -> Iterator[tuple[Mapping[str, Any], DocumentPlace]]:
         """The tables of a name, each with its place."""
         key = self.key(name)
         for number, table in enumerate(tables(self.document.get(key, []), key, self.place), start=1):
@@ -126,12 +126,12 @@ class _Reader:
             seen.add(name)
             yield name, one_or_several(table["literal"], self._literal, place / "literal")
 
-    def _literal(self, value: Any, place: Place) -> str:
+    def _literal(self, value: Any, place: DocumentPlace) -> str:
         if not isinstance(value, str) or "${" in value:
             place.fault(f"{value!r} is no text without variables")
         return str(value)
 
-    def _layer(self, table: Mapping[str, Any], place: Place, variables: Mapping[str, tuple[str, ...]]) -> Layer:
+    def _layer(self, table: Mapping[str, Any], place: DocumentPlace, variables: Mapping[str, tuple[str, ...]]) -> Layer:
         self._keys(table, ("handled_access_fs", "handled_access_net", "scoped"), place)
         fs = self._handled(table, "handled_access_fs", FS, place)
         net = self._handled(table, "handled_access_net", NET, place)
@@ -144,7 +144,7 @@ class _Reader:
                  for access, port in self._port_rule(rule, net, at)]
         return Layer(1, _as_access(fs, FS), _as_access(net, NET), path_rules(paths), port_rules(ports), scoped)
 
-    def _handled(self, table: Mapping[str, Any], name: str, family: Family, place: Place) -> Rights:
+    def _handled(self, table: Mapping[str, Any], name: str, family: Family, place: DocumentPlace) -> Rights:
         """The rights that the ruleset handles."""
         key = self.key(name)
         if key not in table:
@@ -152,7 +152,7 @@ class _Reader:
         words = self._list(table[key], place / key, lambda value, at: (value, at))
         return NONE.union(*(self._rights(value, family, at) for value, at in words))
 
-    def _rights(self, word: Any, family: Family, place: Place) -> Rights:
+    def _rights(self, word: Any, family: Family, place: DocumentPlace) -> Rights:
         """The rights that a word stands for: a right by its name, or several of the file's ABI."""
         groups = _groups(self.abi) if family is FS else {"abi.all": NET.known(min(self.abi, NEWEST_ABI))}
         if not isinstance(word, str):
@@ -165,11 +165,11 @@ class _Reader:
             place.fault(f"unknown right {family.what} {unknown(word, [*groups, *family.since])}")
         return frozenset({word})
 
-    def _scoped(self, value: Any, place: Place) -> tuple[str, ...]:
+    def _scoped(self, value: Any, place: DocumentPlace) -> tuple[str, ...]:
         words = self._list(value, place, self._scope)
         return tuple(scope for scope in SCOPES if any(scope in some for some in words))
 
-    def _scope(self, word: Any, place: Place) -> tuple[str, ...]:
+    def _scope(self, word: Any, place: DocumentPlace) -> tuple[str, ...]:
         if word == "abi.all":
             if not self.abi:
                 place.fault("'abi.all' needs an ABI, which the file does not name")
@@ -179,7 +179,7 @@ class _Reader:
         return (word,)
 
     def _path_rule(
-        self, table: Mapping[str, Any], handled: Rights, variables: Mapping[str, tuple[str, ...]], place: Place
+        self, table: Mapping[str, Any], handled: Rights, variables: Mapping[str, tuple[str, ...]], place: DocumentPlace
     ) -> Iterator[tuple[Access, str]]:
         key = self.key("allowed_access")
         documents.check_keys(table, (key, "parent"), place, all_needed=True)
@@ -188,13 +188,15 @@ class _Reader:
         for parents in several:
             yield from ((access, parent) for parent in parents)
 
-    def _port_rule(self, table: Mapping[str, Any], handled: Rights, place: Place) -> Iterator[tuple[Access, int]]:
+    def _port_rule(
+        self, table: Mapping[str, Any], handled: Rights, place: DocumentPlace
+    ) -> Iterator[tuple[Access, int]]:
         key = self.key("allowed_access")
         documents.check_keys(table, (key, "port"), place, all_needed=True)
         access = self._allowed(table[key], NET, handled, place / key)
         yield from ((access, port) for port in one_or_several(table["port"], _port, place / "port"))
 
-    def _allowed(self, value: Any, family: Family, handled: Rights, place: Place) -> Access:
+    def _allowed(self, value: Any, family: Family, handled: Rights, place: DocumentPlace) -> Access:
         """What a rule allows: rights by name must be handled, and a word for several stands for those that are."""
         outright, grouped = NONE, NONE
         for word, at in self._list(value, place, lambda one, at: (one, at)):
@@ -206,7 +208,7 @@ class _Reader:
             place.fault(f"the ruleset handles none of it: it handles {listed(family.ordered(handled)) or 'nothing'}")
         return Access(outright, grouped & handled)
 
-    def _list(self, value: Any, place: Place, one: Callable[[Any, Place], T]) -> tuple[T, ...]:
+    def _list(self, value: Any, place: DocumentPlace, one: Callable[[Any, DocumentPlace], T]) -> tuple[T, ...]:
         """The items of a list, each with its place."""
         if not isinstance(value, list) or not value:
             place.fault("must be a list that is not empty")
@@ -218,7 +220,7 @@ def _as_access(rights: Rights, family: Family) -> Access:
     return Access(grouped=rights) if rights == family.groups["all"] else Access(rights)
 
 
-def _expanded(value: Any, variables: Mapping[str, tuple[str, ...]], place: Place) -> list[str]:
+def _expanded(value: Any, variables: Mapping[str, tuple[str, ...]], place: DocumentPlace) -> list[str]:
     """A parent under each value of each variable in it."""
     if not isinstance(value, str):
         place.fault(f"{value!r} is not a path")
@@ -236,7 +238,7 @@ def _expanded(value: Any, variables: Mapping[str, tuple[str, ...]], place: Place
     return found
 
 
-def _port(value: Any, place: Place) -> int:
+def _port(value: Any, place: DocumentPlace) -> int:
     if type(value) is not int or not 0 <= value <= HIGHEST_PORT:
         place.fault(f"{value!r} is not a port: a number from 0 to {HIGHEST_PORT}")
     return int(value)

@@ -17,7 +17,7 @@ from ...common.rights import FILE_RIGHTS, FS, NET, NONE, SCOPES, Rights
 from ..policies import Access, Layer, Policy
 from . import Exported, Imported, Loss, all_of, flat, path_rules, port_rules, words
 from .flat import REFER, ROOT, Flat, OnPath
-from .words import CommandLine, Known
+from .words import CommandLine, KnownOptions
 
 VERSION = "0.1.17"
 NAME = "landrun"
@@ -32,7 +32,7 @@ LOOKS = ("--add-exec", "--ldd")
 BEST, MISSING, LOG = "--best-effort", "--ignore-missing", "--log-enable-subprocesses"
 #: Grants to read, and from ABI 9 on to connect to sockets; no policy here has that right.
 SOCKETS = "--unix"
-KNOWN = Known(
+KNOWN = KnownOptions(
     valued=(*PATHS, *PORTS, SOCKETS, "--env", "--log-level"),
     flags=(NO_PATHS, NO_PORTS, NO_SCOPES, *LOOKS, BEST, MISSING, LOG, "--log-disable-originating",
            "--log-disable-subdomains"),

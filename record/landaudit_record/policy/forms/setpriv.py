@@ -11,13 +11,13 @@ from ...common.problems import Problem
 from ...common.rights import FS, NET, Rights
 from ..policies import Access, Layer, Policy
 from . import Exported, Imported, Loss, flat, path_rules, words
-from .words import Known, Option
+from .words import KnownOptions, Option
 
 VERSION = "util-linux 2.41"
 NAME = "setpriv"
 ACCESS, RULE = "--landlock-access", "--landlock-rule"
 #: Its other options, by its help.
-KNOWN = Known(
+KNOWN = KnownOptions(
     valued=(ACCESS, RULE, "--ambient-caps", "--inh-caps", "--bounding-set", "--ruid", "--euid", "--rgid", "--egid",
             "--reuid", "--regid", "--groups", "--securebits", "--pdeathsig", "--ptracer", "--selinux-label",
             "--apparmor-profile", "--seccomp-filter"),

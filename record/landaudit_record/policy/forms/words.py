@@ -47,7 +47,7 @@ class Option:
 
 
 @dataclass(frozen=True)
-class Known:
+class KnownOptions:
     """The options of a program: those that have a value, and those that have none."""
 
     valued: Collection[str]
@@ -62,7 +62,7 @@ class CommandLine:
     command: tuple[str, ...]
 
 
-def read(text: str, program: str, known: Known) -> CommandLine:
+def read(text: str, program: str, known: KnownOptions) -> CommandLine:
     """The command line of a program, which may begin with comments and the program's name."""
     if begins := _COMMENTS.match(text):
         text = text[begins.end():]
@@ -80,7 +80,7 @@ def read(text: str, program: str, known: Known) -> CommandLine:
     return CommandLine(tuple(options), tuple(behind))
 
 
-def _option(words: list[str], number: int, program: str, known: Known) -> Option:
+def _option(words: list[str], number: int, program: str, known: KnownOptions) -> Option:
     name, sign, value = words[number].partition("=")
     option = Option(program, number + 1, name, value)
     if name in known.flags:

@@ -2,15 +2,10 @@
 
 from __future__ import annotations
 
-from collections.abc import Callable, Mapping
+from collections.abc import Mapping
 
-from ..processes import Thread
-from ..scene import Scene
-from ..strace_log import Call
+from ..scene import Handler
 from . import descriptors, files, inexpressible, landlock, mounts, moves, opening, programs, ptrace, scopes, users
-
-Handler = Callable[[Scene, Thread, Call], None]
-
 
 HANDLERS: Mapping[str, Handler] = {
     **inexpressible.HANDLERS,

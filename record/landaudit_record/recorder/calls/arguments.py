@@ -5,7 +5,6 @@ from __future__ import annotations
 from collections.abc import Sequence
 
 from .. import values
-from ..unwritten import CannotSay, NotAsked
 from ..names import UnknownWay
 from ..processes import Thread
 from ..scene import NO_PATH, Scene, Spot

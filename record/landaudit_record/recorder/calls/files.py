@@ -114,7 +114,7 @@ def _chdir(scene: Scene, thread: Thread, call: Call) -> None:
     try:
         directory = arguments.spot_at(scene, thread, call, None, 0, True).real
     except CannotSay:
-        thread.place.unsure = True
+        thread.directories.unsure = True
         raise
     scene.go_to(thread, directory)
 
@@ -127,7 +127,7 @@ def _fchdir(scene: Scene, thread: Thread, call: Call) -> None:
 
 def _chroot(scene: Scene, thread: Thread, call: Call) -> None:
     if call.ok:
-        thread.place.root = arguments.spot_at(scene, thread, call, None, 0, True).real
+        thread.directories.root = arguments.spot_at(scene, thread, call, None, 0, True).real
 
 
 HANDLERS = {

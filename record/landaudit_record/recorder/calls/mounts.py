@@ -6,12 +6,10 @@ kernel looks at before.
 
 from __future__ import annotations
 
-from collections.abc import Callable
-
 from .. import values
 from ..unwritten import CannotSay, NotAsked
 from ..processes import Handle, Thread
-from ..scene import CLONE_NEWUSER, Scene
+from ..scene import CLONE_NEWUSER, Handler, Scene
 from ..strace_log import Call
 from . import arguments, ptrace, users
 
@@ -26,7 +24,6 @@ CLONE_NEWNS = 0x20000
 CHANGES_THE_TREE = "a mount that changes the tree"
 WITHOUT_PLACE = "a mount that has no place in the tree"
 OTHER_NAMESPACE = "a process that goes to another mount namespace"
-Handler = Callable[[Scene, Thread, Call], None]
 
 #: Errors with which a call fails while the kernel looks for the objects that it names.
 LOOKING = frozenset({"EBADF", "EFAULT", "ENAMETOOLONG", "ENOENT", "ENOTDIR"})

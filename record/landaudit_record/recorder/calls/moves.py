@@ -74,16 +74,16 @@ def _say_whiteout(scene: Scene, thread: Thread, call: Call, moved: Spot) -> None
 
 def _take_place(scene: Scene, moved: Spot, target: Spot, exchange: bool) -> None:
     """Gives objects their new names; open descriptors in a directory, and processes that work in it, move along."""
-    ways = {moved.real: target.real}
+    moves = {moved.real: target.real}
     if exchange:
         scene.names.exchange(moved.real, target.real)
-        ways[target.real] = moved.real
+        moves[target.real] = moved.real
     else:
         if target.node is not None and moved.node is not None:
             scene.names.is_of(target.node, *(("dir",) if moved.node.kind == "dir" else NO_DIRECTORIES))
         scene.names.move(moved.real, target.real)
     if "dir" in [one.node.kind for one in (moved, target) if one.node is not None]:
-        scene.moved(ways)
+        scene.moved(moves)
 
 
 def _source(scene: Scene, call: Call, source: Spot, target: Spot, exchange: bool) -> Spot:

@@ -61,14 +61,14 @@ def _openat2(scene: Scene, thread: Thread, call: Call) -> None:
     resolve = values.number(member) if member is not None else 0
     if call.error in RESOLVE_ERRORS and resolve:
         raise NotAsked("a path that openat2 may not resolve so")
-    place = thread.place
+    directories = thread.directories
     if resolve & RESOLVE_IN_ROOT:
-        directory = values.descriptor(call.arguments[0]).path or place.directory
-        thread.place = replace(place, root=directory, directory=directory)
+        directory = values.descriptor(call.arguments[0]).path or directories.directory
+        thread.directories = replace(directories, root=directory, directory=directory)
     try:
         _opened(scene, thread, call, 0, 1, flags_of(call))
     finally:
-        thread.place = place
+        thread.directories = directories
 
 
 def flags_of(call: Call) -> int:

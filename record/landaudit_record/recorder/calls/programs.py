@@ -165,7 +165,7 @@ def _unshared(scene: Scene, thread: Thread, call: Call) -> None:
     if call.ok and flags & CLONE_NEWUSER:
         users.lose(thread)
     if call.ok and flags & CLONE_FS:
-        thread.place = replace(thread.place)
+        thread.directories = replace(thread.directories)
     if call.ok and flags & CLONE_FILES and len(thread.process.threads) > 1:
         scene.leave_out(thread, call, OWN_TABLE, asks=True)
 

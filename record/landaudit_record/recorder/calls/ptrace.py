@@ -8,7 +8,7 @@ follows (proc(5)). A trace has no records for these calls.
 from __future__ import annotations
 
 import re
-from collections.abc import Callable, Iterable
+from collections.abc import Iterable
 
 from ...common.reach import PTRACE
 from .. import values
@@ -16,11 +16,11 @@ from ..unwritten import CannotSay
 from ..looks import READLINKS
 from ..names import Node
 from ..processes import Process, Thread
-from ..scene import Scene, ThreadLinks
+from ..scene import Handler, Scene, ThreadLinks
 from ..strace_log import Call
 from ..values import Descriptor
 from . import arguments, opening
-from .ways import WAYS, Way
+from .path_arguments import PATH_ARGUMENTS, PathArgument
 
 PTRACE_TRACEME, PTRACE_ATTACH, PTRACE_SEIZE = 0, 0x10, 0x4206
 INTO_ANOTHER = "a look into another process, which Landlock's rule on ptrace may refuse"
@@ -46,8 +46,6 @@ _LISTED = "/proc"
 #: A descriptor of a process: of pidfd_open(2), or of its directory (pidfd_send_signal(2)).
 _PIDFD = re.compile(r"(?:pid:|/proc/)(\d+)$")
 
-Handler = Callable[[Scene, Thread, Call], None]
-
 
 class _Passing(ThreadLinks):
     """Links as a thread resolves them when only the path matters: none of them is listed."""
@@ -63,9 +61,9 @@ def look(scene: Scene, thread: Thread, call: Call) -> bool:
     """
     if not _may_be_refused(scene, thread, call):
         return False
-    led = [(way, _led(scene, thread, call, way, path)) for way, path in _paths(call)]
+    led = [(argument, _led(scene, thread, call, argument, path)) for argument, path in _paths(call)]
     opened = _opened(scene, call)
-    pids = {pid for way, path in led for pid in _kept(call, path, follows=way.follows_last(call))}
+    pids = {pid for argument, path in led for pid in _kept(call, path, follows=argument.follows_last(call))}
     pids |= scene.through | _numbers([_OPENED.fullmatch(opened)])
     if scene.hides:
         pids |= _numbers(_OF_PROCESS.match(path) for path in [opened, *(path for _, path in led)])
@@ -119,23 +117,23 @@ def _may_be_refused(scene: Scene, thread: Thread, call: Call) -> bool:
     return call.ok or (thread.process.confined and call.error in refused)
 
 
-def _paths(call: Call) -> Iterable[tuple[Way, str]]:
+def _paths(call: Call) -> Iterable[tuple[PathArgument, str]]:
     """The paths of a call; an empty one stands for an open descriptor, by which nothing is followed."""
-    for way in WAYS.get(call.name, ()):
-        path = way.text(call)
+    for argument in PATH_ARGUMENTS.get(call.name, ()):
+        path = argument.text(call)
         if path:
-            yield way, path
+            yield argument, path
 
 
-def _led(scene: Scene, thread: Thread, call: Call, way: Way, path: str) -> str:
+def _led(scene: Scene, thread: Thread, call: Call, argument: PathArgument, path: str) -> str:
     """Where a path leads below the thread's root, as far as it does.
 
     The processes through whose links it goes are kept in `through`.
     """
-    base = arguments.descriptor_at(call, way.base)
-    root, directory = thread.place.root, (base.path if base is not None else None) or thread.place.directory
+    base = arguments.descriptor_at(call, argument.base)
+    root, directory = thread.directories.root, (base.path if base is not None else None) or thread.directories.directory
     try:
-        found = scene.names.find(root, directory, path, way.follows_last(call), _Passing(scene, thread))
+        found = scene.names.find(root, directory, path, argument.follows_last(call), _Passing(scene, thread))
         return scene.names.places.in_proc(found.path if root == "/" else found.path.removeprefix(root))
     except CannotSay:
         return ""

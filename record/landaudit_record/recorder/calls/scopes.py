@@ -7,12 +7,11 @@ whom they reach is written beside it, and if nobody knows that, they are counted
 from __future__ import annotations
 
 import re
-from collections.abc import Callable
 
 from ...common.reach import ABSTRACT, SIGNAL
 from .. import values
 from ..processes import Thread
-from ..scene import Scene
+from ..scene import Handler, Scene
 from ..strace_log import Call
 from . import arguments, ptrace
 
@@ -22,8 +21,6 @@ _CHOSEN = re.compile("@[0-9a-f]{5}")
 _REFUSED = "EPERM"
 #: The index of the address of sendto(2).
 _ADDRESS = 4
-
-Handler = Callable[[Scene, Thread, Call], None]
 
 
 def _signals(index: int) -> Handler:

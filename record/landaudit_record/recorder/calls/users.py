@@ -7,12 +7,11 @@ the C library has them do.
 
 from __future__ import annotations
 
-from collections.abc import Callable
 from dataclasses import replace
 
 from .. import values
 from ..processes import Thread
-from ..scene import Scene
+from ..scene import Handler, Scene
 from ..strace_log import Call
 from . import arguments
 
@@ -20,8 +19,6 @@ PR_SET_SECUREBITS, PR_CAP_AMBIENT, PR_CAP_AMBIENT_RAISE = 28, 47, 2
 #: The capabilities that override file modes.
 OVERRIDING = ("CAP_DAC_OVERRIDE", "CAP_DAC_READ_SEARCH")
 UNCHANGED = -1
-
-Handler = Callable[[Scene, Thread, Call], None]
 
 
 def _user(index: int) -> Handler:

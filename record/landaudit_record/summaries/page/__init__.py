@@ -18,7 +18,7 @@ from pathlib import Path
 
 from ... import RECORDER, VERSION
 from ...audit import by_abi
-from ...audit.auditor import Tried
+from ...audit.auditor import TriedPolicy
 from ...audit.summary import Summary
 from ...common.finished import Part
 from . import annotated, by_version, cards, matrix, recorded, sections
@@ -49,13 +49,15 @@ class Title:
         return f"{self.recording} under {self.policy}" if self.policy else self.recording
 
 
-def write(file: Path, about: Title, summaries: Sequence[Summary], parts: Iterable[Part], tried: Tried | None) -> None:
+def write(
+    file: Path, about: Title, summaries: Sequence[Summary], parts: Iterable[Part], tried: TriedPolicy | None
+) -> None:
     """Writes the page of an audit, either whole or not at all."""
     paths = Paths(asked(part.trace for part in parts), summaries)
     put(file, made(about, summaries, paths, tried).encode())
 
 
-def made(about: Title, summaries: Sequence[Summary], found: Paths, tried: Tried | None = None) -> str:
+def made(about: Title, summaries: Sequence[Summary], found: Paths, tried: TriedPolicy | None = None) -> str:
     """The page of an audit; the last summary is that of the newest ABI."""
     newest = summaries[-1]
     top = element("header", element("h1", about.title), element("p", _judged(about), kind="quiet"),
@@ -74,7 +76,7 @@ def whole(title: str, body: Markup, rules: Markup = Markup(), program: str = REC
     return f"<!DOCTYPE html>\n{page}\n"
 
 
-def _parts(about: Title, summaries: Sequence[Summary], found: Paths, tried: Tried | None) -> Iterator[Section]:
+def _parts(about: Title, summaries: Sequence[Summary], found: Paths, tried: TriedPolicy | None) -> Iterator[Section]:
     """All parts that a page may have, in their order."""
     newest, abis = summaries[-1], [summary.abi for summary in summaries]
     policy = tried.policy if tried else None

@@ -7,7 +7,7 @@ from collections import defaultdict
 from collections.abc import Iterator, Mapping, Sequence
 from dataclasses import dataclass
 
-from ...audit.auditor import Tried
+from ...audit.auditor import TriedPolicy
 from ...common import outline
 from ...common.trees import Tree
 from ...policy.policies import Policy
@@ -52,7 +52,7 @@ def spots(policy: Policy, tree: Tree, found: Paths) -> Iterator[RuleCount]:
                 yield RuleCount(key, f"port {port}", "", found.on(port))
 
 
-def annotated(abis: Sequence[int], tried: Tried, found: Paths) -> Markup:
+def annotated(abis: Sequence[int], tried: TriedPolicy, found: Paths) -> Markup:
     """The text of the policy; after each line the places on it, and after all lines those of groups."""
     text = _text_of(tried.policy)
     by_line: defaultdict[int, list[RuleCount]] = defaultdict(list)

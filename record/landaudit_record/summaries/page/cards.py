@@ -9,16 +9,16 @@ from collections.abc import Iterable, Iterator, Mapping, Sequence
 from dataclasses import replace
 from urllib.parse import quote
 
-from ...audit.auditor import Tried
+from ...audit.auditor import TriedPolicy
 from ...audit.summary import Summary
 from ...common.rights import FS
 from ...common.wording import counted, printable
 from ...policy.policies import Policy
 from ...suggest import suggestion_text
-from ...suggest.missing_rights import Rule
+from ...suggest.missing_rights import SuggestedRule
 from ...suggest.remarks import RemarkKind
 from .. import grouping
-from ..grouping import Group
+from ..grouping import RefusedGroup
 from ..summary_text import names, where_of
 from .by_version import kinds
 from .markup import Markup, element, together
@@ -38,7 +38,7 @@ AFTER = element("p", "A rule on a directory grants more than these calls need: o
                 kind="after")
 
 
-def cards(summaries: Sequence[Summary], tried: Tried | None, suggesting: Sequence[str]) -> Markup:
+def cards(summaries: Sequence[Summary], tried: TriedPolicy | None, suggesting: Sequence[str]) -> Markup:
     """The cards of each ABI, and the command that prints rules for all calls."""
     if not any(summary.refusals for summary in summaries):
         return Markup()
@@ -86,7 +86,7 @@ def _line(line: str) -> Markup:
     return element("span", line, kind="comment") if line.startswith("#") else together((line,))
 
 
-def _of_abi(summary: Summary, offering: Offering | None, tried: Tried | None) -> Iterator[Markup]:
+def _of_abi(summary: Summary, offering: Offering | None, tried: TriedPolicy | None) -> Iterator[Markup]:
     """The cards of an ABI, the earliest first, and what they have in common."""
     groups = grouping.grouped(summary.refusals.items())
     alike = {_error_and_layers(group) for group in groups}
@@ -101,7 +101,7 @@ def _of_abi(summary: Summary, offering: Offering | None, tried: Tried | None) ->
         yield element("p", f"{more} without a card: see the refused calls below.", kind="quiet")
 
 
-def _error_and_layers(group: Group) -> str:
+def _error_and_layers(group: RefusedGroup) -> str:
     """The error of a group's calls, and the layers that refuse them."""
     layers = ", ".join(group.lacking.layers)
     return f"{group.lacking.error}, by {layers}" if layers else group.lacking.error
@@ -127,14 +127,14 @@ def _card(offer: Offer, policy: Policy | None, also: Sequence[str]) -> Markup:
                    attributes={"data-at": group.directory} if group.directory else None)
 
 
-def _link(group: Group) -> str:
+def _link(group: RefusedGroup) -> str:
     """Leads to the kinds of a group among all kinds."""
     rights = " ".join(group.lacking.objections[0].words) if group.lacking.objections else ""
     at = f"at={quote(printable(group.directory))}&" if group.directory else ""
     return f"#{at}find={quote(printable(rights))}"
 
 
-def _rules(rules: Mapping[int, list[Rule]], policy: Policy) -> Iterator[Markup]:
+def _rules(rules: Mapping[int, list[SuggestedRule]], policy: Policy) -> Iterator[Markup]:
     """Rules, what they grant besides, and warnings about them."""
     remarks = dict.fromkeys(remark for some in rules.values() for rule in some for remark in rule.remarks)
     for remark in remarks:
@@ -153,7 +153,7 @@ def _exactly(offer: Offer, policy: Policy) -> Iterator[Markup]:
         yield element("details", title, rule_text(toml(offer.exact, policy)))
 
 
-def toml(rules: Mapping[int, list[Rule]], policy: Policy) -> str:
+def toml(rules: Mapping[int, list[SuggestedRule]], policy: Policy) -> str:
     """Rules as TOML to paste; what a card says of them is not said again."""
     lines: list[str] = []
     for layer in policy.layers:
@@ -163,7 +163,7 @@ def toml(rules: Mapping[int, list[Rule]], policy: Policy) -> str:
     return "\n".join(_single(lines)).strip("\n") + "\n"
 
 
-def _without_said(rule: Rule) -> Rule:
+def _without_said(rule: SuggestedRule) -> SuggestedRule:
     """A rule without the remarks that a card has outside of its text."""
     return replace(rule, remarks=tuple(remark for remark in rule.remarks if remark.kind is RemarkKind.PURPOSE))
 

@@ -6,7 +6,7 @@ from collections.abc import Iterable, Iterator, Sequence
 from pathlib import Path
 
 from ...policy import checking_text
-from ...policy.checking import Checked, Outcome
+from ...policy.checking import Checked, CheckedCase
 from ...policy.deciding import Decision
 from . import put
 from .markup import Markup, element, together
@@ -14,7 +14,7 @@ from .parts import Figure, page
 from .sections import Section
 from .tables import named, row, table
 
-Result = Outcome | Decision
+CheckResult = CheckedCase | Decision
 
 
 def write(file: Path, checked: Checked) -> None:
@@ -37,14 +37,14 @@ def _parts(checked: Checked) -> Iterator[Section]:
     yield Section("held", "Hold", _table([one for one in checked.results if one.holds]))
 
 
-def _card(result: Result) -> Markup:
+def _card(result: CheckResult) -> Markup:
     """A card of a result that fails: what must be, and what is."""
     must, _, what = checking_text.title(result).partition(": ")
     title = element("h3", element("b", must), " ", element("span", named(what), kind="path"))
     return element("article", title, *_about(result), kind="card")
 
 
-def _about(result: Result) -> Iterator[Markup]:
+def _about(result: CheckResult) -> Iterator[Markup]:
     """What is known of a result."""
     for key, said in checking_text.about(result).items():
         kind = "why" if key.startswith("abi ") else "also"
@@ -53,14 +53,14 @@ def _about(result: Result) -> Iterator[Markup]:
         yield element("ul", *(element("li", named(text), kind=kind) for text in texts), kind="said")
 
 
-def _table(results: Sequence[Result]) -> Markup:
+def _table(results: Sequence[CheckResult]) -> Markup:
     """A table of results that hold."""
     rows = (row(must, named(what), together(_why(result))) for result in results
             for must, _, what in (checking_text.title(result).partition(": "),))
     return table("kinds checks", ("must be", "place", "why"), rows) if results else Markup()
 
 
-def _why(result: Result) -> Iterable[Markup]:
+def _why(result: CheckResult) -> Iterable[Markup]:
     """What is known of a result, in one cell."""
     for key, said in checking_text.about(result).items():
         texts = said if isinstance(said, str) else "; ".join(said)

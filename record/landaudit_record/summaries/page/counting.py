@@ -10,15 +10,15 @@ from operator import eq
 from pathlib import Path
 
 from ...audit.summary import Summary
-from ...engine.reading import Place, places
+from ...engine.reading import NamedSubject, places
 
 #: The last names of a path with more names are kept as one: nobody opens so many directories by hand.
 MOST_NAMES = 64
 
 
-def asked(traces: Iterable[Path]) -> Counter[Place]:
+def asked(traces: Iterable[Path]) -> Counter[NamedSubject]:
     """The number of calls of a recording about each path or port; calls that its parts write again count once."""
-    found: Counter[Place] = Counter()
+    found: Counter[NamedSubject] = Counter()
     for trace in traces:
         found.update(places(trace))
     return found
@@ -54,18 +54,18 @@ class Counts:
 
 
 @dataclass(eq=False)
-class Node:
+class CountedName:
     """A name in a directory, with the calls at or below it. A call on two paths counts once if both are below."""
 
     name: str
     counts: Counts
-    children: dict[str, Node] = field(default_factory=dict)
+    children: dict[str, CountedName] = field(default_factory=dict)
 
-    def by_weight(self) -> list[Node]:
+    def by_weight(self) -> list[CountedName]:
         """The names in the directory; those with the most refused calls come first."""
         return sorted(self.children.values(), key=lambda node: node.counts.weight, reverse=True)
 
-    def by_calls(self) -> list[Node]:
+    def by_calls(self) -> list[CountedName]:
         """The names in the directory; those with the most calls come first."""
         return sorted(self.children.values(), key=lambda node: (-node.counts.all, node.name))
 
@@ -73,9 +73,9 @@ class Node:
 class Paths:
     """The calls on paths as a tree, and the calls on ports, under some ABIs of which the newest is last."""
 
-    def __init__(self, calls: Counter[Place], summaries: Sequence[Summary]) -> None:
+    def __init__(self, calls: Counter[NamedSubject], summaries: Sequence[Summary]) -> None:
         self._abis = len(summaries)
-        self.root = Node("/", self.none())
+        self.root = CountedName("/", self.none())
         self._ports: dict[int, Counts] = {}
         for place, number in calls.items():
             verdicts = ([one.not_allowed[verdict][place] for one in summaries] for verdict in ("refused", "moot"))
@@ -100,20 +100,20 @@ class Paths:
             for node in self._way(ways[0][:both]):
                 node.counts.add(counts, -1)
 
-    def _way(self, names: Sequence[str]) -> Iterator[Node]:
+    def _way(self, names: Sequence[str]) -> Iterator[CountedName]:
         """The root, and each node on the way from there by names."""
         node = self.root
         yield node
         for name in names:
             known = node.children.get(name)
             if known is None:
-                node.children[name] = known = Node(name, self.none())
+                node.children[name] = known = CountedName(name, self.none())
             node = known
             yield node
 
     def below(self, path: str) -> Counts:
         """The calls at a path or below it."""
-        node: Node | None = self.root
+        node: CountedName | None = self.root
         for name in _names(path):
             node = None if node is None else node.children.get(name)
         return self.none() if node is None else node.counts

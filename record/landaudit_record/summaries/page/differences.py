@@ -7,7 +7,7 @@ from pathlib import Path
 
 from ...common.wording import spans
 from ...policy import differing_text
-from ...policy.differing_rows import Row
+from ...policy.differing_rows import DifferenceRow
 from ...policy.reviewing import EVERYTHING, Review
 from . import put
 from .markup import Markup, together
@@ -54,7 +54,7 @@ def _parts(review: Review) -> Iterator[Section]:
     yield Section("less", "Passes no more" if both else "Refused", _table(review.less, review))
 
 
-def _table(rows: Iterable[Row], review: Review) -> Markup:
+def _table(rows: Iterable[DifferenceRow], review: Review) -> Markup:
     """A table of differences; the layers have a column if some are named."""
     shown = []
     for one in rows:

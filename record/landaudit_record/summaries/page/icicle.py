@@ -7,7 +7,7 @@ from urllib.parse import quote
 
 from ...common.wording import counted, printable
 from .by_version import kinds
-from .counting import Counts, Node
+from .counting import CountedName, Counts
 from .markup import Markup, element, together
 from .tree import joined
 
@@ -19,7 +19,7 @@ LEAST_NAMED = 2.5
 STEPS = 5
 
 
-def icicle(abis: Sequence[int], root: Node) -> Markup:
+def icicle(abis: Sequence[int], root: CountedName) -> Markup:
     """The icicle, whose cells are links to what is in their directory."""
     cells = list(_cells(abis, root, "", 0, 0.0, 100.0))
     levels = max((level for level, _ in cells), default=0) + 1
@@ -30,7 +30,7 @@ def icicle(abis: Sequence[int], root: Node) -> Markup:
 
 
 def _cells(
-    abis: Sequence[int], node: Node, above: str, level: int, left: float, width: float
+    abis: Sequence[int], node: CountedName, above: str, level: int, left: float, width: float
 ) -> Iterator[tuple[int, Markup]]:
     """The cells of a node and of what is below it, each with its level; calls on two paths may be in two cells."""
     end, name = joined(node) if level else (node, node.name)

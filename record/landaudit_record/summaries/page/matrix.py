@@ -5,7 +5,7 @@ from __future__ import annotations
 from collections import Counter
 from collections.abc import Iterable, Iterator, Mapping, Sequence
 
-from ...audit.by_abi import Kind, Step
+from ...audit.by_abi import AbiStep, VisibleRefusal
 from ...audit.summary import Refusal, Summary
 from ...common.reach import PTRACE
 from ...common.rights import ABIS, FS, LATEST_ABI, NET, NONE, SCOPES, Rights
@@ -20,7 +20,7 @@ MOST_KINDS = 20
 PROTECTED, DROPPED, NOT_HANDLED = "\u2713", "\u25cb", "\u00b7"
 
 
-def matrix(summaries: Sequence[Summary], steps: Sequence[Step], policy: Policy | None) -> Markup:
+def matrix(summaries: Sequence[Summary], steps: Sequence[AbiStep], policy: Policy | None) -> Markup:
     """The table: a column for each ABI, which also chooses it, and a row for each right."""
     heads = (_head(step.abi) for step in steps)
     corner = element("th", "ABI", element("span", "Linux", kind="kernel"), attributes={"scope": "col"})
@@ -45,7 +45,7 @@ def _row(name: str, cells: Sequence[tuple[int, str, str]], kind: str = "") -> Ma
     return element("tr", element("th", name, attributes={"scope": "row"}), *told, kind=kind)
 
 
-def _counts(steps: Sequence[Step]) -> Iterator[Markup]:
+def _counts(steps: Sequence[AbiStep]) -> Iterator[Markup]:
     """The rows with the numbers of calls."""
     named = [("allowed", "allowed"), ("refused", "refused"), ("may be refused", UNSURE), ("not asked (moot)", "moot")]
     for title, verdict in named:
@@ -55,7 +55,7 @@ def _counts(steps: Sequence[Step]) -> Iterator[Markup]:
             yield _row(title, [(abi, f"{number:,}", bad if number else "none") for abi, number in numbers], "counts")
 
 
-def _changes(steps: Sequence[Step]) -> Iterator[Markup]:
+def _changes(steps: Sequence[AbiStep]) -> Iterator[Markup]:
     """The rows of what changes from ABI to ABI, if something does."""
     if len(steps) > 1:
         rows: list[tuple[str, list[tuple[int, str, str]]]] = [
@@ -68,7 +68,7 @@ def _changes(steps: Sequence[Step]) -> Iterator[Markup]:
                 yield _row(title, [(steps[0].abi, "", "change"), *cells], "counts")
 
 
-def _some(some: Sequence[Kind]) -> Markup:
+def _some(some: Sequence[VisibleRefusal]) -> Markup:
     """The number of some kinds, which a click opens to name the first of them."""
     if not some:
         return Markup()

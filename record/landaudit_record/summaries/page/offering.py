@@ -7,18 +7,18 @@ from collections.abc import Callable, Iterable, Iterator, Mapping, Sequence
 from dataclasses import dataclass, replace
 from functools import cached_property
 
-from ...audit.auditor import Tried
+from ...audit.auditor import TriedPolicy
 from ...audit.summary import Refusal
 from ...common.rights import FS, NET, NONE, Rights
 from ...common.trees import ROOT, Tree, directory_of, upwards
 from ...engine.answers import Closed, Gained, Kept, Missing, Objection
 from ...policy.policies import Layer
 from ...suggest import missing_rights, widening
-from ...suggest.missing_rights import OnPaths, Rule
-from ...suggest.objects import Objects
+from ...suggest.missing_rights import OnPaths, SuggestedRule
+from ...suggest.objects import CountedObjects
 from ...suggest.placing import Placing
 from ...suggest.remarks import Remark, RemarkKind
-from ..grouping import Group
+from ..grouping import RefusedGroup
 
 #: For a group that needs this many exact rules or fewer, only these are offered; for others, at most MOST_EXACT.
 FEW, MOST_EXACT = 3, 60
@@ -35,9 +35,9 @@ class Offer:
     The exact ones may be there besides the wide ones, unless they are too many. `helpless` says why there are no rules.
     """
 
-    group: Group
-    rules: Mapping[int, list[Rule]]
-    exact: Mapping[int, list[Rule]]
+    group: RefusedGroup
+    rules: Mapping[int, list[SuggestedRule]]
+    exact: Mapping[int, list[SuggestedRule]]
     helpless: str = ""
 
 
@@ -55,15 +55,15 @@ class _Lack:
 class Offering:
     """Makes offers of rules for a policy as it is tried."""
 
-    def __init__(self, tried: Tried) -> None:
+    def __init__(self, tried: TriedPolicy) -> None:
         self._tried = tried
 
     @cached_property
-    def _objects(self) -> Objects:
+    def _objects(self) -> CountedObjects:
         """The objects that rules are on, counted when a rule is wider than it needs to be."""
-        return Objects([self._tried.tree])
+        return CountedObjects([self._tried.tree])
 
-    def of(self, group: Group, abi: int) -> Offer:
+    def of(self, group: RefusedGroup, abi: int) -> Offer:
         """The rules for a group of calls that an ABI refuses."""
         refusals = [kind.refusal for kind in group.kinds]
         if any(layer.policy is None for refusal in refusals for layer in refusal.layers):
@@ -81,12 +81,12 @@ class Offering:
             return Offer(group, exact, {})
         return Offer(group, {it.layer.number: self._remarked(it, it.wide) for it in makers}, exact)
 
-    def _remarked(self, made: _Maker, paths: OnPaths) -> list[Rule]:
+    def _remarked(self, made: _Maker, paths: OnPaths) -> list[SuggestedRule]:
         """Rules with all that a reader should know of them."""
         rules = made.rules(paths, self._objects if paths is not made.exact else None)
         return [replace(rule, remarks=(*rule.remarks, *self._dangers(rule, made.layer))) for rule in rules]
 
-    def _dangers(self, rule: Rule, layer: Layer) -> Iterator[Remark]:
+    def _dangers(self, rule: SuggestedRule, layer: Layer) -> Iterator[Remark]:
         """A warning if the rule and those of the policy at its place let a program run what it writes."""
         if isinstance(rule.place, str) and rule.rights & _WRITE_AND_RUN:
             over, tree = set(upwards(rule.place)), self._tried.tree
@@ -115,7 +115,7 @@ def _place_and_rights(objection: Objection, tree: Tree) -> tuple[str | int, Righ
     return ROOT, NONE
 
 
-def _lacking(lack: _Lack) -> missing_rights.Lacking:
+def _lacking(lack: _Lack) -> missing_rights.CallsByRight:
     """The rights of one lack, with the kind of calls in the place of its calls."""
     return {right: {missing_rights.CallId(0, lack.order)} for right in lack.rights}
 
@@ -123,7 +123,7 @@ def _lacking(lack: _Lack) -> missing_rights.Lacking:
 class _Maker:
     """Makes the rules of a layer for a group of calls."""
 
-    def __init__(self, tree: Tree, layer: Layer, group: Group, lacks: Sequence[_Lack]) -> None:
+    def __init__(self, tree: Tree, layer: Layer, group: RefusedGroup, lacks: Sequence[_Lack]) -> None:
         self.layer, self.lacks = layer, lacks
         self._calls = {kind.order: kind.programs.total() for kind in group.kinds}
         names = dict.fromkeys(lack.place for lack in lacks if isinstance(lack.place, str))
@@ -149,16 +149,16 @@ class _Maker:
         directory = posixpath.commonpath(places) if places else ROOT
         return None if directory == ROOT else directory
 
-    def rules(self, paths: OnPaths, objects: Objects | None) -> list[Rule]:
+    def rules(self, paths: OnPaths, objects: CountedObjects | None) -> list[SuggestedRule]:
         """The rules on paths, with what they grant besides if objects are counted, and the rules on ports."""
-        found = [Rule(place, frozenset(rights), self._asking(rights.values()),
+        found = [SuggestedRule(place, frozenset(rights), self._asking(rights.values()),
                       () if objects is None else widening.more(place, frozenset(rights), self.exact, objects))
                  for place, rights in paths.items()]
         return missing_rights.remarked([*found, *self._on_ports()], self._spots.values())
 
-    def _on_ports(self) -> Iterator[Rule]:
+    def _on_ports(self) -> Iterator[SuggestedRule]:
         """The rules on ports."""
-        ports: dict[int, missing_rights.Lacking] = {}
+        ports: dict[int, missing_rights.CallsByRight] = {}
         for lack in self.lacks:
             if isinstance(lack.place, int):
                 missing_rights.unite(ports, {lack.place: _lacking(lack)})

@@ -15,7 +15,7 @@ from .by_version import choice, kinds, varied
 from .counting import Paths
 from .icicle import icicle
 from .markup import Markup, element, together
-from .tables import LONGEST, Row, about, named, paragraph, row, table
+from .tables import LONGEST, TableRow, about, named, paragraph, row, table
 from .tree import tree
 
 MOOT = "A call is moot if Landlock is not asked: for example, the file does not exist, or the call fails earlier."
@@ -105,7 +105,7 @@ def refused(summaries: Sequence[Summary]) -> Markup:
     return together((*told, *([each(REFUSALS, rows)] if rows else ())))
 
 
-def each(heads: Sequence[str], rows: Sequence[Row]) -> Markup:
+def each(heads: Sequence[str], rows: Sequence[TableRow]) -> Markup:
     """The kinds of refused calls one by one; a click opens them if there are many."""
     opened = {"open": ""} if len(rows) <= MOST_ROWS else {}
     kinds_of_calls = table("kinds refusals", heads, rows, once=("error", "layers", "program"))
@@ -126,7 +126,7 @@ def unsure(summaries: Sequence[Summary]) -> Markup:
     return together((paragraph(UNKNOWN), table("kinds unsure", heads, rows, once=("error", "program"))))
 
 
-def _unsure(refusal: Refusal, by_abi: dict[int, Counter[str]]) -> Row:
+def _unsure(refusal: Refusal, by_abi: dict[int, Counter[str]]) -> TableRow:
     abis = sorted(by_abi)
     times = varied(abis, [f"{by_abi[abi].total():,}" for abi in abis])
     programs = varied(abis, [_programs(by_abi[abi]) for abi in abis])
@@ -167,7 +167,7 @@ def looking() -> Markup:
                    attributes={"id": "at", "hidden": ""})
 
 
-def _refusal(refusal: Refusal, by_abi: dict[int, Counter[str]]) -> Row:
+def _refusal(refusal: Refusal, by_abi: dict[int, Counter[str]]) -> TableRow:
     """A row for one kind of refused calls, with their number at each ABI that refuses them."""
     abis = sorted(by_abi)
     times = varied(abis, [f"{by_abi[abi].total():,}" for abi in abis])
@@ -201,7 +201,7 @@ def accepted(summaries: Sequence[Summary]) -> Markup:
     return table("accepted", ("times", "call", "place", "reason"), (_accepted(*one) for one in found.items()))
 
 
-def _accepted(one: Accepted, by_abi: dict[int, int]) -> Row:
+def _accepted(one: Accepted, by_abi: dict[int, int]) -> TableRow:
     times = varied(list(by_abi), [f"{times:,}" for times in by_abi.values()])
     return row(times, one.call, about(one.subject), named(one.reason), kind=kinds(by_abi))
 

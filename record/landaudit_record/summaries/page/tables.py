@@ -15,19 +15,19 @@ SEVERAL = 2
 
 
 @dataclass(frozen=True)
-class Row:
+class TableRow:
     """A row of a table: its cells, and its classes."""
 
     cells: tuple[str, ...]
     kind: str = ""
 
 
-def row(*cells: str, kind: str = "") -> Row:
+def row(*cells: str, kind: str = "") -> TableRow:
     """A row of a table."""
-    return Row(cells, kind)
+    return TableRow(cells, kind)
 
 
-def table(kind: str, heads: Sequence[str], rows: Iterable[Row], once: Sequence[str] = ()) -> Markup:
+def table(kind: str, heads: Sequence[str], rows: Iterable[TableRow], once: Sequence[str] = ()) -> Markup:
     """A table with the names of its columns; of the columns `once`, those that are the same on every row are said
     above it."""
     each = list(rows)
@@ -42,7 +42,7 @@ def table(kind: str, heads: Sequence[str], rows: Iterable[Row], once: Sequence[s
     return together((above, shown))
 
 
-def _is_same(rows: Sequence[Row], column: int) -> bool:
+def _is_same(rows: Sequence[TableRow], column: int) -> bool:
     """Whether several rows say the same in a column."""
     return len(rows) >= SEVERAL and len({one.cells[column] for one in rows}) == 1
 

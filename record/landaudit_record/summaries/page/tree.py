@@ -9,7 +9,7 @@ from itertools import count
 
 from ...common.wording import counted
 from .by_version import varied
-from .counting import Counts, Node
+from .counting import CountedName, Counts
 from .markup import Markup, element, together
 
 #: The most rows of the tree, and how many of them are seen before a reader opens or closes any.
@@ -21,18 +21,18 @@ SEEN_ROWS = 24
 class Shape:
     """The directories with rows for their contents, and those of them whose rows are seen at first."""
 
-    listed: set[Node] = field(default_factory=set)
-    opened: set[Node] = field(default_factory=set)
+    listed: set[CountedName] = field(default_factory=set)
+    opened: set[CountedName] = field(default_factory=set)
 
 
-def tree(abis: Sequence[int], root: Node) -> Markup:
+def tree(abis: Sequence[int], root: CountedName) -> Markup:
     """The whole tree, and what its columns are."""
     names = ("at or below", "allowed", "refused", "moot")
     heads = element("div", *(element("span", name) for name in names), kind="row heads")
     return together((heads, element("ul", _row(abis, root, root.name, _shape(root)), kind="tree")))
 
 
-def _shape(root: Node) -> Shape:
+def _shape(root: CountedName) -> Shape:
     """Lists the contents of directories, those with most refusals first, until there are as many rows as allowed."""
     found, rows, seen, turn = Shape(), 1, 0, count()
     waiting = [((0, 0), next(turn), root)]
@@ -53,12 +53,12 @@ def _shape(root: Node) -> Shape:
     return found
 
 
-def _named(node: Node) -> list[Node]:
+def _named(node: CountedName) -> list[CountedName]:
     """The contents of a directory with rows of their own: directories, and names at which an ABI refuses a call."""
     return [child for child in node.by_weight() if child.children or child.counts.ever_refused]
 
 
-def joined(node: Node) -> tuple[Node, str]:
+def joined(node: CountedName) -> tuple[CountedName, str]:
     """The end of a chain of directories with only one directory in each, and the name of the chain."""
     name = node.name
     while len(node.children) == 1:
@@ -69,7 +69,7 @@ def joined(node: Node) -> tuple[Node, str]:
     return node, name
 
 
-def _row(abis: Sequence[int], node: Node, name: str, shape: Shape) -> Markup:
+def _row(abis: Sequence[int], node: CountedName, name: str, shape: Shape) -> Markup:
     """The row of a node, which contains the rows of its contents."""
     if not node.children:
         return element("li", element("div", *_cells(abis, name, node.counts), kind="row"))
@@ -79,7 +79,7 @@ def _row(abis: Sequence[int], node: Node, name: str, shape: Shape) -> Markup:
     return element("li", element("details", element("summary", *cells, kind="row"), inside, attributes=opened))
 
 
-def _inside(abis: Sequence[int], node: Node, shape: Shape) -> Iterator[Markup]:
+def _inside(abis: Sequence[int], node: CountedName, shape: Shape) -> Iterator[Markup]:
     """The rows of a directory's contents; names without a row of their own share one."""
     named = _named(node) if node in shape.listed else []
     rest = Counts(0, [0] * len(abis), [0] * len(abis))

@@ -12,7 +12,7 @@ from dataclasses import dataclass
 from functools import cached_property
 from pathlib import Path
 
-from ...audit.auditor import Tried
+from ...audit.auditor import TriedPolicy
 from ...audit.summary import Accepted, Refusal, Summary
 from ...audit.warnings import (
     MadeByRun,
@@ -25,7 +25,7 @@ from ...audit.warnings import (
     RuleUnused,
     Warned,
 )
-from ...common.findings import Finding, FindingKind, Level, Places, Position, Report
+from ...common.findings import DocumentPlaces, Finding, FindingKind, Level, Position, Report
 from ...common.numbered import Numbered
 from ...common.wording import counted, some_of, spans
 from .. import grouping, summary_text
@@ -58,7 +58,7 @@ class Audited:
     """
 
     recordings: Sequence[str]
-    tried: Tried | None
+    tried: TriedPolicy | None
     summaries: Sequence[Summary]
     no_longer: Sequence[Accepted] = ()
     suggesting: Sequence[str] = ()
@@ -86,7 +86,7 @@ class Audited:
     def part(self, warning: Warned) -> Position:
         """The part of the policy that a warning is about."""
         if isinstance(warning, (RuleRefused, RuleUnused, MadeByRun, ReplacedByRun)) and warning.rule.layer is not None:
-            places, rule = Places(self.file), warning.rule.rule
+            places, rule = DocumentPlaces(self.file), warning.rule.rule
             layer = warning.rule.layer
             return places.rule(layer, rule) if isinstance(rule, Numbered) else places.layer(layer)
         return Position(self.file)

@@ -11,7 +11,7 @@ from collections.abc import Iterator, Sequence
 from ...common.findings import Finding, FindingKind, Level, Position, Report
 from ...common.wording import counted
 from ...policy import checking_text
-from ...policy.checking import Checked, Outcome
+from ...policy.checking import Checked, CheckedCase
 from ...policy.deciding import Decision
 from ...policy.granting import Grant
 from ...policy.policies import Policy
@@ -30,26 +30,26 @@ def report(checked: Checked, policy: Policy) -> Report:
                   [_finding(one, rules) for one in checked.results])
 
 
-def _finding(result: Outcome | Decision, rules: Rules) -> Finding:
+def _finding(result: CheckedCase | Decision, rules: Rules) -> Finding:
     """A case or a question."""
     level = Level.PASSED if result.holds else Level.ERROR
-    must = "must be " if isinstance(result, Outcome) else ""
+    must = "must be " if isinstance(result, CheckedCase) else ""
     subject = must + checking_text.title(result)
     text = "" if result.holds else "; ".join(_why(result))
-    if isinstance(result, Outcome):
+    if isinstance(result, CheckedCase):
         kind = REFUSED if result.case.refused else ALLOWED
         return Finding(kind, level, subject, text, (subject,), _of_case(result, rules))
     grants = [grant for _, breaches in result.breaches for breach in breaches for grant in breach.grants]
     return Finding(NOWHERE, level, subject, text, (subject,), _granting(grants, rules))
 
 
-def _why(result: Outcome | Decision) -> Iterator[str]:
+def _why(result: CheckedCase | Decision) -> Iterator[str]:
     """What is known of a result, on one line."""
     for what, said in checking_text.about(result).items():
         yield f"{what}: {said if isinstance(said, str) else ', '.join(said)}"
 
 
-def _of_case(outcome: Outcome, rules: Rules) -> Position:
+def _of_case(outcome: CheckedCase, rules: Rules) -> Position:
     """The rule that grants a call, or the one that refuses it."""
     if outcome.passes_somewhere and (outcome.case.refused or outcome.holds):
         return _granting(outcome.grants, rules)

@@ -8,7 +8,7 @@ from __future__ import annotations
 from ...common.findings import Finding, FindingKind, Level, Position, Report
 from ...common.wording import counted, spans
 from ...policy import differing_text
-from ...policy.differing_rows import Gains, Moves, Objects, Ports, Rights, Row, What
+from ...policy.differing_rows import DifferenceRow, Gains, Moves, RightsInArea, RightsOnMoved, RightsOnPorts, What
 from ...policy.policies import Policy
 from ...policy.reviewing import Review
 from .rules import Rules
@@ -31,7 +31,7 @@ def report(review: Review, new: Policy) -> Report:
     return Report("landaudit-policy diff", about, summary, "nothing more is allowed", found)
 
 
-def _finding(row: Row, review: Review, kind: FindingKind, level: Level, spot: Position) -> Finding:
+def _finding(row: DifferenceRow, review: Review, kind: FindingKind, level: Level, spot: Position) -> Finding:
     """A difference."""
     subject, layer = differing_text.text(row.what), differing_text.refusing_layer(row.what, review)
     does = "passes" if level is Level.ERROR else "passes no more"
@@ -42,11 +42,11 @@ def _finding(row: Row, review: Review, kind: FindingKind, level: Level, spot: Po
 def _spot(what: What, rules: Rules) -> Position:
     """The rule that lets something pass; else the file."""
     match what:
-        case Rights(rights=rights, area=area):
+        case RightsInArea(rights=rights, area=area):
             found = rules.over(area.path, rights=rights)
-        case Objects(rights=rights, directories=directories, file=file) if directories or file:
+        case RightsOnMoved(rights=rights, directories=directories, file=file) if directories or file:
             found = rules.over((*directories, file or "")[0], rights=rights)
-        case Ports(rights=rights, ports=ports, every=False) if ports:
+        case RightsOnPorts(rights=rights, ports=ports, every=False) if ports:
             found = rules.on_port(ports[0], rights=rights)
         case Moves(to=(first, *_)):
             found = rules.over(first.path)

@@ -5,7 +5,7 @@ from __future__ import annotations
 from collections.abc import Callable, Collection, Iterator, Sequence
 from dataclasses import dataclass
 
-from ...common.findings import Places, Position
+from ...common.findings import DocumentPlaces, Position
 from ...common.trees import ROOT, upwards
 from ...engine.answers import Closed, Gained, Kept, Missing, Objection
 from ...policy.policies import PathRule, Policy, PortRule
@@ -17,7 +17,7 @@ def as_written(parent: str) -> str:
 
 
 @dataclass(frozen=True)
-class _On:
+class _RuleOfLayer:
     """A rule of a layer on an object or a port."""
 
     layer: int
@@ -29,8 +29,8 @@ class Rules:
     """The rules of a policy; `leads` says to which path a parent leads."""
 
     def __init__(self, policy: Policy, leads: Callable[[str], str] = as_written) -> None:
-        self.places = Places(policy.path)
-        self._by_object: dict[str | int, list[_On]] = {}
+        self.places = DocumentPlaces(policy.path)
+        self._by_object: dict[str | int, list[_RuleOfLayer]] = {}
         for one in _each(policy, leads):
             self._by_object.setdefault(one.on, []).append(one)
 
@@ -49,14 +49,14 @@ class Rules:
         return None
 
 
-def _each(policy: Policy, leads: Callable[[str], str]) -> Iterator[_On]:
+def _each(policy: Policy, leads: Callable[[str], str]) -> Iterator[_RuleOfLayer]:
     """The policy's own rules; those of groups are in no line of it."""
     for layer in policy.layers:
         for rule in layer.path_beneath:
             if rule.group is None:
-                yield from (_On(layer.number, rule, leads(parent)) for parent in rule.parents)
+                yield from (_RuleOfLayer(layer.number, rule, leads(parent)) for parent in rule.parents)
         for port_rule in layer.net_port:
-            yield from (_On(layer.number, port_rule, port) for port in port_rule.ports)
+            yield from (_RuleOfLayer(layer.number, port_rule, port) for port in port_rule.ports)
 
 
 def lacking(rules: Rules, layer: int | None, objections: Sequence[Objection]) -> Position:
