@@ -170,11 +170,6 @@ impl<'t> Case<'t> {
         ensures child { option_map (λ child. child.0) result ≡ forked_at self.now.records index }
         ensures case { IsCase self.now }
     {
-        let record = self.record(index as usize);
-        if record.op.is_fork() {
-            self.trace().starts(index)
-        } else {
-            None
-        }
+        self.trace().child_at(index)
     }
 }

@@ -18,11 +18,10 @@ fn root_job<'c>(alloc: Global, case: &'c Case<'c>, index: usize) -> Option<Job<'
     ensures root { option_map (λ job. job.process.0) result ≡ root_at case.now.records index }
     ensures of_case { IfSome result (λ job. job.case.now ≡ case.now) }
 {
-    let record = case.record(index);
-    match record.op.start() {
+    match case.trace().start(index) {
         Some((nnp, admin)) => Some(Job {
             case,
-            process: record.process,
+            process: case.record(index).process,
             own: OwnState::fresh(alloc, nnp, admin),
         }),
         None => None,

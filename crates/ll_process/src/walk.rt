@@ -109,8 +109,7 @@ pub(crate) fn answer_own(
         (λ given. given ≡ answer_at case.now.tree case.now.abi case.now.records index) }
     ensures leaves { OnOk result (Leaves case.now index process.0 own.new) }
 {
-    let record = case.record(index as usize);
-    match record.op.start() {
+    match case.trace().start(index as usize) {
         Some(_) => Ok(Answer::Allowed),
         None => judge_met(case, process, index, own),
     }

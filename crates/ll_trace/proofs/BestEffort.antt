@@ -18,7 +18,7 @@ use Rattle.ll_trace.specs.Entries.{Entry, is_start, is_exit, pid_started, is_liv
 use Rattle.ll_trace.specs.Entries as entries
 use Rattle.ll_trace.specs.Records.{entry_of, record_of, records_after, process_of}
 use Rattle.ll_trace.specs.Traces.{AreFaultless, AreRecords}
-use Rattle.ll_trace.specs.Processes.{is_starting, process_count, number_if, started_at, own_from, forked_by, parents}
+use Rattle.ll_trace.specs.Processes.{is_fork, is_starting, process_count, number_if, forked_at, own_from, forked_by, parents}
 use Rattle.ll_trace.specs.FirstPlaces.{AreFirstPlaces, first_place, paths_of}
 use Rattle.ll_trace.specs.Operations.{op_name}
 use Rattle.ll_trace.specs.BestEffort.{at_best_effort, record_at_best_effort, records_at_best_effort}
@@ -35,6 +35,7 @@ of_both says false x y what first second = second
 -- what a call is to the processes of a trace, its name, its paths, and which place it names first
 record Role : Type 0 where
   start : Bool
+  fork : Bool
   exit : Bool
   started : ℕ → Option ℕ
   starting : Bool
@@ -46,6 +47,7 @@ record Role : Type 0 where
 role : Op → Role
 role op = record {
   start = is_start op;
+  fork = is_fork op;
   exit = is_exit op;
   started = pid_started op;
   starting = is_starting op;
@@ -69,7 +71,7 @@ first_places-read tree records places are = rw are (first_places-each tree recor
 module _ (abi : Abi) where
   -- All calls whose rights best effort takes out, and what it makes of them, have one role.
   role-kept : (op : Op) → role (at_best_effort abi op) ≡ role op
-  unfolding at_best_effort role is_start is_exit pid_started is_starting forked_by op_name first_place paths_of
+  unfolding at_best_effort role is_start is_fork is_exit pid_started is_starting forked_by op_name first_place paths_of
   role-kept (calls.Create rs fs net) =
       of_both role (files.is_empty (supported_fs abi fs) && network.is_empty (supported_net abi net) && not (files.is_empty fs && network.is_empty net))
       _ _ _ refl refl
@@ -77,7 +79,7 @@ module _ (abi : Abi) where
   role-kept (calls.AddPort rs port net) = of_both role (network.is_empty (supported_net abi net) && not (network.is_empty net)) _ _ _ refl refl
   role-kept op = refl
 
-  is_start-kept : (op : Op) → is_start (at_best_effort abi op) ≡ is_start op
+  pub is_start-kept : (op : Op) → is_start (at_best_effort abi op) ≡ is_start op
   unfolding role
   is_start-kept op = ap (λ does. does.start) (role-kept op)
 
@@ -92,6 +94,10 @@ module _ (abi : Abi) where
   is_starting-kept : (op : Op) → is_starting (at_best_effort abi op) ≡ is_starting op
   unfolding role
   is_starting-kept op = ap (λ does. does.starting) (role-kept op)
+
+  is_fork-kept : (op : Op) → is_fork (at_best_effort abi op) ≡ is_fork op
+  unfolding role
+  is_fork-kept op = ap (λ does. does.fork) (role-kept op)
 
   -- ---- entries
 
@@ -199,10 +205,10 @@ module _ (abi : Abi) where
   kept_there (Some r) = Some (record_at_best_effort abi r)
 
   number-kept : (records : List Record) (k : ℕ) (r : Option Record)
-      → number_if is_starting (records_at_best_effort abi records) k (kept_there r) ≡ number_if is_starting records k r
+      → number_if is_fork (records_at_best_effort abi records) k (kept_there r) ≡ number_if is_fork records k r
   unfolding number_if kept_there
   number-kept records k None = refl
-  number-kept records k (Some r) = rw (is_starting-kept r.op, take-map (record_at_best_effort abi) k records, starting-kept (take k records)) refl
+  number-kept records k (Some r) = rw (is_fork-kept r.op, take-map (record_at_best_effort abi) k records, starting-kept (take k records)) refl
 
   pub there-kept : (records : List Record) (k : ℕ) → slice_get (records_at_best_effort abi records) k ≡ kept_there (slice_get records k)
   unfolding kept_there
@@ -210,8 +216,7 @@ module _ (abi : Abi) where
   there-kept (r ∷ rs) zero = refl
   there-kept (r ∷ rs) (suc k) = there-kept rs k
 
-  pub started-kept : (records : List Record) (k : ℕ) → started_at (records_at_best_effort abi records) k ≡ started_at records k
-  unfolding started_at
-  started-kept records k =
-      ap (number_if is_starting (records_at_best_effort abi records) k) (there-kept records k) ∙ number-kept records k (slice_get records k)
-  -- what best effort makes of a call names rights only if the call does
+  pub forked-kept : (records : List Record) (k : ℕ) → forked_at (records_at_best_effort abi records) k ≡ forked_at records k
+  unfolding forked_at
+  forked-kept records k =
+      ap (number_if is_fork (records_at_best_effort abi records) k) (there-kept records k) ∙ number-kept records k (slice_get records k)

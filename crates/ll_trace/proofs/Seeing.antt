@@ -1,20 +1,21 @@
 -- What is the same of the records of a trace under every kernel.
-use Rattle.std.proofs.Common.{◌≡◌, ◌∙◌, ℕ, List, length, refl, sym, ap, Some}
+use Rattle.std.proofs.Common.{◌≡◌, ◌∙◌, ℕ, Bool, false, List, length, refl, sym, ap, Some}
 use Rattle.std.specs.Prelude.{slice_get, option_map}
 use Rattle.std.proofs.lemmas.List.{length-map}
 use Rattle.std.proofs.lemmas.Option.{slice_get-map, same_Some}
 use Rattle.ll_rights.specs.declared.abi.Abi.{Abi}
+use Rattle.ll_trace.specs.declared.op.Op.TheVariants.{Start}
 use Rattle.ll_trace.specs.declared.op.Record.{Record}
 use Rattle.ll_trace.specs.declared.trace.Effort.{Effort}
 use Rattle.ll_trace.specs.declared.trace.Effort.TheVariants.{AsRecorded, Best}
-use Rattle.ll_trace.specs.BestEffort.{record_at_best_effort}
-use Rattle.ll_trace.specs.Processes.{process_count, parents, own_records, started_at}
+use Rattle.ll_trace.specs.BestEffort.{at_best_effort, record_at_best_effort}
+use Rattle.ll_trace.specs.Processes.{is_start, process_count, parents, own_records, forked_at}
 use Rattle.ll_tree.specs.declared.place.Place.{Place}
 use Rattle.ll_tree.specs.Trees.{Entry}
 use Rattle.ll_trace.specs.FirstPlaces.{AreFirstPlaces}
 use Rattle.ll_trace.specs.Taken.{by_effort, records_by}
 use Rattle.ll_trace.specs.Traces.{AreRecords}
-use Rattle.ll_trace.proofs.BestEffort.{are_records-kept, first_places-kept, own-kept, parents-kept, started-kept, starting-kept}
+use Rattle.ll_trace.proofs.BestEffort.{are_records-kept, first_places-kept, forked-kept, is_start-kept, own-kept, parents-kept, starting-kept}
 
 module _ (effort : Effort) (abi : Abi) (records : List Record) where
   pub as_many : length (records_by effort abi records) ≡ length records
@@ -48,11 +49,11 @@ module _ (effort : Effort) (abi : Abi) (records : List Record) where
     go AsRecorded = refl
     go Best = own-kept abi process 0 records
 
-  pub started_seen : (k : ℕ) → started_at (records_by effort abi records) k ≡ started_at records k
-  started_seen k = go effort where
-    go : (e : Effort) → started_at (records_by e abi records) k ≡ started_at records k
+  pub forked_seen : (k : ℕ) → forked_at (records_by effort abi records) k ≡ forked_at records k
+  forked_seen k = go effort where
+    go : (e : Effort) → forked_at (records_by e abi records) k ≡ forked_at records k
     go AsRecorded = refl
-    go Best = started-kept abi records k
+    go Best = forked-kept abi records k
 
   -- the record at an index
   pub op_seen : (k : ℕ) (r s : Record) → slice_get records k ≡ Some r → slice_get (records_by effort abi records) k ≡ Some s → by_effort effort abi r.op ≡ s.op
@@ -63,6 +64,23 @@ module _ (effort : Effort) (abi : Abi) (records : List Record) where
     go Best at =
         ap (λ (one : Record). one.op) (same_Some (record_at_best_effort abi r) s
         (sym (slice_get-map (record_at_best_effort abi) records k ∙ ap (option_map (record_at_best_effort abi)) here) ∙ at))
+
+  -- it is a start if it was recorded as one, and no other
+  pub start_seen : (k : ℕ) (r s : Record) (nnp admin : Bool) → slice_get records k ≡ Some r → slice_get (records_by effort abi records) k ≡ Some s
+      → r.op ≡ Start nnp admin → s.op ≡ Start nnp admin
+  unfolding by_effort at_best_effort
+  start_seen k r s nnp admin here there is = sym (op_seen k r s here there) ∙ ap (by_effort effort abi) is ∙ go effort where
+    go : (e : Effort) → by_effort e abi (Start nnp admin) ≡ Start nnp admin
+    go AsRecorded = refl
+    go Best = refl
+
+  pub no_start_seen : (k : ℕ) (r s : Record) → slice_get records k ≡ Some r → slice_get (records_by effort abi records) k ≡ Some s
+      → is_start r.op ≡ false → is_start s.op ≡ false
+  unfolding by_effort
+  no_start_seen k r s here there is = ap is_start (sym (op_seen k r s here there)) ∙ go effort ∙ is where
+    go : (e : Effort) → is_start (by_effort e abi r.op) ≡ is_start r.op
+    go AsRecorded = refl
+    go Best = is_start-kept abi r.op
 
   pub process_seen : (k : ℕ) (r s : Record) → slice_get records k ≡ Some r → slice_get (records_by effort abi records) k ≡ Some s → r.process ≡ s.process
   process_seen k r s here there = go effort there where

@@ -246,13 +246,20 @@ macro_rules! changes_without_names {
 impl Op {
     ghost use Rattle.ll_trace.specs.Entries.{is_start, is_exit, pid_started};
     ghost use Rattle.ll_trace.specs.FirstPlaces.{first_place};
-    ghost use Rattle.ll_trace.specs.Processes.{is_starting, forked_by};
+    ghost use Rattle.ll_trace.specs.Processes.{is_fork, is_starting, forked_by};
 
     #[tactic(auto, unfolding(crate::specs::Entries::is_start))]
     pub(crate) fn is_start(&self) -> bool
         ensures { result ≡ is_start self.now }
     {
         matches!(self, Op::Start { .. })
+    }
+
+    #[tactic(auto, unfolding(crate::specs::Processes::is_fork))]
+    pub(crate) fn is_fork(&self) -> bool
+        ensures { result ≡ is_fork self.now }
+    {
+        matches!(self, Op::Fork { .. })
     }
 
     #[tactic(auto, unfolding(crate::specs::Entries::is_exit))]

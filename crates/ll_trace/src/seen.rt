@@ -9,7 +9,7 @@ ghost use Rattle.ll_rights.specs.Supported.{supported_fs, supported_net};
 ghost use Rattle.ll_trace.specs.declared.op.Record.{Record as OneRecord};
 ghost use Rattle.ll_trace.specs.declared.reader.TheConstants.{MOST_PROCESSES, MOST_RECORDS};
 ghost use Rattle.ll_trace.specs.BestEffort.{adds_path, adds_port, at_best_effort, creates};
-ghost use Rattle.ll_trace.specs.Processes.{is_fork, process_count, parent_of, own_records, started_at};
+ghost use Rattle.ll_trace.specs.Processes.{is_fork, process_count, parent_of, own_records, forked_at};
 ghost use Rattle.ll_trace.specs.Borrowed.{IsTold, meant};
 ghost use Rattle.ll_trace.specs.Taken.{records_taken, taken};
 ghost use Rattle.ll_trace.specs.Traces.{AreRecords};
@@ -193,7 +193,7 @@ impl<'t> Seen<'t> {
         ensures { result ≡ is_fork self.now }
     {
         match self.call {
-            Call::Other(op) => matches!(op, Op::Fork { .. }),
+            Call::Other(op) => op.is_fork(),
             Call::Create { .. }
             | Call::CreateEmpty { .. }
             | Call::AddPath { .. }
@@ -216,23 +216,6 @@ impl<'t> Seen<'t> {
             | Call::AddPort { .. }
             | Call::LeaveOutPath { .. }
             | Call::LeaveOutPort => false,
-        }
-    }
-
-    /// The flags of the process that it starts, if it is a start.
-    #[tactic(auto, unfolding(crate::specs::Borrowed::meant, crate::specs::Borrowed::is_of_rights, crate::specs::Entries::is_start))]
-    pub fn start(&self) -> Option<(bool, bool)>
-        ensures some { IfSome result (λ flags. self.now ≡ Operation.Start flags.0 flags.1) }
-        ensures none { IfNone result (is_start self.now ≡ false) }
-    {
-        match self.call {
-            Call::Other(op) => started(op),
-            Call::Create { .. }
-            | Call::CreateEmpty { .. }
-            | Call::AddPath { .. }
-            | Call::AddPort { .. }
-            | Call::LeaveOutPath { .. }
-            | Call::LeaveOutPort => None,
         }
     }
 }
@@ -321,6 +304,19 @@ impl<'t> TakenTrace<'t> {
         }
     }
 
+    /// The flags of the process that the record at an index begins, if it is a start, as it then is under every kernel.
+    pub fn start(&self, index: usize) -> Option<(bool, bool)>
+        requires { index < length self.now }
+        ensures some { IfSome result (λ flags. (r : OneRecord) → slice_get self.now index ≡ Some r
+            → r.op ≡ Operation.Start flags.0 flags.1) }
+        ensures none { IfNone result ((r : OneRecord) → slice_get self.now index ≡ Some r
+            → is_start r.op ≡ false) }
+    {
+        let trace = self.trace;
+        let record = &trace.records()[index];
+        started(&record.op)
+    }
+
     /// The number of processes.
     pub fn processes(&self) -> u32
         ensures count { result ≡ process_count self.now }
@@ -350,11 +346,17 @@ impl<'t> TakenTrace<'t> {
         trace.records_of(process)
     }
 
-    /// The process that the record at an index starts.
-    pub fn starts(&self, index: u32) -> Option<ProcessId>
-        ensures { option_map (λ process. process.0) result ≡ started_at self.now index }
+    /// The child that the record at an index forks, if it forks one, as it then does under every kernel.
+    pub fn child_at(&self, index: u32) -> Option<ProcessId>
+        requires { index < length self.now }
+        ensures { option_map (λ child. child.0) result ≡ forked_at self.now index }
     {
         let trace = self.trace;
-        trace.starts(index)
+        let record = &trace.records()[index as usize];
+        if record.op.is_fork() {
+            trace.starts(index)
+        } else {
+            None
+        }
     }
 }
