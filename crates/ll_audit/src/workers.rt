@@ -8,7 +8,7 @@ ghost use Rattle.ll_audit.specs.Causes.{IsOutOfMemoryOrThreads};
 ghost use Rattle.ll_audit.specs.Audits.{IsWorkerCount};
 
 use crate::fault::Fault;
-use ll_pool::{Gate, collect_whole, run};
+use ll_pool::{Gate, assemble, run};
 use ll_process::{Answer, Case, Settled};
 use ll_trace::{Located, ProcessId, Trace};
 use ll_tree::Tree;
@@ -48,7 +48,7 @@ impl<'a, R: Threads + Wait + Sync, G: Gate + Sync> Workers<'a, R, G> {
     {
         let count = self.count as usize;
         let pieces = run(self.rt, self.alloc, case, count, cuts, self.gate)?;
-        Ok(collect_whole(self.alloc, case, pieces)?)
+        Ok(assemble(self.alloc, case, pieces)?)
     }
 }
 

@@ -1,11 +1,12 @@
 //! The stages of an audit, measured one after another.
 
-ghost use Rattle.std.specs.Prelude.{◌≤◌, IfOk};
-ghost use Rattle.ll_pool.specs.Gathered.{ArePiecesOf};
+ghost use Rattle.std.specs.Prelude.{◌≡◌, ◌≤◌, ◌<◌, ℕ, IfOk};
+ghost use Rattle.ll_trace.specs.Processes.{process_count, times};
+ghost use Rattle.ll_pool.specs.Gathered.{ArePiecesOf, processes_in};
 
 use crate::stopwatch::Stopwatch;
 use anyhow::{Context, Result};
-use ll_pool::{Gate, collect, run};
+use ll_pool::{Gate, assemble, run};
 use ll_process::{Case, Piece, Settled};
 use ll_rights::Abi;
 use ll_trace::{Effort, Kernel, Located, ProcessId, Trace};
@@ -143,7 +144,7 @@ fn collecting<'c, R: Clock + Files + Print + AllocGlobal + Threads + Wait + Sync
 ) -> Result<()> {
     let pieces = pieces_by(rt, case, 1)?;
     watch.restart()?;
-    let answers = collect(rt.alloc(), case, pieces)
+    let answers = assemble(rt.alloc(), case, pieces)
         .ok()
         .context("collecting")?;
     watch.lap("collect the pieces")?;
@@ -166,7 +167,10 @@ fn pieces_by<'c, R: AllocGlobal + Threads + Wait + Sync>(
     workers: usize,
 ) -> Result<Vec<Piece<'c>>>
     requires { (1 ≤ workers) × (workers ≤ 64) }
-    ensures { IfOk result (λ pieces. ArePiecesOf case.now pieces.items) }
+    ensures of_case { IfOk result (λ pieces. ArePiecesOf case.now pieces.items) }
+    ensures each_once { IfOk result (λ pieces. (process : ℕ)
+        → process < process_count case.now.records
+        → times process (processes_in pieces.items) ≡ 1) }
 {
     let cut = vec![in rt.alloc(); true; case.trace().processes() as usize]?;
     run(rt, rt.alloc(), case, workers, &cut, &Open)

@@ -1,7 +1,6 @@
 mod RuleSteps
 mod Accounting
 mod AllOnce
-pub mod Counts
 pub mod PuttingAnswers
 pub mod Answering
 pub mod Sharing

@@ -5,7 +5,7 @@ ghost use Rattle.ll_semantics.specs.Worlds.{judged};
 ghost use Rattle.ll_trace.specs.Processes.{kids, roots, IsNumbered};
 ghost use Rattle.ll_pool.specs.Gathered.{ArePiecesOf, processes_in};
 
-use crate::gather::{collect_whole, keep};
+use crate::gather::{assemble, keep};
 use crate::hand::EmptyHand;
 use ll_process::{Answer, Case, Piece, judge};
 use ll_rules::NoMemory;
@@ -36,5 +36,5 @@ pub fn judge_alone<'c>(alloc: Global, case: &'c Case<'c>) -> Result<Vec<Answer>,
     ensures { IfOk result (λ answers. answers.items
         ≡ judged case.now.tree case.now.abi case.now.records) }
 {
-    collect_whole(alloc, case, pieces_of(alloc, case)?)
+    Ok(assemble(alloc, case, pieces_of(alloc, case)?)?)
 }

@@ -1,4 +1,4 @@
-//! Judging all processes of a case, on one thread or by workers, and collecting the answers.
+//! Judging all processes of a case, on one thread or by workers, and putting the answers in order.
 #![tactic(auto)]
 
 mod alone;
@@ -9,7 +9,7 @@ mod running;
 mod workers;
 
 pub use alone::judge_alone;
-pub use gather::{CollectFault, collect, collect_whole};
+pub use gather::assemble;
 pub use hand::Gate;
 pub use running::run;
 pub use workers::PoolFault;

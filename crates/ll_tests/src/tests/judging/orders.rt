@@ -4,7 +4,7 @@ use crate::keeper::Wanted;
 use crate::order::judge_greatest_first;
 use crate::tests::judging::worked::{FAMILY_ANSWERS, Forks, ground_of, ground_with, judge_told};
 use ll_fixtures::FAMILY;
-use ll_pool::collect;
+use ll_pool::assemble;
 use ll_process::{Answer, Case};
 use ll_trace::ProcessId;
 use std::alloc::Global;
@@ -61,7 +61,7 @@ fn the_greatest_process_is_judged_first(rt: HostRuntime) -> Result<(), Fail> {
 fn allowed_in<'c>(alloc: Global, case: &'c Case<'c>) -> Result<[usize; 2], Fail> {
     let pieces = judge_greatest_first(alloc, case, Wanted::Nothing)?;
     let count = pieces.len();
-    let answers = collect(alloc, case, pieces)?;
+    let answers = assemble(alloc, case, pieces)?;
     let allowed = answers
         .iter()
         .filter(|answer| **answer == Answer::Allowed)

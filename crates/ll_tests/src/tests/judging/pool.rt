@@ -1,8 +1,9 @@
 //! What no clause of the pool says: that workers run at once, who judges what, and that calls succeed where memory and
 //! threads are there.
 
-ghost use Rattle.std.specs.Prelude.{IfOk};
-ghost use Rattle.ll_pool.specs.Gathered.{ArePiecesOf};
+ghost use Rattle.std.specs.Prelude.{◌≡◌, ◌<◌, ℕ, IfOk};
+ghost use Rattle.ll_trace.specs.Processes.{process_count, times};
+ghost use Rattle.ll_pool.specs.Gathered.{ArePiecesOf, processes_in};
 
 use crate::tests::gates::Meeting;
 use crate::tests::judging::worked::{
@@ -10,9 +11,8 @@ use crate::tests::judging::worked::{
 };
 use ll_audit::Idle;
 use ll_fixtures::FAMILY;
-use ll_pool::{CollectFault, collect, judge_alone, run};
+use ll_pool::{assemble, judge_alone, run};
 use ll_process::{Answer, Case, Piece};
-use ll_trace::ProcessId;
 use std::alloc::Global;
 use std::process::Abort;
 use std::sync::Wait;
@@ -27,7 +27,10 @@ fn made<'c, R: Threads + Wait + Sync>(
     workers: usize,
     cut: &[bool],
 ) -> Result<Vec<Piece<'c>>, Fail>
-    ensures { IfOk result (λ pieces. ArePiecesOf case.now pieces.items) }
+    ensures of_case { IfOk result (λ pieces. ArePiecesOf case.now pieces.items) }
+    ensures each_once { IfOk result (λ pieces. (process : ℕ)
+        → process < process_count case.now.records
+        → times process (processes_in pieces.items) ≡ 1) }
 {
     Ok(run(rt, alloc, case, workers.max(1).min(64), cut, &Idle)?)
 }
@@ -52,7 +55,7 @@ fn collected<'c, R: Threads + Wait + Sync>(
     cut: &[bool],
 ) -> Result<Vec<Answer>, Fail> {
     let pieces = made(rt, alloc, case, workers, cut)?;
-    Ok(collect(alloc, case, pieces)?)
+    Ok(assemble(alloc, case, pieces)?)
 }
 
 /// How many of the pieces have this many processes.
@@ -134,47 +137,6 @@ fn pieces_by_one<R: Threads + Wait + Sync>(rt: &R, alloc: Global) -> Result<[usi
 #[test]
 fn one_worker_makes_one_piece_of_the_whole_family(rt: HostRuntime) -> Result<(), Fail> {
     assert_eq!(rt; pieces_by_one(&rt, rt.alloc())?, [1, 1]);
-    Ok(())
-}
-
-/// The fault of no piece at all.
-fn fault_of_none(alloc: Global) -> Result<Option<CollectFault>, Fail> {
-    let ground = ground_of(alloc, FAMILY.as_bytes())?;
-    Ok(collect(alloc, &ground.case(), Vec::new(alloc)).err())
-}
-
-#[test]
-fn without_a_piece_the_first_process_is_missing(rt: HostRuntime) -> Result<(), Fail> {
-    let fault = fault_of_none(rt.alloc())?;
-    assert_eq!(rt; fault, Some(CollectFault::Missing(ProcessId(0))));
-    Ok(())
-}
-
-/// The fault of the pieces that one worker makes, and makes again.
-fn fault_of_twice<'c, R: Threads + Wait + Sync>(
-    rt: &R,
-    alloc: Global,
-    case: &'c Case<'c>,
-) -> Result<Option<CollectFault>, Fail> {
-    let mut pieces = made(rt, alloc, case, 1, &[])?;
-    let mut again = made(rt, alloc, case, 1, &[])?;
-    pieces.append(&mut again)?;
-    Ok(collect(alloc, case, pieces).err())
-}
-
-/// The fault of the family's piece, made twice.
-fn fault_of_family<R: Threads + Wait + Sync>(
-    rt: &R,
-    alloc: Global,
-) -> Result<Option<CollectFault>, Fail> {
-    let ground = ground_of(alloc, FAMILY.as_bytes())?;
-    fault_of_twice(rt, alloc, &ground.case())
-}
-
-#[test]
-fn a_piece_made_twice_doubles_the_first_process(rt: HostRuntime) -> Result<(), Fail> {
-    let fault = fault_of_family(&rt, rt.alloc())?;
-    assert_eq!(rt; fault, Some(CollectFault::Double(ProcessId(0))));
     Ok(())
 }
 

@@ -2,21 +2,22 @@
 //! ample memory or says that it has none, what it was lent is as it was, and a second call does what the
 //! first was to do. A helper that meets the refusal tries again.
 
-ghost use Rattle.std.specs.Prelude.{IfOk};
+ghost use Rattle.std.specs.Prelude.{◌≡◌, ◌<◌, ℕ, IfOk};
 ghost use Rattle.ll_process.specs.Jobs.{AreJobsOf};
-ghost use Rattle.ll_pool.specs.Gathered.{ArePiecesOf};
+ghost use Rattle.ll_trace.specs.Processes.{process_count, times};
+ghost use Rattle.ll_pool.specs.Gathered.{ArePiecesOf, processes_in};
 
 use crate::ground::Ground;
 use crate::keeper::{Keeper, Wanted};
 use crate::order::judge_greatest_first;
 use crate::tests::judging::worked::{V4, expect_answers, is_told, worked_ground};
 use ll_fixtures::TREE;
-use ll_pool::{CollectFault, collect, judge_alone};
+use ll_pool::{assemble, judge_alone};
 use ll_process::{Answer, Case, Job, Piece, judge};
 use ll_rules::NoMemory;
 use ll_trace::{Located, ProcessId, Trace};
 use ll_tree::Tree;
-use std::alloc::Global;
+use std::alloc::{AllocError, Global};
 use std::process::Abort;
 use std::test::Fail;
 
@@ -96,7 +97,10 @@ fn roots_again<'c>(alloc: Global, case: &'c Case<'c>) -> Result<Vec<Job<'c>>, Fa
 }
 
 fn pieces_again<'c>(alloc: Global, case: &'c Case<'c>) -> Result<Vec<Piece<'c>>, Fail>
-    ensures { IfOk result (λ pieces. ArePiecesOf case.now pieces.items) }
+    ensures of_case { IfOk result (λ pieces. ArePiecesOf case.now pieces.items) }
+    ensures each_once { IfOk result (λ pieces. (process : ℕ)
+        → process < process_count case.now.records
+        → times process (processes_in pieces.items) ≡ 1) }
 {
     match judge_greatest_first(alloc, case, Wanted::Even) {
         Ok(pieces) => Ok(pieces),
@@ -251,41 +255,36 @@ fn judge_without_memory(rt: HostRuntime) -> Result<(), Fail> {
     expect_judged(&rt, rt.alloc(), &ground.case())
 }
 
-fn collected_again<'c>(
-    rt: &impl Abort,
-    alloc: Global,
-    case: &'c Case<'c>,
-) -> Result<Vec<Answer>, Fail> {
+fn assembled_again<'c>(alloc: Global, case: &'c Case<'c>) -> Result<Vec<Answer>, Fail> {
     let pieces = pieces_again(alloc, case)?;
-    match collect(alloc, case, pieces) {
+    match assemble(alloc, case, pieces) {
         Ok(answers) => Ok(answers),
-        Err(fault) => {
-            assert_eq!(rt; fault, CollectFault::Memory);
+        Err(AllocError) => {
             let pieces = pieces_again(alloc, case)?;
-            Ok(collect(alloc, case, pieces)?)
+            Ok(assemble(alloc, case, pieces)?)
         }
     }
 }
 
-/// The answers are collected.
-fn expect_collected<'c>(rt: &impl Abort, alloc: Global, case: &'c Case<'c>) -> Result<(), Fail> {
-    let answers = collected_again(rt, alloc, case)?;
+/// The answers are put in order.
+fn expect_assembled<'c>(rt: &impl Abort, alloc: Global, case: &'c Case<'c>) -> Result<(), Fail> {
+    let answers = assembled_again(alloc, case)?;
     expect_answers(rt, &answers, ANSWERS);
     Ok(())
 }
 
 /// They are, and the case is judged as before.
-fn expect_collected_alike<'c>(
+fn expect_assembled_alike<'c>(
     rt: &impl Abort,
     alloc: Global,
     case: &'c Case<'c>,
 ) -> Result<(), Fail> {
-    expect_collected(rt, alloc, case)?;
+    expect_assembled(rt, alloc, case)?;
     expect_unchanged(rt, alloc, case)
 }
 
 #[test]
-fn collect_without_memory(rt: HostRuntime) -> Result<(), Fail> {
+fn assemble_without_memory(rt: HostRuntime) -> Result<(), Fail> {
     let ground = ground_again(rt.alloc())?;
-    expect_collected_alike(&rt, rt.alloc(), &ground.case())
+    expect_assembled_alike(&rt, rt.alloc(), &ground.case())
 }

@@ -4,7 +4,7 @@ use crate::ground::Ground;
 use crate::keeper::Wanted;
 use crate::order::judge_greatest_first;
 use ll_fixtures::TREE;
-use ll_pool::collect;
+use ll_pool::assemble;
 use ll_process::{Answer, Case};
 use ll_rights::Abi;
 use ll_rules::{Errno, LayerSet};
@@ -144,7 +144,7 @@ pub(crate) fn judge_told(
 ) -> Result<usize, Fail> {
     let pieces = judge_greatest_first(rt.alloc(), case, wanted)?;
     let count = pieces.len();
-    let answers = collect(rt.alloc(), case, pieces)?;
+    let answers = assemble(rt.alloc(), case, pieces)?;
     expect_answers(rt, &answers, told);
     Ok(count)
 }
