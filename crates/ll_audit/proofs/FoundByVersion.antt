@@ -1,9 +1,12 @@
 -- What a report says by the tree and the records of the trace is what is found of the records as each version takes them.
-use Rattle.std.proofs.Common.{◌≡◌, List, [], ◌∷◌, ap, ap₂, map, refl}
+use Rattle.std.proofs.Common.{◌≡◌, Bool, List, [], ◌∷◌, ap, ap₂, map, refl}
+use Rattle.std.proofs.lemmas.List.Elements.{All-cons, All-nil}
 use Rattle.ll_rights.specs.declared.abi.Abi.{Abi}
 use Rattle.ll_tree.specs.Trees.{Entry}
 use Rattle.ll_trace.specs.declared.op.Record.{Record}
 use Rattle.ll_findings.specs.Findings.{FindingValue}
+use Rattle.ll_findings.specs.InTree.{AreFindingsIn, IsFindingIn}
+use Rattle.ll_findings.proofs.NodesOfTree.{finding_inside}
 use Rattle.ll_report.specs.Found.{Found}
 use Rattle.ll_report.specs.Versions.{founds_in}
 use Rattle.ll_report.proofs.FoundJudged.{found_as_judged}
@@ -33,3 +36,13 @@ module _ (options : Options) (tree : List Entry) (records : List Record) where
   -- what is found under the versions that are asked for
   pub found_each : found_of options.shown tree (versions_by options records) ≡ findings options tree records
   found_each = found_by (versions_in options.abis)
+
+-- what is found under each version names nodes of the tree
+pub founds_inside : (explains : Bool) (tree : List Entry) (trace : List Record) (versions : List Version) (findings : List FindingValue)
+    → AreFound explains tree trace versions findings → AreFindingsIn tree findings
+founds_inside explains tree trace [] [] are = All-nil (IsFindingIn tree)
+founds_inside explains tree trace [] (finding ∷ others) are = absurd are
+founds_inside explains tree trace (version ∷ newer) [] are = absurd are
+founds_inside explains tree trace (version ∷ newer) (finding ∷ others) are =
+    All-cons (IsFindingIn tree) finding others (finding_inside tree explains version.abi version.records finding are.0.finds)
+    (founds_inside explains tree trace newer others are.1)

@@ -13,7 +13,7 @@ ghost use Rattle.ll_audit.specs.Causes.{IsTraceFault, IsTreeFault, IsOutOfMemory
 use crate::cut::{Cut, cuts_of};
 use crate::fault::Fault;
 use crate::inputs::Inputs;
-use crate::ranging::{Audit, Audited};
+use crate::ranging::{Audit, audit_all, report_in_json, report_in_text};
 use crate::report_text::{Form, ReportText};
 use crate::workers::Workers;
 use ll_lines::ReadFault;
@@ -211,8 +211,8 @@ fn text_by<R: Threads + Wait + Sync, G: Gate + Sync>(
     ensures report { IfOk result (IsTextReport audit.now.options.now tree trace) }
     ensures fault { IfErr result IsOutOfMemoryOrThreads }
 {
-    let all = Audited::of(audit, tree, trace)?;
-    let report = all.into_text(audit.workers.alloc, audit.options)?;
+    let all = audit_all(audit, tree, trace)?;
+    let report = report_in_text(all, audit.workers.alloc, audit.options)?;
     Ok(ReportText::new(Form::Text(report)))
 }
 
@@ -226,7 +226,7 @@ fn json_by<R: Threads + Wait + Sync, G: Gate + Sync>(
     ensures report { IfOk result (IsReportInJson audit.now.options.now tree trace) }
     ensures fault { IfErr result IsOutOfMemoryOrThreads }
 {
-    let all = Audited::of(audit, tree, trace)?;
-    let report = all.into_json(audit.workers.alloc, audit.options)?;
+    let all = audit_all(audit, tree, trace)?;
+    let report = report_in_json(all, audit.workers.alloc, audit.options)?;
     Ok(ReportText::new(Form::Json(report)))
 }

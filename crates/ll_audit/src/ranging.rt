@@ -20,7 +20,7 @@ use ll_command::VERSION;
 use ll_findings::Findings;
 use ll_json::{JsonRows, json_report};
 use ll_pool::Gate;
-use ll_report::{Options, RowReport, VersionRows, report_over};
+use ll_report::{Audited, Options, RowReport, VersionRows, report_over};
 use ll_rights::Abi;
 use ll_trace::{Kernel, Located, Trace};
 use ll_tree::Tree;
@@ -47,14 +47,6 @@ impl<'a, R, G> Audit<'a, R, G> {
             effort: self.options.effort,
         }
     }
-}
-
-/// A tree and a trace, and what was found of them under some versions. Where the trace's paths lead is looked up once
-/// for all versions.
-#[derive(Drop)]
-pub(crate) struct Audited {
-    pub(crate) located: Located,
-    pub(crate) findings: Findings,
 }
 
 /// How far an audit under several versions is, the newest first.
@@ -142,71 +134,59 @@ fn found_in<R: Threads + Wait + Sync, G: Gate + Sync>(
     progress.finish(audit)
 }
 
-impl Audited {
-    /// Audits a tree and a trace under all versions that are asked for.
-    pub(crate) fn of<R: Threads + Wait + Sync, G: Gate + Sync>(
-        audit: &Audit<'_, R, G>,
-        tree: Tree,
-        trace: Trace,
-    ) -> Result<Audited, Fault>
-        requires { IsWorkerCount audit.now.workers.now.count }
-        ensures tree { IfOk result (λ all. all.located.tree ≡ tree) }
-        ensures trace { IfOk result (λ all. all.located.trace ≡ trace) }
-        ensures findings { IfOk result
-            (λ all. AreFound audit.now.options.now.shown.explanations tree trace
-            (versions_by audit.now.options.now trace) all.findings) }
-        ensures few { IfOk result (λ all. number_of audit.now.options.now.abis.oldest
-            + length all.findings < 2 ^ 64) }
-        ensures fault { IfErr result IsOutOfMemoryOrThreads }
-    {
-        let located = audit.workers.located(tree, trace)?;
-        let findings = found_in(audit, &located)?;
-        Ok(Audited { located, findings })
-    }
+/// Audits a tree and a trace under all versions that are asked for.
+#[tactic(auto, using(crate::proofs::FoundByVersion::founds_inside))]
+pub(crate) fn audit_all<R: Threads + Wait + Sync, G: Gate + Sync>(
+    audit: &Audit<'_, R, G>,
+    tree: Tree,
+    trace: Trace,
+) -> Result<Audited, Fault>
+    requires { IsWorkerCount audit.now.workers.now.count }
+    ensures tree { IfOk result (λ all. all.located.tree ≡ tree) }
+    ensures trace { IfOk result (λ all. all.located.trace ≡ trace) }
+    ensures findings { IfOk result
+        (λ all. AreFound audit.now.options.now.shown.explanations tree trace
+        (versions_by audit.now.options.now trace) all.findings) }
+    ensures few { IfOk result (λ all. number_of audit.now.options.now.abis.oldest
+        + length all.findings < 2 ^ 64) }
+    ensures fault { IfErr result IsOutOfMemoryOrThreads }
+{
+    let located = audit.workers.located(tree, trace)?;
+    let findings = found_in(audit, &located)?;
+    Ok(Audited { located, findings })
 }
 
-impl Audited {
-    /// The report as text over the versions that the options ask for.
-    pub(crate) fn into_text(
-        self,
-        alloc: Global,
-        options: &Options,
-    ) -> Result<RowReport<VersionRows>, AllocError>
-        requires { number_of options.now.abis.oldest + length self.findings < 2 ^ 64 }
-        ensures text { IfOk result (λ report. report.text ≡ rows_text options.now.shown
-            (number_of options.now.abis.oldest) (founds_in options.now.shown.explanations
-            self.located.tree self.located.trace self.findings) self.located.trace) }
-        ensures refused { IfOk result (λ report. report.refused
-            ≡ refused_under_some (founds_in options.now.shown.explanations
-            self.located.tree self.located.trace self.findings) self.located.trace) }
-    {
-        let Audited { located, findings } = self;
-        let oldest = options.abis.oldest();
-        report_over(alloc, located, findings, options.shown, oldest.number())
-    }
+/// The report as text over the versions that the options ask for.
+pub(crate) fn report_in_text(
+    audited: Audited,
+    alloc: Global,
+    options: &Options,
+) -> Result<RowReport<VersionRows>, AllocError>
+    requires { number_of options.now.abis.oldest + length audited.findings < 2 ^ 64 }
+    ensures text { IfOk result (λ report. report.text ≡ rows_text options.now.shown
+        (number_of options.now.abis.oldest) (founds_in options.now.shown.explanations
+        audited.located.tree audited.located.trace audited.findings) audited.located.trace) }
+    ensures refused { IfOk result (λ report. report.refused
+        ≡ refused_under_some (founds_in options.now.shown.explanations
+        audited.located.tree audited.located.trace audited.findings) audited.located.trace) }
+{
+    let oldest = options.abis.oldest();
+    report_over(alloc, audited, options.shown, oldest.number())
+}
 
-    /// The report as JSON over the versions that the options ask for.
-    pub(crate) fn into_json(
-        self,
-        alloc: Global,
-        options: &Options,
-    ) -> Result<RowReport<JsonRows<'static>>, AllocError>
-        requires { number_of options.now.abis.oldest + length self.findings < 2 ^ 64 }
-        ensures { IfOk result (λ report. (versions : List Version)
-            → AreFound options.now.shown.explanations self.located.tree self.located.trace
-            versions self.findings
-            → IsJsonReport options.now.shown self.located.tree (number_of options.now.abis.oldest)
-            versions self.located.trace VERSION.now report) }
-    {
-        let Audited { located, findings } = self;
-        let oldest = options.abis.oldest();
-        json_report(
-            alloc,
-            located,
-            findings,
-            options.shown,
-            oldest.number(),
-            VERSION,
-        )
-    }
+/// The report as JSON over the versions that the options ask for.
+pub(crate) fn report_in_json(
+    audited: Audited,
+    alloc: Global,
+    options: &Options,
+) -> Result<RowReport<JsonRows<'static>>, AllocError>
+    requires { number_of options.now.abis.oldest + length audited.findings < 2 ^ 64 }
+    ensures { IfOk result (λ report. (versions : List Version)
+        → AreFound options.now.shown.explanations audited.located.tree audited.located.trace
+        versions audited.findings
+        → IsJsonReport options.now.shown audited.located.tree (number_of options.now.abis.oldest)
+        versions audited.located.trace VERSION.now report) }
+{
+    let oldest = options.abis.oldest();
+    json_report(alloc, audited, options.shown, oldest.number(), VERSION)
 }

@@ -2,7 +2,6 @@ pub mod PlainTexts
 pub mod Buffering
 pub mod Listing
 pub mod Appending
-pub mod NodeTexts
 pub mod LinesSaid
 pub mod PathsSpelt
 pub mod ConditionsSaid

@@ -1,7 +1,8 @@
 //! The text of explanations as values, and of what is found.
 
 ghost use Rattle.std.specs.Prelude.{◌≡◌};
-ghost use Rattle.ll_explanations.specs.Meanings.{condition_in};
+ghost use Rattle.ll_explanations.specs.{InTree.IsExplanationIn, Meanings.condition_in};
+ghost use Rattle.ll_findings.specs.{Findings.kept_at, InTree.IsKeptIn};
 ghost use Rattle.ll_reasons.specs.Meant.{reason_in};
 ghost use Rattle.ll_explain.specs.Buffers.{adding};
 ghost use Rattle.ll_explain.specs.Told.{text_told, value_text};
@@ -49,6 +50,7 @@ pub fn push_value(
     op: &Op,
     explanation: &Explanation,
 )
+    requires { IsExplanationIn tree.now explanation.now }
     ensures { text.new
         ≡ adding text.old (value_text tree.now records.now op.now explanation.now) }
 {
@@ -64,7 +66,7 @@ pub fn push_value(
 
 /// Adds the explanation of the record at an index under a version, if there is one. The records are those of the case,
 /// or as an older version takes them.
-#[tactic(auto, using(crate::proofs::Buffering::adding_nothing))]
+#[tactic(auto, using(crate::proofs::Buffering::adding_nothing, ll_findings::proofs::NodesOfTree::said_inside))]
 pub fn push_found(
     text: &mut TextBuffer,
     tree: &Tree,
@@ -72,6 +74,7 @@ pub fn push_found(
     finding: &Finding,
     index: usize,
 )
+    requires { IsKeptIn tree.now (kept_at finding.now index) }
     ensures { text.new ≡ adding text.old (text_told tree.now records.now finding.now index) }
 {
     match finding.explained(records, index) {

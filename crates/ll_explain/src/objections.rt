@@ -2,9 +2,9 @@
 
 ghost use Rattle.std.specs.Prelude.{◌≡◌, ◌++◌, codes, decimal, option_and_then, slice_get};
 ghost use Rattle.json.specs.Print.{escape};
-ghost use Rattle.ll_lines.specs.Paths.{text_of};
 ghost use Rattle.ll_rights.specs.{CodeRights.fs_right, Rights.name_of};
-ghost use Rattle.ll_tree.specs.Trees.{path_at};
+ghost use Rattle.ll_tree.specs.Trees.{IsNode, path_at};
+ghost use Rattle.ll_explanations.specs.InTree.{AreObjectionsIn, IsObjectionIn};
 ghost use Rattle.ll_explanations.specs.Meanings.{objection_in, port_rights_in, rights_in};
 ghost use Rattle.ll_explain.specs.Buffers.{adding};
 ghost use Rattle.ll_explain.specs.Lines.{ending, head_of, lines_from, opening};
@@ -18,29 +18,19 @@ use ll_rights::{Fs, FsRight, Net};
 use ll_trace::{Op, Record};
 use ll_tree::{NodeId, Tree};
 
-/// The text of a node's path, and the root's for what is no node of the tree.
-#[tactic(auto, using(crate::proofs::NodeTexts::text_outside))]
-pub fn text_at(tree: &Tree, node: NodeId) -> &str
-    ensures { result.now ≡ text_of (path_at tree.now node) }
-{
-    if node.index() < tree.nodes() {
-        tree.text(node)
-    } else {
-        "/"
-    }
-}
-
 /// Adds the path of a node.
 #[tactic(auto, unfolding(crate::specs::Words::path_text))]
 fn push_node(text: &mut TextBuffer, tree: &Tree, node: NodeId)
+    requires { IsNode tree.now node }
     ensures { text.new ≡ adding text.old (path_text (path_at tree.now node)) }
 {
-    push_escaped(text, text_at(tree, node))
+    push_escaped(text, tree.text(node))
 }
 
 /// Adds names of rights, and the node on which they are missing.
 #[tactic(auto, using(crate::proofs::Appending::appended_3))]
 fn push_missing(text: &mut TextBuffer, tree: &Tree, rights: Fs, node: NodeId)
+    requires { IsNode tree.now node }
     ensures { text.new ≡ adding text.old
         (rights_text (rights_in rights) ++ codes " on " ++ path_text (path_at tree.now node)) }
 {
@@ -62,6 +52,8 @@ fn push_closed(text: &mut TextBuffer, rights: Net, port: u16)
 
 /// Says which rights an object would gain in a directory.
 fn push_gained(text: &mut TextBuffer, tree: &Tree, object: NodeId, rights: Fs, directory: NodeId)
+    requires object { IsNode tree.now object }
+    requires directory { IsNode tree.now directory }
     ensures { text.new ≡ adding text.old (path_text (path_at tree.now object) ++ codes " would gain "
         ++ rights_text (rights_in rights) ++ codes " in " ++ path_text (path_at tree.now directory)) }
 {
@@ -112,6 +104,7 @@ fn push_kept(text: &mut TextBuffer, records: &[Record], right: FsRight, opened: 
 /// Says what is objected to.
 #[tactic(auto, unfolding(crate::specs::Words::objection_text))]
 fn push_objection(text: &mut TextBuffer, tree: &Tree, records: &[Record], objection: &Objection)
+    requires { IsObjectionIn tree.now objection.now }
     ensures { text.new
         ≡ adding text.old (objection_text records.now (objection_in tree.now objection.now)) }
 {
@@ -177,6 +170,7 @@ pub(crate) fn push_lines(
     records: &[Record],
     all: &[LayerObjection],
 )
+    requires { AreObjectionsIn tree.now all.now }
     ensures { text.new ≡ adding text.old (lines_from tree.now records.now 0 all.now) }
 {
     let mut before = 0;

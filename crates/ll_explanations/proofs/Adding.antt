@@ -8,21 +8,22 @@ use Rattle.std.proofs.lemmas.List.Elements.{All-append, All-cons, All-head, All-
 use Rattle.ll_tree.specs.Trees.{Entry}
 use Rattle.ll_reasons.specs.Objections.{Objection, of_layer}
 use Rattle.ll_explanations.specs.Adding.{Adds, IsOf}
-use Rattle.ll_explanations.specs.Meanings.{IsMade, by_layer, in_front, objection_in}
+use Rattle.ll_explanations.specs.InTree.{IsNoted}
+use Rattle.ll_explanations.specs.Meanings.{by_layer, in_front, objection_in}
 use Rattle.ll_explanations.specs.declared.objection.LayerObjection.{LayerObjection}
 
 -- ---- of one layer
 
 module _ (tree : List Entry) (layers : List ℕ) (number : ℕ) where
   pub adds_none : (all : List LayerObjection) → Adds tree layers number all all []
-  adds_none all = record { more = []; behind = sym (append-nil all); each = All-nil (IsOf layers number); means = refl }
+  adds_none all = record { more = []; behind = sym (append-nil all); each = All-nil (IsOf tree layers number); means = refl }
 
-  pub adds_one : (old new : List LayerObjection) (one : LayerObjection) → new ≡ old ++ one ∷ [] → IsOf layers number one
+  pub adds_one : (old new : List LayerObjection) (one : LayerObjection) → new ≡ old ++ one ∷ [] → IsOf tree layers number one
       → Adds tree layers number old new (objection_in tree one.objection ∷ [])
   adds_one old new one pushed is = record {
     more = one ∷ [];
     behind = pushed;
-    each = All-cons (IsOf layers number) one [] is (All-nil (IsOf layers number));
+    each = All-cons (IsOf tree layers number) one [] is (All-nil (IsOf tree layers number));
     means = refl;
   }
 
@@ -31,7 +32,7 @@ module _ (tree : List Entry) (layers : List ℕ) (number : ℕ) where
   adds_both old mid new first second one two = record {
     more = one.more ++ two.more;
     behind = two.behind ∙ ap (λ all. all ++ two.more) one.behind ∙ append_assoc old one.more two.more;
-    each = All-append (IsOf layers number) one.more two.more one.each two.each;
+    each = All-append (IsOf tree layers number) one.more two.more one.each two.each;
     means = map-append (λ (said : LayerObjection). objection_in tree said.objection) one.more two.more
         ∙ ap (λ os. os ++ map (λ (said : LayerObjection). objection_in tree said.objection) two.more) one.means
         ∙ ap (λ os. first ++ os) two.means;
@@ -103,18 +104,19 @@ module _ (tree : List Entry) (n : ℕ) where
 pub record AreUpto (tree : List Entry) (layers : List ℕ) (n : ℕ) (all : List LayerObjection) (groups : List (ℕ × List Objection)) : Type 0 where
   pub means : by_layer tree all ≡ groups
   pub upto : All (λ one. one.layer ≤ n) all
-  pub made : All (IsMade layers) all
+  pub noted : All (IsNoted tree layers) all
 
 pub none_yet : (tree : List Entry) (layers : List ℕ) (all : List LayerObjection) (groups : Groups) → all ≡ [] → [] ≡ groups → AreUpto tree layers 0 all groups
 unfolding by_layer
 none_yet tree layers all groups none is =
     subst (λ (all : List LayerObjection). AreUpto tree layers 0 all groups) (sym none)
-    (record { means = is; upto = All-nil (λ (one : LayerObjection). one.layer ≤ 0); made = All-nil (IsMade layers) })
+    (record { means = is; upto = All-nil (λ (one : LayerObjection). one.layer ≤ 0); noted = All-nil (IsNoted tree layers) })
 
-made_of : (layers : List ℕ) (number : ℕ) (positive : 0 < number) (one : LayerObjection) → IsOf layers number one → IsMade layers one
-made_of layers number positive one of =
+noted_of : (tree : List Entry) (layers : List ℕ) (number : ℕ) (positive : 0 < number) (one : LayerObjection) → IsOf tree layers number one
+    → IsNoted tree layers one
+noted_of tree layers number positive one of =
     let here : one.layer ≡ number = of.0 in
-    (omega (arith, positive, here), of.1 ∙ ap (λ (m : ℕ). slice_get layers (m - 1)) (sym here))
+    ((omega (arith, positive, here), of.1 ∙ ap (λ (m : ℕ). slice_get layers (m - 1)) (sym here)), of.2)
 
 module _ (tree : List Entry) (layers : List ℕ) (n : ℕ) (old : List LayerObjection) (groups : Groups) (are : AreUpto tree layers n old groups) where
   still_upto : All (λ (one : LayerObjection). one.layer ≤ n + 1) old
@@ -127,7 +129,7 @@ module _ (tree : List Entry) (layers : List ℕ) (n : ℕ) (old : List LayerObje
       → AreUpto tree layers (n + 1) new (groups ++ of_layer (n + 1) objections)
   layer_more new objections adds =
       let here : All (λ (one : LayerObjection). one.layer ≡ n + 1) adds.more
-      = All-weaker (IsOf layers (n + 1)) (λ (one : LayerObjection). one.layer ≡ n + 1) (λ one of. of.0) adds.more adds.each in
+      = All-weaker (IsOf tree layers (n + 1)) (λ (one : LayerObjection). one.layer ≡ n + 1) (λ one of. of.0) adds.more adds.each in
       let before : All (λ (one : LayerObjection). one.layer < n + 1) old
       = All-weaker (λ (one : LayerObjection). one.layer ≤ n) (λ (one : LayerObjection). one.layer < n + 1) (λ one within. omega (arith, within)) old are.upto in
       subst (λ (all : List LayerObjection). AreUpto tree layers (n + 1) all (groups ++ of_layer (n + 1) objections)) (sym adds.behind) (record {
@@ -136,10 +138,10 @@ module _ (tree : List Entry) (layers : List ℕ) (n : ℕ) (old : List LayerObje
         upto = All-append (λ (one : LayerObjection). one.layer ≤ n + 1) old adds.more still_upto
             (All-weaker (λ (one : LayerObjection). one.layer ≡ n + 1) (λ (one : LayerObjection). one.layer ≤ n + 1) (λ one same. omega (arith, same))
             adds.more here);
-        made = All-append (IsMade layers) old adds.more are.made
-            (All-weaker (IsOf layers (n + 1)) (IsMade layers) (made_of layers (n + 1) (omega arith)) adds.more adds.each);
+        noted = All-append (IsNoted tree layers) old adds.more are.noted
+            (All-weaker (IsOf tree layers (n + 1)) (IsNoted tree layers) (noted_of tree layers (n + 1) (omega arith)) adds.more adds.each);
       })
 
   -- none of the next layer
   pub layer_without : (others : Groups) → groups ≡ others → AreUpto tree layers (n + 1) old others
-  layer_without others same = record { means = are.means ∙ same; upto = still_upto; made = are.made }
+  layer_without others same = record { means = are.means ∙ same; upto = still_upto; noted = are.noted }

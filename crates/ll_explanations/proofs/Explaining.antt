@@ -89,13 +89,14 @@ module _ (tree : List Entry) (abi : Abi) (records : List Record) (index : ℕ) (
   unfolding explained_at explained explanation_in
   fails error told is =
       subst (λ (one : Record). IsExplanationOf tree abi records index (Refused error []) one (Failure told)) same_record
-      (record { means = ap failure is; made = tt })
+      (record { means = ap failure is; made = tt; inside = tt })
 
   pub is_moot : (told : Option Reason) → option_map (reason_in found.op) told ≡ reason tree (origins_at tree abi records index found.process.0) found.op
       → IsExplanationOf tree abi records index Moot r (Mootness told)
   unfolding explained_at explained explanation_in
   is_moot told is =
-      subst (λ (one : Record). IsExplanationOf tree abi records index Moot one (Mootness told)) same_record (record { means = ap mootness is; made = tt })
+      subst (λ (one : Record). IsExplanationOf tree abi records index Moot one (Mootness told)) same_record
+      (record { means = ap mootness is; made = tt; inside = tt })
 
 -- a set without layers
 pub none_of : (numbers : List ℕ) → (length numbers == 0) ≡ true → numbers ≡ []

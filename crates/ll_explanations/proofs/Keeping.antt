@@ -9,6 +9,7 @@ use Rattle.ll_rules.specs.LayerNumbers.{is_among, passing_upto}
 use Rattle.ll_reasons.specs.Explanations.{kept_by}
 use Rattle.ll_reasons.specs.Objections.{Objection, kept}
 use Rattle.ll_tree.specs.Trees.{Entry}
+use Rattle.ll_explanations.specs.InTree.{IsObjectionIn}
 use Rattle.ll_explanations.specs.Meanings.{objection_in}
 use Rattle.ll_explanations.specs.declared.objection.LayerObjection.{LayerObjection}
 use Rattle.ll_explanations.proofs.Adding.{AreUpto, adds_as, adds_one, layer_more}
@@ -56,11 +57,11 @@ module _ (right : files.FsRight) (opened : ℕ) where
   -- what one layer more objects to
   pub kept_more : (tree : List Entry) (layers : List ℕ) (test : ℕ → Bool) (index : ℕ) (old new : List LayerObjection) (one : LayerObjection) →
       test (index + 1) ≡ true → AreUpto tree layers index old (kept_upto test index) → new ≡ old ++ one ∷ [] → one.layer ≡ index + 1
-      → one.made ≡ slice_get layers index → objection_in tree one.objection ≡ kept right opened
+      → one.made ≡ slice_get layers index → IsObjectionIn tree one.objection → objection_in tree one.objection ≡ kept right opened
       → AreUpto tree layers (index + 1) new (kept_upto test (index + 1))
-  kept_more tree layers test index old new one is are pushed at made means =
+  kept_more tree layers test index old new one is are pushed at made inside means =
       let back : index ≡ index + 1 - 1 = omega arith in
       subst (λ (groups : List (ℕ × List Objection)). AreUpto tree layers (index + 1) new groups) (kept_with test index is)
       (layer_more tree layers index old (kept_upto test index) are new (kept right opened ∷ [])
       (adds_as tree layers (index + 1) old new (objection_in tree one.objection ∷ []) (kept right opened ∷ []) (ap (λ o. o ∷ []) means)
-      (adds_one tree layers (index + 1) old new one pushed (at, made ∙ ap (slice_get layers) back))))
+      (adds_one tree layers (index + 1) old new one pushed (at, made ∙ ap (slice_get layers) back, inside))))

@@ -10,6 +10,7 @@ use Rattle.ll_process.specs.Cases.{CaseValue}
 use Rattle.ll_reasons.specs.Explanations.{explained_at, origins_at}
 use Rattle.ll_trails.specs.TraceOrigins.{Follows}
 use Rattle.ll_trails.specs.declared.trail.ProcessOrigins.{ProcessOrigins}
+use Rattle.ll_explanations.specs.InTree.{IsExplanationIn}
 use Rattle.ll_explanations.specs.Meanings.{AreMade, explanation_in}
 use Rattle.ll_explanations.specs.declared.explanation.Explanation.{Explanation}
 use Rattle.ll_explanations.specs.declared.explanation.Explanation.TheVariants.{Nothing, Objections, Failure, Mootness}
@@ -23,9 +24,11 @@ is_silent (Mootness None) = true
 is_silent (Mootness (Some reason)) = false
 
 -- a value means the explanation of the record at an index of a trace, which is answered so, and names the records that made the layers
+-- and nodes of the tree
 pub record IsExplanationOf (tree : List Entry) (abi : Abi) (records : List Record) (index : ℕ) (answer : Answer) (r : Record) (e : Explanation) : Type 0 where
   pub means : explanation_in tree r.op e ≡ explained_at tree abi records index r answer
   pub made : AreMade (origins_at tree abi records index r.process.0).layers e
+  pub inside : IsExplanationIn tree e
 
 -- of a case
 abbrev pub IsExplanation : CaseValue → ℕ → Answer → Record → Explanation → Type 0

@@ -1,13 +1,14 @@
 //! What each layer of a process objects to.
 
-ghost use Rattle.std.specs.Prelude.{◌≡◌, ◌∷◌, [], IfOk, OnOk, All, option_map, option_to_list};
+ghost use Rattle.std.specs.Prelude.{◌≡◌, ◌∷◌, [], IfOk, IfSome, OnOk, All, option_map, option_to_list};
 ghost use Rattle.ll_rights.specs.Rights as files;
 ghost use Rattle.ll_tree.specs.Trees.{IsNode, path_at, kind_at};
 ghost use Rattle.ll_reasons.specs.Objections.{objecting, on_gain, on_mount, on_path, on_port};
 ghost use Rattle.ll_explanations.specs.Adding.{AddsOf};
 ghost use Rattle.ll_explanations.specs.Asking.{IsAsked, objected};
 ghost use Rattle.ll_explanations.specs.Confined.{rules_of, stacked};
-ghost use Rattle.ll_explanations.specs.Meanings.{IsMade, IsOne, by_layer, objection_in};
+ghost use Rattle.ll_explanations.specs.InTree.{IsNoted, IsObjectionIn};
+ghost use Rattle.ll_explanations.specs.Meanings.{IsOne, by_layer, objection_in};
 
 use crate::confinement::{Confinement, OneLayer, made_by};
 use crate::missing::{Test, passing};
@@ -35,8 +36,9 @@ pub(crate) enum Asked {
 /// What a layer lacks of rights on a node.
 pub(crate) fn missing(layer: &OneLayer, node: NodeId, asked: Fs) -> Option<Objection>
     requires { IsNode layer.now.ctx.tree.now node }
-    ensures { option_to_list (option_map (objection_in layer.now.ctx.tree.now) result)
+    ensures said { option_to_list (option_map (objection_in layer.now.ctx.tree.now) result)
         ≡ on_path (path_at layer.now.ctx.tree.now node) (files.has asked) (rules_of layer.now) }
+    ensures inside { IfSome result (IsObjectionIn layer.now.ctx.tree.now) }
 {
     let rights = passing(Test::Lacking { layer, node, asked });
     if rights.is_empty() {
@@ -49,10 +51,11 @@ pub(crate) fn missing(layer: &OneLayer, node: NodeId, asked: Fs) -> Option<Objec
 pub(crate) fn gained(layer: &OneLayer, object: NodeId, directory: NodeId) -> Option<Objection>
     requires object { IsNode layer.now.ctx.tree.now object }
     requires directory { IsNode layer.now.ctx.tree.now directory }
-    ensures { option_to_list (option_map (objection_in layer.now.ctx.tree.now) result)
+    ensures said { option_to_list (option_map (objection_in layer.now.ctx.tree.now) result)
         ≡ on_gain (kind_at layer.now.ctx.tree.now object)
         (path_at layer.now.ctx.tree.now object) (path_at layer.now.ctx.tree.now directory)
         (rules_of layer.now) }
+    ensures inside { IfSome result (IsObjectionIn layer.now.ctx.tree.now) }
 {
     let rights = passing(Test::Gaining {
         layer,
@@ -72,8 +75,9 @@ pub(crate) fn gained(layer: &OneLayer, object: NodeId, directory: NodeId) -> Opt
 /// What a layer lacks of one right on a port.
 fn closed(layer: &OneLayer, port: u16, right: Net) -> Option<Objection>
     requires { IsOne right }
-    ensures { option_to_list (option_map (objection_in layer.now.ctx.tree.now) result)
+    ensures said { option_to_list (option_map (objection_in layer.now.ctx.tree.now) result)
         ≡ on_port port right (rules_of layer.now) }
+    ensures inside { IfSome result (IsObjectionIn layer.now.ctx.tree.now) }
 {
     if !lacks_on_port(layer, port, right) {
         return None;
@@ -86,8 +90,9 @@ fn closed(layer: &OneLayer, port: u16, right: Net) -> Option<Objection>
 
 /// Whether a layer keeps what is mounted as it is.
 fn mounting(layer: &OneLayer) -> Option<Objection>
-    ensures { option_to_list (option_map (objection_in layer.now.ctx.tree.now) result)
+    ensures said { option_to_list (option_map (objection_in layer.now.ctx.tree.now) result)
         ≡ on_mount (rules_of layer.now) }
+    ensures inside { IfSome result (IsObjectionIn layer.now.ctx.tree.now) }
 {
     if handles_files(layer) {
         Some(Objection::Mounting)
@@ -99,6 +104,7 @@ fn mounting(layer: &OneLayer) -> Option<Objection>
 /// Adds an objection of a layer.
 #[tactic(auto, using(crate::proofs::Adding::adds_one))]
 fn push_one(all: &mut Noted, layer: &OneLayer, objection: Objection) -> Noting
+    requires { IsObjectionIn layer.now.ctx.tree.now objection }
     ensures { OnOk result (AddsOf layer.now all.old.items all.new.items
         (objection_in layer.now.ctx.tree.now objection ∷ [])) }
 {
@@ -113,6 +119,7 @@ fn push_one(all: &mut Noted, layer: &OneLayer, objection: Objection) -> Noting
 /// Adds an objection of a layer, if there is one.
 #[tactic(auto, using(crate::proofs::Adding::adds_none))]
 pub(crate) fn push_any(all: &mut Noted, layer: &OneLayer, objection: Option<Objection>) -> Noting
+    requires { IfSome objection (IsObjectionIn layer.now.ctx.tree.now) }
     ensures { OnOk result (AddsOf layer.now all.old.items all.new.items
         (option_to_list (option_map (objection_in layer.now.ctx.tree.now) objection))) }
 {
@@ -147,7 +154,8 @@ pub(crate) fn objections_of(
     requires { IsAsked ctx.now.tree.now asked.now }
     ensures said { IfOk result (λ all. by_layer ctx.now.tree.now all.items
         ≡ objecting (objected ctx.now.tree.now asked.now) (stacked ctx.now)) }
-    ensures made { IfOk result (λ all. All (IsMade ctx.now.trail.now.layers.items) all.items) }
+    ensures noted { IfOk result
+        (λ all. All (IsNoted ctx.now.tree.now ctx.now.trail.now.layers.items) all.items) }
 {
     // Most refusals have one objection, and explanations are kept until the report is written.
     let mut all = Vec::with_capacity(alloc, 1)?;

@@ -8,7 +8,8 @@ ghost use Rattle.ll_semantics.specs.Requests.{asks, request, wanted};
 ghost use Rattle.ll_reasons.specs.Explanations.{objections_to};
 ghost use Rattle.ll_reasons.specs.Objections.{to_move, to_request};
 ghost use Rattle.ll_explanations.specs.Confined.{followed, stacked};
-ghost use Rattle.ll_explanations.specs.Meanings.{IsMade, by_layer};
+ghost use Rattle.ll_explanations.specs.InTree.{IsNoted};
+ghost use Rattle.ll_explanations.specs.Meanings.{by_layer};
 
 use crate::asked::{Asked, objections_of};
 use crate::confinement::Confinement;
@@ -39,7 +40,8 @@ fn to_wanted(
     ensures said { IfOk result (λ all. by_layer ctx.now.tree.now all.items
         ≡ to_request ctx.now.tree.now (stacked ctx.now)
         (asks ctx.now.tree.now (place ctx.now.tree.now path.now) wanted)) }
-    ensures made { IfOk result (λ all. All (IsMade ctx.now.trail.now.layers.items) all.items) }
+    ensures noted { IfOk result
+        (λ all. All (IsNoted ctx.now.tree.now ctx.now.trail.now.layers.items) all.items) }
 {
     let place = place_of(ctx.tree, path, known);
     match asks(ctx.tree, place, wanted) {
@@ -55,7 +57,8 @@ fn to_request(alloc: Global, ctx: &Confinement, op: &Op, known: Option<Place>) -
     ensures said { IfOk result (λ all. by_layer ctx.now.tree.now all.items
         ≡ to_request ctx.now.tree.now (stacked ctx.now)
         (request ctx.now.tree.now (wanted op.now))) }
-    ensures made { IfOk result (λ all. All (IsMade ctx.now.trail.now.layers.items) all.items) }
+    ensures noted { IfOk result
+        (λ all. All (IsNoted ctx.now.tree.now ctx.now.trail.now.layers.items) all.items) }
 {
     match wanted(op) {
         None => Ok(Vec::new(alloc)),
@@ -69,7 +72,8 @@ fn to_move(alloc: Global, ctx: &Confinement, asked: Option<Move>, error: Errno) 
     requires { IfSome asked (IsFitMove ctx.now.tree.now) }
     ensures said { IfOk result (λ all. by_layer ctx.now.tree.now all.items
         ≡ to_move ctx.now.tree.now (stacked ctx.now) error asked) }
-    ensures made { IfOk result (λ all. All (IsMade ctx.now.trail.now.layers.items) all.items) }
+    ensures noted { IfOk result
+        (λ all. All (IsNoted ctx.now.tree.now ctx.now.trail.now.layers.items) all.items) }
 {
     let Some(attempt) = asked else {
         return Ok(Vec::new(alloc));
@@ -93,7 +97,8 @@ fn objections_to_other(
     ensures said { IfOk result (λ all. by_layer ctx.now.tree.now all.items
         ≡ objections_to ctx.now.tree.now (stacked ctx.now)
         (followed ctx.now.trail.now) op.now error numbers) }
-    ensures made { IfOk result (λ all. All (IsMade ctx.now.trail.now.layers.items) all.items) }
+    ensures noted { IfOk result
+        (λ all. All (IsNoted ctx.now.tree.now ctx.now.trail.now.layers.items) all.items) }
 {
     match op {
         Op::Ftruncate { fd } => { kept_by_descriptor(alloc, ctx, FsRight::Truncate, numbers, *fd) }
@@ -132,7 +137,8 @@ pub(crate) fn objections_to(
     ensures said { IfOk result (λ all. by_layer ctx.now.tree.now all.items
         ≡ objections_to ctx.now.tree.now (stacked ctx.now)
         (followed ctx.now.trail.now) seen.now error numbers) }
-    ensures made { IfOk result (λ all. All (IsMade ctx.now.trail.now.layers.items) all.items) }
+    ensures noted { IfOk result
+        (λ all. All (IsNoted ctx.now.tree.now ctx.now.trail.now.layers.items) all.items) }
 {
     match seen.call() {
         Call::Other(op) => objections_to_other(alloc, ctx, op, error, numbers, known),

@@ -4,7 +4,8 @@ ghost use Rattle.std.specs.Prelude.{◌≡◌, All, IfOk, Some};
 ghost use Rattle.ll_rights.specs.CodeRights.{fs_right};
 ghost use Rattle.ll_reasons.specs.Explanations.{kept_by};
 ghost use Rattle.ll_trails.specs.TraceOrigins.{opened};
-ghost use Rattle.ll_explanations.specs.Meanings.{IsMade, by_layer};
+ghost use Rattle.ll_explanations.specs.InTree.{IsNoted};
+ghost use Rattle.ll_explanations.specs.Meanings.{by_layer};
 
 use crate::call::Objected;
 use crate::confinement::{Confinement, made_by};
@@ -23,7 +24,8 @@ fn kept_since(
 ) -> Objected
     ensures said { IfOk result (λ all. by_layer ctx.now.tree.now all.items
         ≡ kept_by (fs_right right) numbers (Some opened)) }
-    ensures made { IfOk result (λ all. All (IsMade ctx.now.trail.now.layers.items) all.items) }
+    ensures noted { IfOk result
+        (λ all. All (IsNoted ctx.now.tree.now ctx.now.trail.now.layers.items) all.items) }
 {
     let objection = Objection::Kept { right, opened };
     let mut all = Vec::new(alloc);
@@ -53,7 +55,8 @@ pub(crate) fn kept_by_descriptor(
 ) -> Objected
     ensures said { IfOk result (λ all. by_layer ctx.now.tree.now all.items
         ≡ kept_by (fs_right right) numbers (opened ctx.now.trail.now.openings fd)) }
-    ensures made { IfOk result (λ all. All (IsMade ctx.now.trail.now.layers.items) all.items) }
+    ensures noted { IfOk result
+        (λ all. All (IsNoted ctx.now.tree.now ctx.now.trail.now.layers.items) all.items) }
 {
     match ctx.trail.openings.get(fd) {
         None => Ok(Vec::new(alloc)),

@@ -1,12 +1,12 @@
 //! What one layer objects to in a rename or a link.
 
-ghost use Rattle.std.specs.Prelude.{◌≡◌, ◌++◌, OnOk, option_map, option_to_list};
+ghost use Rattle.std.specs.Prelude.{◌≡◌, ◌++◌, IfSome, OnOk, option_map, option_to_list};
 ghost use Rattle.ll_rights.specs.Rights.{has};
 ghost use Rattle.ll_tree.specs.Trees.{path_at};
 ghost use Rattle.ll_semantics.specs.Fits.{IsFitMove};
 ghost use Rattle.ll_reasons.specs.Objections.{on_crossing, on_directories, on_other_gain, on_path};
 ghost use Rattle.ll_explanations.specs.{Adding.AddsOf, Confined.rules_of, MoveRequests.IsMoveRequest};
-ghost use Rattle.ll_explanations.specs.Meanings.{objection_in};
+ghost use Rattle.ll_explanations.specs.{InTree.IsObjectionIn, Meanings.objection_in};
 
 use crate::asked::{gained, missing, push_any};
 use crate::confinement::OneLayer;
@@ -50,9 +50,10 @@ pub(crate) fn move_request(tree: &Tree, attempt: Move) -> MoveRequest
 /// What the object that is there already would gain in an exchange; nothing in other moves.
 fn gained_other(layer: &OneLayer, request: &MoveRequest) -> Option<Objection>
     requires { IsMoveRequest layer.now.ctx.tree.now request.now }
-    ensures { option_to_list (option_map (objection_in layer.now.ctx.tree.now) result)
+    ensures said { option_to_list (option_map (objection_in layer.now.ctx.tree.now) result)
         ≡ on_other_gain layer.now.ctx.tree.now request.now.attempt request.now.attempt.how
         request.now.attempt.target (rules_of layer.now) }
+    ensures inside { IfSome result (IsObjectionIn layer.now.ctx.tree.now) }
 {
     match request.attempt.how {
         How::Exchange => match request.attempt.target {

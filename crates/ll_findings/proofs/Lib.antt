@@ -10,4 +10,5 @@ pub mod Crossing
 mod SamePaths
 pub mod TakenRecords
 pub mod FindingTells
+pub mod NodesOfTree
 pub mod Marking

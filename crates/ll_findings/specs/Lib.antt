@@ -4,3 +4,4 @@ pub mod Findings
 pub mod Alike
 pub mod Stretches
 pub mod TakenRecords
+pub mod InTree

@@ -7,6 +7,7 @@ ghost use Rattle.json.specs.Token as token;
 ghost use Rattle.json.specs.Tree.{json_tokens};
 ghost use Rattle.ll_semantics.specs.declared.answer.Answer.TheVariants.{Refused};
 ghost use Rattle.ll_tree.specs.Trees.{Entry};
+ghost use Rattle.ll_explanations.specs.InTree.{IsExplanationIn};
 ghost use Rattle.ll_explanations.specs.Meanings.{condition_in, explanation_in};
 ghost use Rattle.ll_reasons.specs.Meant.{reason_in};
 ghost use Rattle.ll_report.specs.Lines as spec;
@@ -78,6 +79,7 @@ fn write_layers_of(
     numbers: LayerSet,
     explanation: &Explanation,
 )
+    requires { IsExplanationIn here.now.tree.now explanation.now }
     ensures { out.new ≡ writing out.old
         (layers_tokens here.now.tree.now here.now.records.now numbers explanation.now) }
 {
@@ -139,6 +141,7 @@ fn write_refused(
     numbers: LayerSet,
     explanation: &Explanation,
 )
+    requires { IsExplanationIn here.now.tree.now explanation.now }
     ensures { out.new ≡ writing out.old (answer_tokens here.now.tree.now
         here.now.records.now op.now (Refused error numbers) explanation.now) }
 {
@@ -167,6 +170,7 @@ pub(crate) fn write_answer_members(
     answer: Answer,
     explanation: &Explanation,
 )
+    requires { IsExplanationIn here.now.tree.now explanation.now }
     ensures { out.new ≡ writing out.old (answer_tokens here.now.tree.now
         here.now.records.now op.now answer explanation.now) }
 {

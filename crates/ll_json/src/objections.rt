@@ -5,11 +5,11 @@ ghost use Rattle.std.specs.Prelude.{◌≡◌, ◌∷◌, ◌++◌, [], true, co
 ghost use Rattle.json.specs.Json.{boolean, string};
 ghost use Rattle.json.specs.Token as token;
 ghost use Rattle.json.specs.Tree.{json_tokens};
-ghost use Rattle.ll_lines.specs.Paths.{text_of};
 ghost use Rattle.ll_rights.specs.CodeRights.{fs_right};
-ghost use Rattle.ll_tree.specs.Trees.{path_at};
+ghost use Rattle.ll_tree.specs.Trees.{IsNode, path_at};
 ghost use Rattle.ll_explain.specs.Words as spec;
 ghost use Rattle.ll_explain.specs.Words.{line_of};
+ghost use Rattle.ll_explanations.specs.InTree.{AreObjectionsIn, IsObjectionIn};
 ghost use Rattle.ll_explanations.specs.Meanings.{objection_in, port_rights_in, rights_in};
 ghost use Rattle.ll_json.specs.Layering.{ending, head_of, next_tokens, objections_from, opening};
 ghost use Rattle.ll_json.specs.Parts.{object_of, whole};
@@ -19,7 +19,7 @@ ghost use Rattle.ll_json.specs.Why.{objection_json, path_json, port_rights_json,
 use crate::json_text::JsonText;
 use crate::rights::write_rights_as;
 use crate::words::{write_number, write_text};
-use ll_explain::{line_at, line_made, text_at, word_for};
+use ll_explain::{line_at, line_made, word_for};
 use ll_explanations::{LayerObjection, Objection};
 use ll_report::FindingAt;
 use ll_rights::{Fs, FsRight, Net};
@@ -28,13 +28,14 @@ use ll_tree::{NodeId, Tree};
 
 /// Writes which rights are missing on a node.
 fn write_missing(out: &mut JsonText, tree: &Tree, rights: Fs, node: NodeId)
+    requires { IsNode tree.now node }
     ensures { out.new ≡ writing out.old (json_tokens (object_of
         ((codes "missing", rights_json (rights_in rights))
         ∷ (codes "on", path_json (path_at tree.now node)) ∷ []))) }
 {
     out.begin_object();
     write_rights_as(out, "missing", rights);
-    write_text(out, "on", text_at(tree, node));
+    write_text(out, "on", tree.text(node));
     out.end_object();
 }
 
@@ -52,6 +53,8 @@ fn write_closed(out: &mut JsonText, rights: Net, port: u16)
 
 /// Writes which rights an object would gain in a directory.
 fn write_gained(out: &mut JsonText, tree: &Tree, object: NodeId, rights: Fs, directory: NodeId)
+    requires object { IsNode tree.now object }
+    requires directory { IsNode tree.now directory }
     ensures { out.new ≡ writing out.old (json_tokens (object_of
         ((codes "gains", rights_json (rights_in rights))
         ∷ (codes "object", path_json (path_at tree.now object))
@@ -59,8 +62,8 @@ fn write_gained(out: &mut JsonText, tree: &Tree, object: NodeId, rights: Fs, dir
 {
     out.begin_object();
     write_rights_as(out, "gains", rights);
-    write_text(out, "object", text_at(tree, object));
-    write_text(out, "in", text_at(tree, directory));
+    write_text(out, "object", tree.text(object));
+    write_text(out, "in", tree.text(directory));
     out.end_object();
 }
 
@@ -126,6 +129,7 @@ fn write_kept(out: &mut JsonText, records: &[Record], right: FsRight, opened: u3
 /// Writes what is objected to.
 #[tactic(auto, unfolding(crate::specs::Writing::writing, crate::specs::Why::objection_json))]
 fn write_objection(out: &mut JsonText, here: &FindingAt<'_>, objection: &Objection)
+    requires { IsObjectionIn here.now.tree.now objection.now }
     ensures { out.new ≡ writing out.old (json_tokens (objection_json here.now.records.now
         (objection_in here.now.tree.now objection.now))) }
 {
@@ -181,6 +185,7 @@ fn write_opening(out: &mut JsonText, records: &[Record], before: u64, one: &Laye
 /// Writes one objection behind those before it.
 #[tactic(auto, unfolding(crate::specs::Writing::writing, crate::specs::Layering::next_tokens))]
 fn write_next(out: &mut JsonText, here: &FindingAt<'_>, before: u64, one: &LayerObjection)
+    requires { IsObjectionIn here.now.tree.now one.now.objection }
     ensures { out.new ≡ writing out.old
         (next_tokens here.now.tree.now here.now.records.now before one.now) }
 {
@@ -191,6 +196,7 @@ fn write_next(out: &mut JsonText, here: &FindingAt<'_>, before: u64, one: &Layer
 /// Writes all layers that object.
 #[tactic(auto, unfolding(crate::specs::Writing::writing, crate::specs::Layering::objections_from))]
 fn write_each(out: &mut JsonText, here: &FindingAt<'_>, all: &[LayerObjection])
+    requires { AreObjectionsIn here.now.tree.now all.now }
     ensures { out.new ≡ writing out.old
         (objections_from here.now.tree.now here.now.records.now 0 all.now) }
 {
@@ -204,6 +210,7 @@ fn write_each(out: &mut JsonText, here: &FindingAt<'_>, all: &[LayerObjection])
 
 /// Writes an array of all layers that object.
 pub(crate) fn write_layers(out: &mut JsonText, here: &FindingAt<'_>, all: &[LayerObjection])
+    requires { AreObjectionsIn here.now.tree.now all.now }
     ensures { out.new ≡ writing out.old (token.begin_array
         ∷ (objections_from here.now.tree.now here.now.records.now 0 all.now
         ++ token.end_array ∷ [])) }

@@ -9,9 +9,8 @@ ghost use Rattle.ll_json.specs.Versions.{Version};
 use crate::rows::push_line;
 use crate::totals::push_last;
 use ll_explain::TextBuffer;
-use ll_findings::Findings;
 use ll_report::{
-    FindingsAt, Pages, RowReport, Rows, Shown, TooLong, is_left_out, refused_under_some,
+    Audited, FindingsAt, Pages, RowReport, Rows, Shown, TooLong, is_left_out, refused_under_some,
 };
 use ll_trace::Located;
 use std::alloc::{AllocError, Global};
@@ -22,8 +21,7 @@ use std::marker::Model;
 /// All memory for the lines is there already.
 #[derive(Drop)]
 pub struct JsonRows<'p> {
-    located: Located,
-    findings: Findings,
+    audited: Audited,
     shown: Shown,
     oldest: u64,
     program: &'p str,
@@ -37,27 +35,28 @@ impl<'p> Model for JsonRows<'p> {
 
     ghost Value = { Made };
 
-    ghost view = { λ rows. json_made rows.shown rows.oldest rows.located.tree rows.located.trace
-        rows.findings rows.program.now };
+    ghost view = { λ rows. json_made rows.shown rows.oldest rows.audited.located.tree
+        rows.audited.located.trace rows.audited.findings rows.program.now };
 
-    ghost invariant = { λ rows. rows.oldest + length rows.findings < 2 ^ 64 };
+    ghost invariant = { λ rows. rows.oldest + length rows.audited.findings < 2 ^ 64 };
 }
 
 impl<'p> Rows for JsonRows<'p> {
     ghost made_of = { λ made. made };
 
     fn count(&self) -> usize {
-        self.located.trace.records().len()
+        self.audited.located.trace.records().len()
     }
 
     fn push_row(&mut self, text: &mut TextBuffer, index: usize) -> Result<(), TooLong> {
-        let Located { tree, trace, .. } = &self.located;
+        let Audited { located, findings } = &self.audited;
+        let Located { tree, trace, .. } = located;
         let records = trace.records();
         let found = &records[index];
         let row = FindingsAt {
             tree,
             records,
-            findings: &self.findings,
+            findings,
             index,
         };
         let out = is_left_out(self.shown, &row, &mut self.pages)?;
@@ -76,7 +75,12 @@ impl<'p> Rows for JsonRows<'p> {
     }
 
     fn push_last(&mut self, text: &mut TextBuffer) {
-        push_last(text, self.oldest, self.findings.as_slice(), self.program);
+        push_last(
+            text,
+            self.oldest,
+            self.audited.findings.as_slice(),
+            self.program,
+        );
     }
 }
 
@@ -84,21 +88,21 @@ impl<'p> Rows for JsonRows<'p> {
 /// shown of it, with the version of the program that writes it.
 pub fn json_report<'p>(
     alloc: Global,
-    located: Located,
-    findings: Findings,
+    audited: Audited,
     shown: Shown,
     oldest: u64,
     program: &'p str,
 ) -> Result<RowReport<JsonRows<'p>>, AllocError>
-    requires { oldest + length findings < 2 ^ 64 }
+    requires { oldest + length audited.findings < 2 ^ 64 }
     ensures { IfOk result (λ report. (versions : List Version)
-        → AreFound shown.explanations located.tree located.trace versions findings
-        → IsJsonReport shown located.tree oldest versions located.trace program.now report) }
+        → AreFound shown.explanations audited.located.tree audited.located.trace versions
+        audited.findings
+        → IsJsonReport shown audited.located.tree oldest versions audited.located.trace
+        program.now report) }
 {
-    let refused = refused_under_some(&findings, located.trace.records().len());
+    let refused = refused_under_some(&audited.findings, audited.located.trace.records().len());
     let rows = JsonRows {
-        located,
-        findings,
+        audited,
         shown,
         oldest,
         program,

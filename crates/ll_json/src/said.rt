@@ -1,9 +1,10 @@
 //! What a version says of a record: the members of its answer, with its explanation or without.
 #![tactic(auto, unfolding(crate::specs::Writing::writing))]
 
-ghost use Rattle.std.specs.Prelude.{◌≡◌, ◌∷◌, ◌++◌, [], None, if◌then◌else◌, false, option_map, true};
+ghost use Rattle.std.specs.Prelude.{◌≡◌, ◌∷◌, ◌++◌, [], IfSome, None, if◌then◌else◌, false, option_map, true};
 ghost use Rattle.json.specs.Token as token;
 ghost use Rattle.ll_explain.specs.Buffers.{adding};
+ghost use Rattle.ll_explanations.specs.InTree.{IsExplanationIn};
 ghost use Rattle.ll_findings.specs.Findings.{answer_in, kept_at, said_in};
 ghost use Rattle.ll_report.specs.Printed.{printed_of};
 ghost use Rattle.ll_json.specs.Rows.{members_tokens, said_of, said_tokens};
@@ -13,10 +14,9 @@ use crate::answers::{write_answer_members, write_plain_members};
 use crate::json_text::JsonText;
 use ll_explain::TextBuffer;
 use ll_explanations::Explanation;
-use ll_findings::Finding;
 use ll_report::{FindingAt, Printer};
 use ll_semantics::Answer;
-use ll_trace::{Op, Record};
+use ll_trace::Op;
 
 /// Writes the members of an answer, with the explanation of the call, if there is one.
 fn write_members(
@@ -25,6 +25,7 @@ fn write_members(
     answer: Answer,
     said: Option<(&Op, &Explanation)>,
 )
+    requires { IfSome said (λ said. IsExplanationIn here.now.tree.now said.1.now) }
     ensures { out.new ≡ writing out.old (members_tokens here.now.tree.now
         here.now.records.now answer (option_map (λ said. (said.0.now, said.1.now)) said.entry)) }
 {
@@ -34,18 +35,16 @@ fn write_members(
     }
 }
 
-/// The call and the explanation of the record at an index, if explanations are shown and there is one.
-fn explained_if<'f>(
-    explains: bool,
-    finding: &'f Finding,
-    records: &'f [Record],
-    index: usize,
-) -> Option<(&'f Op, &'f Explanation)>
-    ensures { option_map (λ said. (said.0.now, said.1.now)) result
-        ≡ (if explains then said_in records.now finding.now index else None) }
+/// The call of the record and its explanation, if explanations are shown and there is one.
+#[tactic(auto, using(ll_findings::proofs::NodesOfTree::said_inside))]
+fn explained_if<'f>(explains: bool, here: &FindingAt<'f>) -> Option<(&'f Op, &'f Explanation)>
+    ensures said { option_map (λ said. (said.0.now, said.1.now)) result
+        ≡ (if explains then said_in here.now.records.now here.now.finding.now here.now.index
+        else None) }
+    ensures inside { IfSome result (λ said. IsExplanationIn here.now.tree.now said.1.now) }
 {
     if explains {
-        finding.explained(records, index)
+        here.finding.explained(here.records, here.index)
     } else {
         None
     }
@@ -57,7 +56,7 @@ fn write_said(out: &mut JsonText, explains: bool, here: &FindingAt<'_>)
         here.now.records.now here.now.index (answer_in here.now.finding.now here.now.index)
         (kept_at here.now.finding.now here.now.index)) }
 {
-    let said = explained_if(explains, here.finding, here.records, here.index);
+    let said = explained_if(explains, here);
     let answer = here.finding.answer(here.index);
     write_members(out, here, answer, said);
     out.end_object();

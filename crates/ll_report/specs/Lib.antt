@@ -8,3 +8,4 @@ pub mod Printed
 pub mod Spans
 pub mod Rows
 pub mod Versions
+pub mod InTreeOnce

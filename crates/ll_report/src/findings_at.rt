@@ -2,7 +2,8 @@
 
 ghost use Rattle.std.specs.Prelude.{◌≡◌, ◌<◌, [], get_or, length, true};
 ghost use Rattle.ll_explain.specs.Buffers.{adding};
-ghost use Rattle.ll_report.specs.Printed.{printed_of, texts_of};
+ghost use Rattle.ll_findings.specs.InTree.{AreFindingsIn, IsFindingIn};
+ghost use Rattle.ll_report.specs.InTreeOnce.{AreFindingsIn-once};
 
 use crate::printer::{FindingAt, Printer};
 use ll_explain::TextBuffer;
@@ -10,16 +11,20 @@ use ll_findings::{Finding, Findings};
 use ll_trace::Record;
 use ll_tree::Tree;
 
-/// What versions found of the record at an index, the oldest first, with what it takes to print it.
+/// What versions found of the record at an index, the oldest first, with what it takes to print it. Explanations name
+/// nodes of this tree.
 #[derive(Clone, Copy)]
 pub struct FindingsAt<'f> {
     pub findings: &'f Findings,
     pub index: usize,
     pub tree: &'f Tree,
     pub records: &'f [Record],
+    pub ghost inside: { AreFindingsIn tree.now findings.now } by { AreFindingsIn-once tree.now findings.now },
 }
 
 impl<'f> FindingsAt<'f> {
+    ghost use Rattle.ll_report.specs.Printed.{printed_of, texts_of};
+
     /// How many versions there are.
     pub fn versions(&self) -> usize
         ensures { result ≡ length self.now.findings.now }
@@ -37,6 +42,7 @@ impl<'f> FindingsAt<'f> {
 
     /// Adds what a finding has of the record.
     fn print_of<P: Printer>(&self, text: &mut TextBuffer, finding: &'f Finding)
+        requires { IsFindingIn self.now.tree.now finding.now }
         ensures { text.new ≡ adding text.old (printed_of P.printed self.now.tree.now
             self.now.records.now self.now.index finding.now) }
     {

@@ -1,6 +1,7 @@
 //! The report: of each record its line and its explanation, and the totals of each version.
 #![tactic(auto)]
 
+mod audited;
 mod findings_at;
 mod laws;
 mod made;
@@ -16,6 +17,7 @@ mod spans;
 mod version_rows;
 mod writing;
 
+pub use audited::Audited;
 pub use findings_at::FindingsAt;
 pub use laws::{empty_report, findings_say_what_is_found, spans_give_back_what_was_said};
 pub use made::Rows;

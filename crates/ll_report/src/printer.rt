@@ -2,6 +2,8 @@
 
 ghost use Rattle.std.specs.Prelude.{◌≡◌};
 ghost use Rattle.ll_explain.specs.Buffers.{adding};
+ghost use Rattle.ll_findings.specs.{Findings.kept_at, InTree.IsKeptIn};
+ghost use Rattle.ll_report.specs.InTreeOnce.{IsKeptIn-once};
 ghost use Rattle.ll_report.specs.Printed.{printed_of, text_printed, verdict_printed};
 
 use crate::report::push_verdict;
@@ -10,13 +12,14 @@ use ll_findings::Finding;
 use ll_trace::Record;
 use ll_tree::Tree;
 
-/// What a version found of the record at an index, with what it takes to print it.
+/// What a version found of the record at an index, with what it takes to print it. An explanation names nodes of this tree.
 #[derive(Clone, Copy)]
 pub struct FindingAt<'f> {
     pub tree: &'f Tree,
     pub records: &'f [Record],
     pub finding: &'f Finding,
     pub index: usize,
+    pub ghost inside: { IsKeptIn tree.now (kept_at finding.now index) } by { IsKeptIn-once tree.now (kept_at finding.now index) },
 }
 
 /// A way to print what is found of a record under a version.

@@ -5,6 +5,7 @@ ghost use Rattle.ll_explain.specs.Buffers.{adding};
 ghost use Rattle.ll_report.specs.Rows.{refused_under_some, rows_text, total_under_text, totals_from, totals_text};
 ghost use Rattle.ll_report.specs.Versions.{answered, answers_in, founds_in, rows_made};
 
+use crate::audited::Audited;
 use crate::findings_at::FindingsAt;
 use crate::made::Rows;
 use crate::options::Shown;
@@ -13,8 +14,7 @@ use crate::report::Totals;
 use crate::row_report::RowReport;
 use crate::rows::{Row, refused_under_some};
 use ll_explain::TextBuffer;
-use ll_findings::{Finding, Findings};
-use ll_trace::Located;
+use ll_findings::Finding;
 use std::alloc::{AllocError, Global};
 use std::marker::Model;
 
@@ -22,8 +22,7 @@ use std::marker::Model;
 /// each.
 #[derive(Drop)]
 pub struct VersionRows {
-    located: Located,
-    findings: Findings,
+    audited: Audited,
     shown: Shown,
     oldest: u64,
     pages: Pages,
@@ -37,9 +36,10 @@ impl Model for VersionRows {
     ghost Value = { Made };
 
     ghost view = { λ rows. rows_made rows.shown rows.oldest (founds_in rows.shown.explanations
-        rows.located.tree rows.located.trace rows.findings) rows.located.trace };
+        rows.audited.located.tree rows.audited.located.trace rows.audited.findings)
+        rows.audited.located.trace };
 
-    ghost invariant = { λ rows. rows.oldest + length rows.findings < 2 ^ 64 };
+    ghost invariant = { λ rows. rows.oldest + length rows.audited.findings < 2 ^ 64 };
 }
 
 /// Adds the last line of a version, with its number if it is one of several.
@@ -75,11 +75,11 @@ impl Rows for VersionRows {
     ghost made_of = { λ made. made };
 
     fn count(&self) -> usize {
-        self.located.trace.records().len()
+        self.audited.located.trace.records().len()
     }
 
     fn push_row(&mut self, text: &mut TextBuffer, index: usize) -> Result<(), TooLong> {
-        let located = &self.located;
+        let Audited { located, findings } = &self.audited;
         let records = located.trace.records();
         if let Some(record) = records.get(index) {
             let row = Row {
@@ -89,7 +89,7 @@ impl Rows for VersionRows {
                 found: FindingsAt {
                     tree: &located.tree,
                     records,
-                    findings: &self.findings,
+                    findings,
                     index,
                 },
             };
@@ -99,7 +99,7 @@ impl Rows for VersionRows {
     }
 
     fn push_last(&mut self, text: &mut TextBuffer) {
-        push_totals(text, self.oldest, self.findings.as_slice());
+        push_totals(text, self.oldest, self.audited.findings.as_slice());
     }
 }
 
@@ -107,22 +107,22 @@ impl Rows for VersionRows {
 /// it.
 pub fn report_over(
     alloc: Global,
-    located: Located,
-    findings: Findings,
+    audited: Audited,
     shown: Shown,
     oldest: u64,
 ) -> Result<RowReport<VersionRows>, AllocError>
-    requires { oldest + length findings < 2 ^ 64 }
+    requires { oldest + length audited.findings < 2 ^ 64 }
     ensures text { IfOk result (λ report. report.text ≡ rows_text shown oldest (founds_in
-        shown.explanations located.tree located.trace findings) located.trace) }
+        shown.explanations audited.located.tree audited.located.trace audited.findings)
+        audited.located.trace) }
     ensures refused { IfOk result (λ report. report.refused ≡ refused_under_some (founds_in
-        shown.explanations located.tree located.trace findings) located.trace) }
+        shown.explanations audited.located.tree audited.located.trace audited.findings)
+        audited.located.trace) }
 {
-    let refused = refused_under_some(&findings, located.trace.records().len());
+    let refused = refused_under_some(&audited.findings, audited.located.trace.records().len());
     let pages = Pages::new(alloc)?;
     let rows = VersionRows {
-        located,
-        findings,
+        audited,
         shown,
         oldest,
         pages,

@@ -8,8 +8,8 @@ use Rattle.ll_json.specs.Reports.{IsJsonReport}
 use Rattle.ll_audit.specs.ShownReports.{IsReportInJson, versions_by}
 use Rattle.ll_audit.proofs.auditing.json_by.Goals as goal
 
-pub into_json-requires : goal.into_json-requires
-into_json-requires g c = c.in_ok-all.ensures.few
+pub report_in_json-requires : goal.report_in_json-requires
+report_in_json-requires g c = c.in_ok-all.ensures.few
 
 pub returns-clause-report : goal.returns-clause-report
 returns-clause-report g c =

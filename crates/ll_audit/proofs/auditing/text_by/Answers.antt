@@ -9,8 +9,8 @@ use Rattle.ll_audit.specs.ShownReports.{IsTextReport, findings, versions_by}
 use Rattle.ll_audit.proofs.FoundByVersion.{found_each, same_founds}
 use Rattle.ll_audit.proofs.auditing.text_by.Goals as goal
 
-pub into_text-requires : goal.into_text-requires
-into_text-requires g c = c.in_ok-all.ensures.few
+pub report_in_text-requires : goal.report_in_text-requires
+report_in_text-requires g c = c.in_ok-all.ensures.few
 
 pub returns-clause-report : goal.returns-clause-report
 returns-clause-report g c =

@@ -25,5 +25,5 @@ returns-clause-said c =
     ∙ told_all (objected ctx.tree.now c.args.asked.now) ctx.tree.now ctx.layers.now ctx.domain.now c.loop-index.index
     c.loop-index.auto.index-end c.loop-index-test.false
 
-pub returns-clause-made : goal.returns-clause-made
-returns-clause-made c = c.loop-index.invariant.made
+pub returns-clause-noted : goal.returns-clause-noted
+returns-clause-noted c = c.loop-index.invariant.noted

@@ -8,7 +8,7 @@ use Rattle.ll_explanations.proofs.explanation.explain.Goals as goal
 
 pub returns-in-Allowed : goal.returns-in-Allowed
 unfolding explained_at explained explanation_in
-returns-in-Allowed c r eq = rw c.in-Allowed.is (record { means = refl; made = tt })
+returns-in-Allowed c r eq = rw c.in-Allowed.is (record { means = refl; made = tt; inside = tt })
 
 pub failed-requires-clause-answer : goal.failed-requires-clause-answer
 failed-requires-clause-answer c =

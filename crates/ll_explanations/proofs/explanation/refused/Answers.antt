@@ -1,5 +1,6 @@
 use Rattle.std.proofs.Common.{◌∙◌, ℕ, List, sym, ap, subst}
 use Rattle.std.specs.Prelude.{All}
+use Rattle.std.proofs.lemmas.List.Elements.{All-weaker}
 use Rattle.ll_tree.specs.Trees.{Entry}
 use Rattle.ll_rules.specs.declared.domain.LayerId.{LayerId}
 use Rattle.ll_rules.specs.Layers.{RulesOn}
@@ -13,7 +14,9 @@ use Rattle.ll_reasons.specs.Objections.{Objection}
 use Rattle.ll_reasons.specs.Origins.{Origins}
 use Rattle.ll_trails.proofs.SameObjections.{same_layers_object_to_the_same}
 use Rattle.ll_trails.specs.CaseTrails.{IsDomainAt}
+use Rattle.ll_explanations.specs.InTree.{AreObjectionsIn, IsNoted, IsObjectionIn}
 use Rattle.ll_explanations.specs.Meanings.{IsMade, by_layer, explanation_in}
+use Rattle.ll_explanations.specs.declared.objection.LayerObjection.{LayerObjection}
 use Rattle.ll_explanations.proofs.Explaining.{explains, known_there, refusing}
 use Rattle.ll_explanations.proofs.Following.{objected}
 use Rattle.ll_explanations.proofs.explanation.refused.Goals as goal
@@ -46,6 +49,9 @@ returns c =
     let o : Origins = origins_at cv.tree cv.abi cv.records c.args.index r.process.0 in
     let ids : List LayerId = c.in_ok-domain.domain.items in
     let all = c.in_ok-all.all.items in
+    let layers : List ℕ = c.found_at-seen.result.1.now.layers.items in
+    let tree : List Entry = c.tree.result.now in
+    let noted : All (IsNoted tree layers) all = c.in_ok-all.ensures.noted in
     let is : IsDomainAt c.args.case.now c.args.index r.process.0 ids = c.in_ok-domain.ensures c.args.index r.process.0 found.follows in
     let said : List Entry → List (RulesOn ℕ) → List LayerId
     → List (ℕ × List Objection) = λ tree layers domain. objections_to tree (all_in_tree tree (domain_of layers domain)) o call c.args.error c.args.numbers in
@@ -62,5 +68,8 @@ returns c =
           (domain_at cv.tree cv.abi cv.records c.args.index r.process.0) is.same o call c.args.error c.args.numbers
           ∙ ap (λ (op : Op). objections_to cv.tree (domain_at cv.tree cv.abi cv.records c.args.index r.process.0) o op c.args.error c.args.numbers) found.call)
           ∙ refusing cv.tree cv.abi cv.records c.args.index r c.args.error c.args.numbers c.requires.some;
-      made = subst (λ (layers : List ℕ). All (IsMade layers) all) found.follows.layers c.in_ok-all.ensures.made;
+      made = subst (λ (layers : List ℕ). All (IsMade layers) all) found.follows.layers
+          (All-weaker (IsNoted tree layers) (IsMade layers) (λ one is. is.0) all noted);
+      inside = subst (λ (tree : List Entry). AreObjectionsIn tree all) c.tree.ensures
+          (All-weaker (IsNoted tree layers) (λ (one : LayerObjection). IsObjectionIn tree one.objection) (λ one is. is.1) all noted);
     })

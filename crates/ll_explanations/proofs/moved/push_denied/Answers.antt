@@ -12,7 +12,7 @@ returns-then-eq c =
     let is = c.requires in
     adds_as tree layer.ctx.trail.now.layers.items layer.number _ _ _ _
     (within_one (rules_of layer) tree p.attempt p.source p.destination p.leaving p.entering is.from is.leaving is.entering _
-    (rw (← c.union-asked.ensures) c.missing.ensures) (directories_eq tree p is c.eq.ensures c.if-eq.true))
+    (rw (← c.union-asked.ensures) c.missing.ensures.said) (directories_eq tree p is c.eq.ensures c.if-eq.true))
     c.in_ok-push_any.ensures
 
 pub returns : goal.returns

@@ -14,6 +14,6 @@ returns c =
     let p = c.args.request.now in
     adds_as tree layer.ctx.trail.now.layers.items layer.number _ _ _ _
     (crossing (rules_of layer) tree p.attempt _ _ _ _ (path_at tree p.source) (path_at tree p.destination) c.requires.from c.requires.into
-    refl refl c.gained.ensures c.gained_other.ensures)
+    refl refl c.gained.ensures.said c.gained_other.ensures.said)
     (adds_both tree layer.ctx.trail.now.layers.items layer.number _ _ _ _ _
     (adds_both tree layer.ctx.trail.now.layers.items layer.number _ _ _ _ _ c.in_ok-push_missing.ensures c.in_ok-push_any.ensures) c.in_ok-push_any-2.ensures)

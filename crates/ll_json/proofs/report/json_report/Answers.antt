@@ -15,14 +15,14 @@ use Rattle.ll_json.proofs.report.json_report.Goals as goal
 pub returns : goal.returns
 returns c =
     let a = c.args in
-    let tree = a.located.tree in
-    let later : List Record = a.located.trace in
+    let tree = a.audited.located.tree in
+    let later : List Record = a.audited.located.trace in
     let told : Made → ℕ → Told = λ (made : Made) (refused : ℕ). record { text = text_of made; refused = refused } in
-    let made : Made = json_made a.shown a.oldest tree later a.findings a.program.now in
+    let made : Made = json_made a.shown a.oldest tree later a.audited.findings a.program.now in
     let count : List FindingValue → List Record → ℕ = λ (findings : List FindingValue) (records : List Record).
     count_by (some_refuses findings) (range_with_len 0 (length records)) in
-    let refused : c.refused_under_some-refused.result ≡ count a.findings later =
-    c.refused_under_some-refused.ensures ∙ ap (count a.findings) c.records.ensures.value in
+    let refused : c.refused_under_some-refused.result ≡ count a.audited.findings later =
+    c.refused_under_some-refused.ensures ∙ ap (count a.audited.findings) c.records.ensures.value in
     IfOk-weaker c.of.result _ _ (λ report is versions found.
     subst (λ (r : Told). IsJsonReport a.shown tree a.oldest versions later a.program.now r) (sym (is ∙ ap (told made) refused))
-    (report_is a.shown a.oldest tree versions later a.findings found a.program.now)) c.of.ensures
+    (report_is a.shown a.oldest tree versions later a.audited.findings found a.program.now)) c.of.ensures

@@ -11,15 +11,15 @@ use Rattle.ll_report.proofs.version_rows.report_over.Goals as goal
 
 pub returns-clause-text : goal.returns-clause-text
 returns-clause-text c =
-    let records : List Record = c.args.located.trace in
-    let founds : List Found = founds_in c.args.shown.explanations c.args.located.tree records c.args.findings in
+    let records : List Record = c.args.audited.located.trace in
+    let founds : List Found = founds_in c.args.shown.explanations c.args.audited.located.tree records c.args.audited.findings in
     ap (λ (t : Told). t.text) c.in_ok-report.ensures
     ∙ ap (λ (rows : List ℕ). rows ++ totals_text c.args.oldest founds) (rows_are c.args.shown c.args.oldest founds 0 records)
 
 pub returns-clause-refused : goal.returns-clause-refused
 returns-clause-refused c =
-    let records : List Record = c.args.located.trace in
+    let records : List Record = c.args.audited.located.trace in
     ap (λ (t : Told). t.refused) c.in_ok-report.ensures
     ∙ c.refused_under_some-refused.ensures
-    ∙ ap (λ (rs : List Record). count_by (some_refuses c.args.findings) (range_with_len 0 (length rs))) c.records.ensures.value
-    ∙ same_refused c.args.shown.explanations c.args.located.tree records c.args.findings (length records)
+    ∙ ap (λ (rs : List Record). count_by (some_refuses c.args.audited.findings) (range_with_len 0 (length rs))) c.records.ensures.value
+    ∙ same_refused c.args.shown.explanations c.args.audited.located.tree records c.args.audited.findings (length records)

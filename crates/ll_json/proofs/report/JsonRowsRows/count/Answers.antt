@@ -8,7 +8,7 @@ use Rattle.ll_json.proofs.report.JsonRowsRows.count.Goals as goal
 pub returns : goal.returns
 returns c =
     let rows = c.self.inside in
-    let records : List Record = rows.located.trace in
+    let records : List Record = rows.audited.located.trace in
     ap (λ (rs : List Record). length rs) c.records.ensures.value
-    ∙ sym (length-rows (row_text rows.shown rows.oldest rows.located.tree records rows.findings) 0 records)
+    ∙ sym (length-rows (row_text rows.shown rows.oldest rows.audited.located.tree records rows.audited.findings) 0 records)
     ∙ ap (λ (made : Made). length made.shown) c.self.view_is

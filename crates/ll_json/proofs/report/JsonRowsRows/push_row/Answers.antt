@@ -13,41 +13,45 @@ use Rattle.ll_json.proofs.report.JsonRowsRows.push_row.Goals as goal
 pub bounds-records-index : goal.bounds-records-index
 bounds-records-index c =
     let rows = c.self.inside in
+    let all = rows.audited in
     subst (λ (n : ℕ). c.args.index < n)
-    (as_many rows.shown rows.oldest rows.located.tree rows.located.trace rows.findings rows.program.now c.args.self.now c.self.view_is
+    (as_many rows.shown rows.oldest all.located.tree all.located.trace all.findings rows.program.now c.args.self.now c.self.view_is
     ∙ ap (λ (rs : List Record). length rs) (sym c.records-records.ensures.value)) c.requires
 
 pub offset_bounds-records-index : goal.offset_bounds-records-index
 offset_bounds-records-index c =
     let rows = c.self.inside in
-    let few : length rows.located.trace ≤ MOST_RECORDS = c.records-records.ensures.few in
-    let below = among rows.shown rows.oldest rows.located.tree rows.located.trace rows.findings rows.program.now c.args.self.now c.self.view_is
+    let all = rows.audited in
+    let few : length all.located.trace ≤ MOST_RECORDS = c.records-records.ensures.few in
+    let below = among rows.shown rows.oldest all.located.tree all.located.trace all.findings rows.program.now c.args.self.now c.self.view_is
     c.args.index c.requires in
     omega (arith, few, below)
 
 pub returns-then-out-clause-row : goal.returns-then-out-clause-row
 returns-then-out-clause-row c =
     let rows = c.self.inside in
-    let below = among rows.shown rows.oldest rows.located.tree rows.located.trace rows.findings rows.program.now c.args.self.now c.self.view_is
+    let all = rows.audited in
+    let below = among rows.shown rows.oldest all.located.tree all.located.trace all.findings rows.program.now c.args.self.now c.self.view_is
     c.args.index c.requires in
-    let there = read_there rows.located.trace c.records-records.result.now c.args.index c.index-records-index.result
+    let there = read_there all.located.trace c.records-records.result.now c.args.index c.index-records-index.result
     c.records-records.ensures.value below c.index-records-index.is in
-    let out : is_row_left_out rows.shown (answers_in rows.findings) c.args.index ≡ true =
+    let out : is_row_left_out rows.shown (answers_in all.findings) c.args.index ≡ true =
     sym c.in_ok-out.ensures ∙ c.if-out.true in
-    nothing_added rows.shown rows.oldest rows.located.tree rows.located.trace rows.findings rows.program.now c.args.self.now c.self.view_is
+    nothing_added rows.shown rows.oldest all.located.tree all.located.trace all.findings rows.program.now c.args.self.now c.self.view_is
     c.args.index c.index-records-index.result there c.args.text.now out
 
 pub returns-clause-row : goal.returns-clause-row
 returns-clause-row c =
     let rows = c.self.inside in
-    let below = among rows.shown rows.oldest rows.located.tree rows.located.trace rows.findings rows.program.now c.args.self.now c.self.view_is
+    let all = rows.audited in
+    let below = among rows.shown rows.oldest all.located.tree all.located.trace all.findings rows.program.now c.args.self.now c.self.view_is
     c.args.index c.requires in
     let r = c.index-records-index.result in
-    let there = read_there rows.located.trace c.records-records.result.now c.args.index r c.records-records.ensures.value below c.index-records-index.is in
-    let out : is_row_left_out rows.shown (answers_in rows.findings) c.args.index ≡ false =
+    let there = read_there all.located.trace c.records-records.result.now c.args.index r c.records-records.ensures.value below c.index-records-index.is in
+    let out : is_row_left_out rows.shown (answers_in all.findings) c.args.index ≡ false =
     sym c.in_ok-out.ensures ∙ c.if-out.false in
-    line_added rows.shown rows.oldest rows.located.tree rows.located.trace rows.findings rows.program.now c.args.self.now c.self.view_is
+    line_added rows.shown rows.oldest all.located.tree all.located.trace all.findings rows.program.now c.args.self.now c.self.view_is
     c.args.index r there c.args.text.now _ out
     (c.in_ok-push_line.ensures ∙ ap (λ (records : List Record).
-    adding c.args.text.now (line_of rows.oldest r (printed_under (said_of rows.shown.explanations) rows.located.tree records rows.findings c.args.index)))
+    adding c.args.text.now (line_of rows.oldest r (printed_under (said_of rows.shown.explanations) all.located.tree records all.findings c.args.index)))
     c.records-records.ensures.value)

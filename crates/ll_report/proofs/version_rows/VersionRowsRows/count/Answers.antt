@@ -9,8 +9,8 @@ use Rattle.ll_report.proofs.version_rows.VersionRowsRows.count.Goals as goal
 pub returns : goal.returns
 returns c =
     let rows = c.self.inside in
-    let records : List Record = rows.located.trace in
+    let records : List Record = rows.audited.located.trace in
     ap (λ (rs : List Record). length rs) c.records.ensures.value
     ∙ sym (length-rows (λ index r. row_text rows.shown rows.oldest
-    (founds_in rows.shown.explanations rows.located.tree records rows.findings) index (told_of r)) 0 records)
+    (founds_in rows.shown.explanations rows.audited.located.tree records rows.audited.findings) index (told_of r)) 0 records)
     ∙ ap (λ (m : Made). length m.shown) c.self.view_is

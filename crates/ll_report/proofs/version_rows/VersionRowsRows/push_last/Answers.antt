@@ -12,5 +12,5 @@ returns-clause-last c =
     let rows = c.self.inside in
     c.push_totals.ensures
     ∙ ap (λ (fs : List FindingValue). adding c.args.text.now (totals_text rows.oldest (answers_in fs))) c.as_slice.ensures
-    ∙ ap (adding c.args.text.now) (same_totals rows.shown.explanations rows.located.tree rows.located.trace rows.oldest rows.findings)
+    ∙ ap (adding c.args.text.now) (same_totals rows.shown.explanations rows.audited.located.tree rows.audited.located.trace rows.oldest rows.audited.findings)
     ∙ ap (λ (m : Made). adding c.args.text.now m.last) c.self.view_is

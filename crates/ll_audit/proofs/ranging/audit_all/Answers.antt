@@ -8,7 +8,7 @@ use Rattle.ll_trace.specs.declared.op.Record.{Record}
 use Rattle.ll_json.specs.Judged.{AreFound, IsFound}
 use Rattle.ll_audit.specs.ShownReports.{version_at, versions_by}
 use Rattle.ll_audit.proofs.VersionByVersion.{few_asked}
-use Rattle.ll_audit.proofs.ranging.Audited.of.Goals as goal
+use Rattle.ll_audit.proofs.ranging.audit_all.Goals as goal
 
 pub returns-clause-findings : goal.returns-clause-findings
 returns-clause-findings g c =
