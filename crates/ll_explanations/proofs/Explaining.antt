@@ -27,7 +27,7 @@ use Rattle.ll_reasons.specs.Meant.{reason_in}
 use Rattle.ll_reasons.specs.Reasons.{reason}
 use Rattle.ll_explanations.specs.Explained.{Explains, IsExplanation, IsExplanationOf, IsFoundAt}
 use Rattle.ll_explanations.specs.Meanings.{condition_in, explanation_in}
-use Rattle.ll_trails.specs.declared.trail.ProcessOrigins.{ProcessOrigins}
+use Rattle.ll_origins.specs.declared.trail.ProcessOrigins.{ProcessOrigins}
 use Rattle.ll_explanations.specs.declared.condition.Condition.{Condition}
 use Rattle.ll_explanations.specs.declared.explanation.Explanation.{Explanation}
 use Rattle.ll_explanations.specs.declared.explanation.Explanation.TheVariants.{Failure, Mootness}

@@ -8,8 +8,8 @@ use Rattle.ll_rules.specs.declared.errno.Errno.{Errno}
 use Rattle.ll_semantics.specs.States.{Layer}
 use Rattle.ll_reasons.specs.Explanations.{kept_by, objections_to}
 use Rattle.ll_reasons.specs.Origins.{Origins}
-use Rattle.ll_trails.specs.TraceOrigins.{Follows}
-use Rattle.ll_trails.specs.declared.trail.ProcessOrigins.{ProcessOrigins}
+use Rattle.ll_origins.specs.TraceOrigins.{Follows}
+use Rattle.ll_origins.specs.declared.trail.ProcessOrigins.{ProcessOrigins}
 use Rattle.ll_explanations.specs.Confined.{followed}
 
 module _ (tree : List Entry) (domain : List Layer) (trail : ProcessOrigins) (o : Origins) (follows : Follows trail o) (error : Errno) (numbers : List ℕ) where

@@ -6,8 +6,8 @@ use Rattle.ll_rules.specs.InTree.{all_in_tree, in_tree}
 use Rattle.ll_rules.specs.KeptLayers.{domain_of, layer_at}
 use Rattle.ll_semantics.specs.States.{Layer}
 use Rattle.ll_reasons.specs.Origins.{Origins}
-use Rattle.ll_trails.specs.TraceOrigins.{opened}
-use Rattle.ll_trails.specs.declared.trail.ProcessOrigins.{ProcessOrigins}
+use Rattle.ll_origins.specs.TraceOrigins.{opened}
+use Rattle.ll_origins.specs.declared.trail.ProcessOrigins.{ProcessOrigins}
 use Rattle.ll_explanations.specs.declared.confinement.Confinement.{Confinement}
 use Rattle.ll_explanations.specs.declared.confinement.OneLayer.{OneLayer}
 

@@ -8,8 +8,8 @@ use Rattle.ll_trace.specs.declared.op.Record.{Record}
 use Rattle.ll_semantics.specs.declared.answer.Answer.{Answer}
 use Rattle.ll_process.specs.Cases.{CaseValue}
 use Rattle.ll_reasons.specs.Explanations.{explained_at, origins_at}
-use Rattle.ll_trails.specs.TraceOrigins.{Follows}
-use Rattle.ll_trails.specs.declared.trail.ProcessOrigins.{ProcessOrigins}
+use Rattle.ll_origins.specs.TraceOrigins.{Follows}
+use Rattle.ll_origins.specs.declared.trail.ProcessOrigins.{ProcessOrigins}
 use Rattle.ll_explanations.specs.InTree.{IsExplanationIn}
 use Rattle.ll_explanations.specs.Meanings.{AreMade, explanation_in}
 use Rattle.ll_explanations.specs.declared.explanation.Explanation.{Explanation}

@@ -10,16 +10,16 @@ ghost use Rattle.ll_trace.specs.Borrowed.{is_of_rights};
 ghost use Rattle.ll_reasons.specs.Conditions as conditions;
 ghost use Rattle.ll_reasons.specs.Conditions.{handled, handled_on_ports};
 ghost use Rattle.ll_reasons.specs.Origins.{Origins};
-ghost use Rattle.ll_trails.specs.TraceOrigins.{Follows};
+ghost use Rattle.ll_origins.specs.TraceOrigins.{Follows};
 ghost use Rattle.ll_explanations.specs.Meanings.{condition_in};
 ghost use Rattle.ll_reasons.specs.{Meant.text_named, declared.why.Which.TheVariants.First};
 
 use crate::missing::{Test, passing};
+use ll_origins::ProcessOrigins;
 use ll_process::Case;
 use ll_rights::{Abi, Fs, Net, NetRight};
 use ll_rules::Errno;
 use ll_trace::{Call, Op, Seen};
-use ll_trails::ProcessOrigins;
 
 /// Why a call fails by no layer. Each variant stands for the condition of the same name in the definitions.
 #[derive(Clone, Copy, PartialEq, Eq)]

@@ -4,8 +4,8 @@ ghost use Rattle.std.specs.Prelude.{◌≡◌, ◌<◌, All, length, slice_get};
 ghost use Rattle.std.proofs.Props.{props};
 ghost use Rattle.ll_rules.specs.{InTree.AreInTree, KeptLayers.IsDomainOf};
 
+use ll_origins::ProcessOrigins;
 use ll_rules::{Layer, LayerId};
-use ll_trails::ProcessOrigins;
 use ll_tree::Tree;
 
 /// The layers of a process, where they come from, and the tree that they have rules on.

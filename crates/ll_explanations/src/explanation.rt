@@ -3,7 +3,7 @@
 ghost use Rattle.std.specs.Prelude.{◌≡◌, ◌≢◌, [], IfOk};
 ghost use Rattle.ll_semantics.specs.declared.answer.Answer.TheVariants.{Allowed, Moot, Refused};
 ghost use Rattle.ll_process.specs.Cases.{IsCase};
-ghost use Rattle.ll_trails.specs.CaseTrails.{AreTrailsAt, IsAnswerAt};
+ghost use Rattle.ll_origins.specs.CaseTrails.{AreTrailsAt, IsAnswerAt};
 ghost use Rattle.ll_explanations.specs.Explained.{Explains, IsFoundAt, is_silent};
 
 use crate::call::objections_to;
@@ -11,12 +11,12 @@ use crate::condition::{Condition, condition_of};
 use crate::confinement::Confinement;
 use crate::mootness::reason_of;
 use crate::objection::LayerObjections;
+use ll_origins::{ProcessOrigins, TraceOrigins, domain_of};
 use ll_process::Case;
 use ll_reasons::Reason;
 use ll_rules::{Errno, LayerSet, NoMemory};
 use ll_semantics::Answer;
 use ll_trace::Seen;
-use ll_trails::{ProcessOrigins, TraceOrigins, domain_of};
 use std::alloc::Global;
 
 /// Why a record is refused or moot. Its paths are those that the record's call names, its nodes are of the case's tree,

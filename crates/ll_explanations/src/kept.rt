@@ -3,7 +3,7 @@
 ghost use Rattle.std.specs.Prelude.{◌≡◌, All, IfOk, Some};
 ghost use Rattle.ll_rights.specs.CodeRights.{fs_right};
 ghost use Rattle.ll_reasons.specs.Explanations.{kept_by};
-ghost use Rattle.ll_trails.specs.TraceOrigins.{opened};
+ghost use Rattle.ll_origins.specs.TraceOrigins.{opened};
 ghost use Rattle.ll_explanations.specs.InTree.{IsNoted};
 ghost use Rattle.ll_explanations.specs.Meanings.{by_layer};
 

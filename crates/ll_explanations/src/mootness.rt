@@ -8,12 +8,12 @@ ghost use Rattle.ll_reasons.specs.declared.why.Which.TheVariants.{First};
 ghost use Rattle.ll_reasons.specs.Meant.{path_named, reason_in, text_named};
 ghost use Rattle.ll_reasons.specs.Origins.{Origins};
 ghost use Rattle.ll_reasons.specs.Reasons.{no_object, not_for_writing, open_already, reason, spelt, unmet, unopened};
-ghost use Rattle.ll_trails.specs.TraceOrigins.{Follows, opened};
+ghost use Rattle.ll_origins.specs.TraceOrigins.{Follows, opened};
 
+use ll_origins::ProcessOrigins;
 use ll_reasons::{Reason, no_object, no_object_at, unlinked, unmet, unrenamed};
 use ll_semantics::wanted;
 use ll_trace::{Call, Op, Seen, wants_at_a_path};
-use ll_trails::ProcessOrigins;
 use ll_tree::{Place, Tree};
 
 /// Whether a number of the process is open.

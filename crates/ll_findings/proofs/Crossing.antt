@@ -5,7 +5,7 @@ use denote.Struct.Declared.{shape}
 use Rattle.std.proofs.Crossing.{crosses}
 use Rattle.ll_semantics.proofs.answer.Answer.TheSendSync as answer
 use Rattle.ll_process.proofs.Crossing.{case_sync}
-use Rattle.ll_trails.proofs.Crossing.{origins_send}
+use Rattle.ll_origins.proofs.Crossing.{origins_send}
 use Rattle.ll_findings.proofs.finding.Finding.TheSendSync as finding
 use Rattle.ll_findings.specs.contracts.stretch.Stretch as Stretch
 

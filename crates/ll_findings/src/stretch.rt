@@ -2,12 +2,12 @@
 
 ghost use Rattle.std.specs.Prelude.{◌≡◌, ◌≤◌, length};
 ghost use Rattle.ll_semantics.specs.Worlds.{judged};
-ghost use Rattle.ll_trails.specs.CaseTrails.{AreTrailsAt};
+ghost use Rattle.ll_origins.specs.CaseTrails.{AreTrailsAt};
 
 use crate::finding::Finding;
+use ll_origins::TraceOrigins;
 use ll_process::Case;
 use ll_semantics::Answer;
-use ll_trails::TraceOrigins;
 use std::alloc::Global;
 
 /// Consecutive records of a case, with the answers to all records of the case, and the origins of everything that its

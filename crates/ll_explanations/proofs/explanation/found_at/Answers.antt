@@ -1,8 +1,8 @@
 use Rattle.std.proofs.Common.{◌<◌, ap, arith, length, subst}
 use Rattle.ll_process.specs.Cases.{CaseValue}
 use Rattle.ll_reasons.specs.Explanations.{origins_at}
-use Rattle.ll_trails.proofs.AtIndices.{process_there, record_there}
-use Rattle.ll_trails.specs.TraceOrigins.{Follows}
+use Rattle.ll_origins.proofs.AtIndices.{process_there, record_there}
+use Rattle.ll_origins.specs.TraceOrigins.{Follows}
 use Rattle.ll_explanations.proofs.Explaining.{index_within, starts_nothing}
 use Rattle.ll_explanations.proofs.explanation.found_at.Goals as goal
 

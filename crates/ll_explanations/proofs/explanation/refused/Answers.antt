@@ -12,8 +12,8 @@ use Rattle.ll_process.specs.Cases.{CaseValue}
 use Rattle.ll_reasons.specs.Explanations.{domain_at, objections, objections_to, origins_at}
 use Rattle.ll_reasons.specs.Objections.{Objection}
 use Rattle.ll_reasons.specs.Origins.{Origins}
-use Rattle.ll_trails.proofs.SameObjections.{same_layers_object_to_the_same}
-use Rattle.ll_trails.specs.CaseTrails.{IsDomainAt}
+use Rattle.ll_origins.proofs.SameObjections.{same_layers_object_to_the_same}
+use Rattle.ll_origins.specs.CaseTrails.{IsDomainAt}
 use Rattle.ll_explanations.specs.InTree.{AreObjectionsIn, IsNoted, IsObjectionIn}
 use Rattle.ll_explanations.specs.Meanings.{IsMade, by_layer, explanation_in}
 use Rattle.ll_explanations.specs.declared.objection.LayerObjection.{LayerObjection}

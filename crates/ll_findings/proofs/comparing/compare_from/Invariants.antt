@@ -1,5 +1,5 @@
 -- The changes cover the records before the index, and the trails are those before the record at the index.
-use Rattle.ll_trails.specs.CaseTrails.{AreTrailsAt}
+use Rattle.ll_origins.specs.CaseTrails.{AreTrailsAt}
 use Rattle.ll_findings.specs.Stretches.{Covers}
 use Rattle.ll_findings.proofs.comparing.compare_from.Given as goal
 

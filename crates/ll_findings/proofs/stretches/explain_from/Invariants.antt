@@ -1,5 +1,5 @@
 -- Each record before the index has an explanation, which is kept, and the trails are those before the record at the index.
-use Rattle.ll_trails.specs.CaseTrails.{AreTrailsAt}
+use Rattle.ll_origins.specs.CaseTrails.{AreTrailsAt}
 use Rattle.ll_findings.specs.Stretches.{Extends}
 use Rattle.ll_findings.proofs.stretches.explain_from.Given as goal
 

@@ -1,5 +1,5 @@
 -- the trails are those before the record at the index
-use Rattle.ll_trails.specs.CaseTrails.{AreTrailsAt}
+use Rattle.ll_origins.specs.CaseTrails.{AreTrailsAt}
 use Rattle.ll_findings.proofs.stretches.follow_to.Given as goal
 
 abbrev pub invariant-loop-index : goal.invariant-loop-index

@@ -1,5 +1,5 @@
 use Rattle.std.proofs.Common.{arith}
-use Rattle.ll_trails.proofs.AtIndices.{begins_at}
+use Rattle.ll_origins.proofs.AtIndices.{begins_at}
 use Rattle.ll_findings.proofs.stretch.Stretch.whole.Goals as goal
 
 pub invariant_of-result : goal.invariant_of-result

@@ -1,7 +1,7 @@
 use Rattle.std.proofs.Common.{◌≡◌, ◌∙◌, ◌<◌, ◌≤◌, List, ℕ, ap, arith, false, length, subst, sym, true}
 use Rattle.ll_trace.specs.declared.reader.TheConstants.{MOST_RECORDS}
 use Rattle.ll_trace.specs.declared.op.Record.{Record}
-use Rattle.ll_trails.proofs.AtIndices.{read_there}
+use Rattle.ll_origins.proofs.AtIndices.{read_there}
 use Rattle.ll_explain.specs.Buffers.{adding}
 use Rattle.ll_report.specs.Printed.{printed_under}
 use Rattle.ll_report.specs.Rows.{is_row_left_out}

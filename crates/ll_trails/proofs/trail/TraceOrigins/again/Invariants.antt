@@ -1,6 +1,0 @@
--- each trail before the next one is there once more
-use Rattle.ll_trails.proofs.Trailing.{FollowAlike}
-use Rattle.ll_trails.proofs.trail.TraceOrigins.again.Given as goal
-
-abbrev pub invariant-loop-trail : goal.invariant-loop-trail
-invariant-loop-trail l = FollowAlike l.self.trails.items l.trails.items l.trail-index
