@@ -4,7 +4,7 @@ use Rattle.std.specs.Prelude.{ℕ, List, [], Option, Some, None, option_map}
 use Rattle.ll_tree.specs.Trees.{Entry}
 use Rattle.ll_trace.specs.declared.op.Op.{Op}
 use Rattle.ll_trace.specs.declared.op.Record.{Record}
-use Rattle.ll_reasons.specs.Meant.{reason_in}
+use Rattle.ll_explanations.specs.Meant.{reason_in}
 use Rattle.ll_findings.specs.Findings.{FindingValue, said_in}
 use Rattle.ll_explanations.specs.Meanings.{condition_in}
 use Rattle.ll_explanations.specs.declared.explanation.Explanation.{Explanation}

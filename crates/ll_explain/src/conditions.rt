@@ -4,15 +4,14 @@ ghost use Rattle.std.specs.Prelude.{◌≡◌, ◌++◌, codes, decimal};
 ghost use Rattle.json.specs.Print.{escape};
 ghost use Rattle.ll_rights.specs.Abis.{number_of};
 ghost use Rattle.ll_explanations.specs.Meanings.{condition_in, port_rights_in, rights_in};
-ghost use Rattle.ll_reasons.specs.{Meant.text_named, declared.why.Which.TheVariants.First};
+ghost use Rattle.ll_explanations.specs.{Meant.text_named, declared.why.Which.TheVariants.First};
 ghost use Rattle.ll_explain.specs.Buffers.{adding};
 ghost use Rattle.ll_explain.specs.Words.{condition_text, port_rights_text, rights_text, unknown_text};
 
 use crate::buffer::TextBuffer;
 use crate::rights::{push_port_rights, push_rights};
 use crate::words::{push_escaped, push_numbered, push_words};
-use ll_explanations::Condition;
-use ll_reasons::{Which, text_of};
+use ll_explanations::{Condition, Which, text_of};
 use ll_rights::{Abi, Fs, Net};
 use ll_trace::Op;
 

@@ -3,7 +3,7 @@
 ghost use Rattle.std.specs.Prelude.{◌≡◌};
 ghost use Rattle.ll_explanations.specs.{InTree.IsExplanationIn, Meanings.condition_in};
 ghost use Rattle.ll_findings.specs.{Findings.kept_at, InTree.IsKeptIn};
-ghost use Rattle.ll_reasons.specs.Meant.{reason_in};
+ghost use Rattle.ll_explanations.specs.Meant.{reason_in};
 ghost use Rattle.ll_explain.specs.Buffers.{adding};
 ghost use Rattle.ll_explain.specs.Told.{text_told, value_text};
 ghost use Rattle.ll_explain.specs.Words.{alone, condition_text, reason_text};
@@ -13,9 +13,8 @@ use crate::conditions::push_condition;
 use crate::objections::push_lines;
 use crate::reasons::push_reason;
 use crate::words::push_words;
-use ll_explanations::{Condition, Explanation};
+use ll_explanations::{Condition, Explanation, Reason};
 use ll_findings::Finding;
-use ll_reasons::Reason;
 use ll_trace::{Op, Record};
 use ll_tree::Tree;
 

@@ -2,15 +2,15 @@
 
 ghost use Rattle.std.specs.Prelude.{◌≡◌, ◌++◌, IsTrue, codes, is_some};
 ghost use Rattle.ll_lines.specs.Paths.{path_of};
-ghost use Rattle.ll_reasons.specs.declared.why.Which.TheVariants.{First, Second};
-ghost use Rattle.ll_reasons.specs.Meant.{path_in, path_named, reason_in};
+ghost use Rattle.ll_explanations.specs.declared.why.Which.TheVariants.{First, Second};
+ghost use Rattle.ll_explanations.specs.Meant.{path_in, path_named, reason_in};
 ghost use Rattle.ll_reasons.specs.Reasons.{of_kind, spelt};
 ghost use Rattle.ll_explain.specs.Buffers.{adding};
 ghost use Rattle.ll_explain.specs.Words.{path_text, reason_text};
 
 use crate::buffer::TextBuffer;
 use crate::words::{push_escaped, push_numbered, push_words};
-use ll_reasons::{NamedPath, Reason, Which, text_above, text_of};
+use ll_explanations::{NamedPath, Reason, Which, text_above, text_of};
 use ll_rights::Kind;
 use ll_trace::Op;
 
@@ -78,7 +78,7 @@ fn push_both(text: &mut TextBuffer, op: &Op, before: &str, between: &str, said: 
 }
 
 /// Says why the policy isn't asked.
-#[tactic(auto, unfolding(ll_reasons::specs::Meant::reason_in, crate::specs::Words::reason_text))]
+#[tactic(auto, unfolding(ll_explanations::specs::Meant::reason_in, crate::specs::Words::reason_text))]
 pub(crate) fn push_reason(text: &mut TextBuffer, op: &Op, reason: &Reason)
     ensures { text.new ≡ adding text.old (reason_text (reason_in op.now reason.now)) }
 {

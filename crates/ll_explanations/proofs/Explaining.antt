@@ -20,10 +20,10 @@ use Rattle.ll_semantics.specs.Worlds.{World, answer_in, judged}
 use Rattle.ll_semantics.specs.CallContexts.{world_at}
 use Rattle.ll_semantics.proofs.Steps.{judged-at, length-judged}
 use Rattle.ll_process.specs.Cases.{CaseValue}
-use Rattle.ll_reasons.specs.declared.why.Reason.{Reason}
+use Rattle.ll_explanations.specs.declared.why.Reason.{Reason}
 use Rattle.ll_reasons.specs.Conditions.{condition}
 use Rattle.ll_reasons.specs.Explanations.{domain_at, explained, explained_at, failure, mootness, objections, objections_to, origins_at}
-use Rattle.ll_reasons.specs.Meant.{reason_in}
+use Rattle.ll_explanations.specs.Meant.{reason_in}
 use Rattle.ll_reasons.specs.Reasons.{reason}
 use Rattle.ll_explanations.specs.Explained.{Explains, IsExplanation, IsExplanationOf, IsFoundAt}
 use Rattle.ll_explanations.specs.Meanings.{condition_in, explanation_in}

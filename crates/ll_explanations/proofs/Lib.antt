@@ -10,3 +10,5 @@ pub mod Beyond
 pub mod Wanting
 pub mod Explaining
 pub mod Grouping
+pub mod SpeltTexts
+pub mod Upward

@@ -8,8 +8,8 @@ use Rattle.ll_trace.specs.declared.op.Op.TheVariants as calls
 use Rattle.ll_trace.specs.Operations.{paths_of}
 use Rattle.ll_semantics.specs.declared.request.Wanted.{Wanted}
 use Rattle.ll_semantics.specs.Requests.{wanted}
-use Rattle.ll_reasons.specs.declared.why.Which.TheVariants.{First}
-use Rattle.ll_reasons.specs.Meant.{path_named, text_named}
+use Rattle.ll_explanations.specs.declared.why.Which.TheVariants.{First}
+use Rattle.ll_explanations.specs.Meant.{path_named, text_named}
 use Rattle.ll_reasons.specs.Reasons.{spelt, unmet}
 
 module _ (path : List ℕ) (want : Wanted) where

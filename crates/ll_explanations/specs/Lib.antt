@@ -1,5 +1,6 @@
 pub mod Lacked
 pub mod Confined
+pub mod Meant
 pub mod Meanings
 pub mod InTree
 pub mod Adding

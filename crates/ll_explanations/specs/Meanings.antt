@@ -12,8 +12,8 @@ use Rattle.ll_tree.specs.Trees.{Entry, path_at}
 use Rattle.ll_trace.specs.declared.op.Op.{Op}
 use Rattle.ll_reasons.specs.Objections as meant
 use Rattle.ll_reasons.specs.Conditions as conditions
-use Rattle.ll_reasons.specs.Meant.{reason_in, text_named}
-use Rattle.ll_reasons.specs.declared.why.Which.TheVariants.{First}
+use Rattle.ll_explanations.specs.Meant.{reason_in, text_named}
+use Rattle.ll_explanations.specs.declared.why.Which.TheVariants.{First}
 use Rattle.ll_reasons.specs.Explanations as explanations
 use Rattle.ll_explanations.specs.declared.objection.Objection.{Objection}
 use Rattle.ll_explanations.specs.declared.objection.Objection.TheVariants.{Missing, Closed, Gained, Mounting, Kept}
@@ -74,14 +74,14 @@ condition_in op Other = conditions.other
 -- All that unfolds when a condition is told.
 unfoldable pub failing : Unit {0}
 unfolding
-    condition_in Rattle.ll_reasons.specs.Meant.text_named Rattle.ll_trace.specs.Operations.paths_of Rattle.ll_reasons.specs.Conditions.condition Rattle.ll_reasons.specs.Conditions.of_create
+    condition_in Rattle.ll_explanations.specs.Meant.text_named Rattle.ll_trace.specs.Operations.paths_of Rattle.ll_reasons.specs.Conditions.condition Rattle.ll_reasons.specs.Conditions.of_create
     Rattle.ll_reasons.specs.Conditions.of_add_path Rattle.ll_reasons.specs.Conditions.of_add_port Rattle.ll_reasons.specs.Conditions.of_restrict
 failing = tt
 
 -- All that unfolds when a reason is told.
 unfoldable pub mooting : Unit {0}
 unfolding
-    Rattle.ll_reasons.specs.Meant.reason_in Rattle.ll_reasons.specs.Meant.text_named Rattle.ll_reasons.specs.Reasons.reason
+    Rattle.ll_explanations.specs.Meant.reason_in Rattle.ll_explanations.specs.Meant.text_named Rattle.ll_reasons.specs.Reasons.reason
     Rattle.ll_trace.specs.Operations.paths_of Rattle.ll_trace.specs.FirstPlaces.first_place
 mooting = tt
 

@@ -12,7 +12,7 @@ ghost use Rattle.ll_reasons.specs.Conditions.{handled, handled_on_ports};
 ghost use Rattle.ll_reasons.specs.Origins.{Origins};
 ghost use Rattle.ll_origins.specs.TraceOrigins.{Follows};
 ghost use Rattle.ll_explanations.specs.Meanings.{condition_in};
-ghost use Rattle.ll_reasons.specs.{Meant.text_named, declared.why.Which.TheVariants.First};
+ghost use Rattle.ll_explanations.specs.{Meant.text_named, declared.why.Which.TheVariants.First};
 
 use crate::missing::{Test, passing};
 use ll_origins::ProcessOrigins;

@@ -10,10 +10,16 @@ mod kept;
 mod missing;
 mod mootness;
 mod moved;
+mod moves;
 mod objection;
+mod objects;
+mod paths;
 mod ports;
 mod same;
+mod why;
 
 pub use condition::Condition;
 pub use explanation::{Explanation, explain};
 pub use objection::{LayerObjection, LayerObjections, Objection};
+pub use paths::{text_above, text_of};
+pub use why::{NamedPath, Reason, Which};

@@ -4,14 +4,16 @@ ghost use Rattle.std.specs.Prelude.{◌≡◌, false, if◌then◌else◌, IfSom
 ghost use Rattle.ll_tree.specs.Trees.{place};
 ghost use Rattle.ll_trace.specs.{declared.op.Op.Op, FirstPlaces.first_place, Borrowed.is_of_rights};
 ghost use Rattle.ll_semantics.specs.Requests.{wanted};
-ghost use Rattle.ll_reasons.specs.declared.why.Which.TheVariants.{First};
-ghost use Rattle.ll_reasons.specs.Meant.{path_named, reason_in, text_named};
+ghost use Rattle.ll_explanations.specs.declared.why.Which.TheVariants.{First};
+ghost use Rattle.ll_explanations.specs.Meant.{path_named, reason_in, text_named};
 ghost use Rattle.ll_reasons.specs.Origins.{Origins};
 ghost use Rattle.ll_reasons.specs.Reasons.{no_object, not_for_writing, open_already, reason, spelt, unmet, unopened};
 ghost use Rattle.ll_origins.specs.TraceOrigins.{Follows, opened};
 
+use crate::moves::{unlinked, unrenamed};
+use crate::objects::{no_object, no_object_at, unmet};
+use crate::why::Reason;
 use ll_origins::ProcessOrigins;
-use ll_reasons::{Reason, no_object, no_object_at, unlinked, unmet, unrenamed};
 use ll_semantics::wanted;
 use ll_trace::{Call, Op, Seen, wants_at_a_path};
 use ll_tree::{Place, Tree};
@@ -24,7 +26,7 @@ fn is_open(trail: &ProcessOrigins, fd: u64) -> bool
 }
 
 /// Why nothing is opened at the first path of a call, whose place may be known.
-#[tactic(auto, unfolding(ll_reasons::specs::Meant::reason_in))]
+#[tactic(auto, unfolding(crate::specs::Meant::reason_in))]
 fn not_opened(tree: &Tree, trail: &ProcessOrigins, op: &Op, fd: u64, known: Option<Place>) -> Reason
     requires { IfSome known (λ one. one ≡ place tree.now (text_named op.now First)) }
     ensures { reason_in op.now result
@@ -39,7 +41,7 @@ fn not_opened(tree: &Tree, trail: &ProcessOrigins, op: &Op, fd: u64, known: Opti
 }
 
 /// Why a descriptor's file isn't truncated.
-#[tactic(auto, unfolding(ll_reasons::specs::Meant::reason_in))]
+#[tactic(auto, unfolding(crate::specs::Meant::reason_in))]
 fn not_truncated(trail: &ProcessOrigins, fd: u64) -> Reason
     ensures { (op : Op) → reason_in op result
         ≡ (if is_some (opened trail.now.openings fd) then not_for_writing fd else unopened fd) }

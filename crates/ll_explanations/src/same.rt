@@ -5,7 +5,7 @@ ghost use Rattle.std.specs.Prelude.{◌≡◌, Decides};
 use crate::condition::Condition;
 use crate::explanation::Explanation;
 use crate::objection::{LayerObjection, Objection};
-use ll_reasons::Reason;
+use crate::why::Reason;
 
 /// Whether two objections of layers are the same.
 fn is_same_objection(one: &LayerObjection, other: &LayerObjection) -> bool

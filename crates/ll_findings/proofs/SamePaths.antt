@@ -2,14 +2,14 @@
 use Rattle.std.proofs.Common.{◌≡◌, List, Some, None, refl, ap, ap₂}
 use Rattle.ll_tree.specs.Trees.{Entry}
 use Rattle.ll_trace.specs.declared.op.Op.{Op}
-use Rattle.ll_reasons.specs.declared.why.NamedPath.{NamedPath}
-use Rattle.ll_reasons.specs.declared.why.Which.{Which}
-use Rattle.ll_reasons.specs.declared.why.Which.TheVariants.{First, Second}
-use Rattle.ll_reasons.specs.declared.why.Reason.{Reason as Given}
-use Rattle.ll_reasons.specs.declared.why.Reason.TheVariants as given
+use Rattle.ll_explanations.specs.declared.why.NamedPath.{NamedPath}
+use Rattle.ll_explanations.specs.declared.why.Which.{Which}
+use Rattle.ll_explanations.specs.declared.why.Which.TheVariants.{First, Second}
+use Rattle.ll_explanations.specs.declared.why.Reason.{Reason as Given}
+use Rattle.ll_explanations.specs.declared.why.Reason.TheVariants as given
 use Rattle.ll_reasons.specs.Explanations as meant
 use Rattle.ll_reasons.specs.Conditions.{only_for_directories}
-use Rattle.ll_reasons.specs.Meant.{above_by, first_of, path_in, path_named, paths_of, reason_in, second_of, text_named}
+use Rattle.ll_explanations.specs.Meant.{above_by, first_of, path_in, path_named, paths_of, reason_in, second_of, text_named}
 use Rattle.ll_reasons.specs.Reasons.{Reason, spelt, absent, no_directory, present, of_kind, unmoved, beneath_itself, over_itself, mixed}
 use Rattle.ll_explanations.specs.Meanings.{condition_in, explanation_in, rights_in}
 use Rattle.ll_explanations.specs.declared.condition.Condition.{Condition}

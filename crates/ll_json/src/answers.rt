@@ -9,7 +9,7 @@ ghost use Rattle.ll_semantics.specs.declared.answer.Answer.TheVariants.{Refused}
 ghost use Rattle.ll_tree.specs.Trees.{Entry};
 ghost use Rattle.ll_explanations.specs.InTree.{IsExplanationIn};
 ghost use Rattle.ll_explanations.specs.Meanings.{condition_in, explanation_in};
-ghost use Rattle.ll_reasons.specs.Meant.{reason_in};
+ghost use Rattle.ll_explanations.specs.Meant.{reason_in};
 ghost use Rattle.ll_report.specs.Lines as spec;
 ghost use Rattle.ll_report.specs.Versions.{answered};
 ghost use Rattle.ll_json.specs.Parts.{array_of, named_tokens, values_tokens};
@@ -23,8 +23,7 @@ use crate::json_text::JsonText;
 use crate::objections::write_layers;
 use crate::reasons::write_reason;
 use crate::words::{write_number, write_text};
-use ll_explanations::{Condition, Explanation};
-use ll_reasons::Reason;
+use ll_explanations::{Condition, Explanation, Reason};
 use ll_report::{FindingAt, error_name};
 use ll_rules::{Errno, LayerSet, MOST_LAYERS};
 use ll_semantics::Answer;

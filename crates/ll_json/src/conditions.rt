@@ -4,7 +4,7 @@
 ghost use Rattle.std.specs.Prelude.{◌≡◌, ◌∷◌, [], codes};
 ghost use Rattle.json.specs.{Json.string, Tree.json_tokens};
 ghost use Rattle.ll_rights.specs.Abis.{number_of};
-ghost use Rattle.ll_reasons.specs.{Meant.text_named, declared.why.Which.TheVariants.First};
+ghost use Rattle.ll_explanations.specs.{Meant.text_named, declared.why.Which.TheVariants.First};
 ghost use Rattle.ll_explanations.specs.Meanings.{condition_in, port_rights_in, rights_in};
 ghost use Rattle.ll_json.specs.{Parts.array_of, Parts.whole, Writing.writing};
 ghost use Rattle.ll_json.specs.Why.{by_condition, condition_json, port_rights_json, rights_json};
@@ -12,8 +12,7 @@ ghost use Rattle.ll_json.specs.Why.{by_condition, condition_json, port_rights_js
 use crate::json_text::JsonText;
 use crate::rights::{RightSet, write_rights_as};
 use crate::words::{begin_by, write_alone, write_number, write_numbered, write_text};
-use ll_explanations::Condition;
-use ll_reasons::{Which, text_of};
+use ll_explanations::{Condition, Which, text_of};
 use ll_rights::{Abi, Fs, Net};
 use ll_trace::Op;
 

@@ -6,8 +6,8 @@ ghost use Rattle.json.specs.Json.{string};
 ghost use Rattle.json.specs.Token as token;
 ghost use Rattle.json.specs.Tree.{json_tokens};
 ghost use Rattle.ll_lines.specs.Paths.{path_of};
-ghost use Rattle.ll_reasons.specs.declared.why.Which.TheVariants.{First, Second};
-ghost use Rattle.ll_reasons.specs.Meant.{path_in, path_named, reason_in};
+ghost use Rattle.ll_explanations.specs.declared.why.Which.TheVariants.{First, Second};
+ghost use Rattle.ll_explanations.specs.Meant.{path_in, path_named, reason_in};
 ghost use Rattle.ll_reasons.specs.Reasons.{spelt};
 ghost use Rattle.ll_json.specs.Writing.{writing};
 ghost use Rattle.ll_json.specs.Why as spec;
@@ -15,7 +15,7 @@ ghost use Rattle.ll_json.specs.Why.{by_reason, from_to, path_json, reason_json};
 
 use crate::json_text::JsonText;
 use crate::words::{begin_by, write_alone, write_numbered, write_text};
-use ll_reasons::{NamedPath, Reason, Which, text_above, text_of};
+use ll_explanations::{NamedPath, Reason, Which, text_above, text_of};
 use ll_rights::Kind;
 use ll_trace::Op;
 
@@ -104,7 +104,7 @@ fn write_both(out: &mut JsonText, op: &Op, word: &str)
 }
 
 /// Writes why the policy isn't asked.
-#[tactic(auto, unfolding(ll_reasons::specs::Meant::reason_in, crate::specs::Why::reason_json))]
+#[tactic(auto, unfolding(ll_explanations::specs::Meant::reason_in, crate::specs::Why::reason_json))]
 pub(crate) fn write_reason(out: &mut JsonText, op: &Op, reason: &Reason)
     ensures { out.new ≡ writing out.old (json_tokens (reason_json (reason_in op.now reason.now))) }
 {

@@ -14,5 +14,3 @@ pub mod Placed
 pub mod ReasonsTrue
 pub mod ReasonsAbout
 pub mod ConditionsTrue
-pub mod SpeltTexts
-pub mod Upward

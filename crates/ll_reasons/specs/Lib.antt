@@ -7,6 +7,5 @@ pub mod ConditionsHold
 pub mod Reasons
 pub mod CallNames
 pub mod ReasonsHold
-pub mod Meant
 pub mod Explanations
 pub mod WorkedExplanations

@@ -2,8 +2,8 @@ use Rattle.std.proofs.Common.{◌≡◌, ◌∙◌, ap}
 use Rattle.ll_rights.specs.declared.fs.TheConstants.Fs.{FILE}
 use Rattle.ll_rights.specs.Rights as files
 use Rattle.ll_reasons.specs.Conditions.{only_for_directories, unhandled, directory_rights}
-use Rattle.ll_reasons.specs.Meant.{text_named}
-use Rattle.ll_reasons.specs.declared.why.Which.TheVariants.{First}
+use Rattle.ll_explanations.specs.Meant.{text_named}
+use Rattle.ll_explanations.specs.declared.why.Which.TheVariants.{First}
 use Rattle.ll_explanations.specs.Meanings.{condition_in, rights_in}
 use Rattle.ll_explanations.proofs.Beyond.{all_within, beyond_is, some_beyond}
 use Rattle.ll_explanations.proofs.RightIndices.{is_file, directory_beyond}

@@ -2,7 +2,7 @@
 use Rattle.std.proofs.Common.{◌∙◌, ap, sym}
 use Rattle.std.specs.Option.{option_map}
 use Rattle.ll_reasons.specs.Explanations.{origins_at}
-use Rattle.ll_reasons.specs.Meant.{reason_in}
+use Rattle.ll_explanations.specs.Meant.{reason_in}
 use Rattle.ll_reasons.specs.Reasons.{reason}
 use Rattle.ll_explanations.proofs.Explaining.{is_moot, known_there}
 use Rattle.ll_explanations.proofs.explanation.moot.Goals as goal

@@ -1,4 +1,4 @@
-use Rattle.ll_reasons.specs.Meant.{reason_in}
+use Rattle.ll_explanations.specs.Meant.{reason_in}
 use Rattle.ll_json.specs.Why.{reason_json}
 use Rattle.ll_json.proofs.reasons.write_reason.Goals as goal
 

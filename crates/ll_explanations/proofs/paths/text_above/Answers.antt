@@ -1,9 +1,9 @@
 use Rattle.std.proofs.Common.{◌≡◌, ◌∙◌, ap, sym, arith}
 use Rattle.ll_lines.specs.Paths.{front}
-use Rattle.ll_reasons.specs.Meant.{above_by, path_in, path_named}
-use Rattle.ll_reasons.proofs.Upward.{above_next, front_root}
-use Rattle.ll_reasons.proofs.paths.text_above.Goals as goal
-use Rattle.ll_reasons.proofs.paths.text_above.Goals.{in-Some, in_default}
+use Rattle.ll_explanations.specs.Meant.{above_by, path_in, path_named}
+use Rattle.ll_explanations.proofs.Upward.{above_next, front_root}
+use Rattle.ll_explanations.proofs.paths.text_above.Goals as goal
+use Rattle.ll_explanations.proofs.paths.text_above.Goals.{in-Some, in_default}
 
 pub loop-init : goal.loop-init
 unfolding above_by

@@ -1,7 +1,7 @@
 use Rattle.std.proofs.Common.{rules}
-use Rattle.ll_reasons.specs.Meant.{above_by, path_in, reason_in}
+use Rattle.ll_explanations.specs.Meant.{above_by, path_in, reason_in}
 use Rattle.ll_reasons.specs.Reasons.{linked_to}
-use Rattle.ll_reasons.proofs.moves.linked_to.Goals as goal
+use Rattle.ll_explanations.proofs.moves.linked_to.Goals as goal
 
 pub returns-in-Node : goal.returns-in-Node
 unfolding reason_in path_in above_by linked_to

@@ -2,8 +2,8 @@
 
 ghost use Rattle.std.specs.Prelude.{◌≡◌, IfSome};
 ghost use Rattle.ll_tree.specs.Trees.{IsNode, place};
-ghost use Rattle.ll_reasons.specs.declared.why.Which.TheVariants.{First, Second};
-ghost use Rattle.ll_reasons.specs.Meant.{path_named, reason_in, text_named};
+ghost use Rattle.ll_explanations.specs.declared.why.Which.TheVariants.{First, Second};
+ghost use Rattle.ll_explanations.specs.Meant.{path_named, reason_in, text_named};
 ghost use Rattle.ll_reasons.specs.Reasons.{linked_to, moved_to, onto, unlinked, unrenamed};
 
 use crate::objects::{nowhere, place_of};
@@ -13,7 +13,7 @@ use ll_trace::Op;
 use ll_tree::{NodeId, Place, Tree};
 
 /// Why an object doesn't take the place of another.
-#[tactic(auto, unfolding(crate::specs::Meant::reason_in, crate::specs::Meant::path_in, crate::specs::Meant::above_by, crate::specs::Reasons::onto))]
+#[tactic(auto, unfolding(crate::specs::Meant::reason_in, crate::specs::Meant::path_in, crate::specs::Meant::above_by, ll_reasons::specs::Reasons::onto))]
 fn onto(tree: &Tree, op: &Op, moved: NodeId, there: NodeId) -> Reason
     requires moved_is_node { IsNode tree.now moved }
     requires there_is_node { IsNode tree.now there }
@@ -36,7 +36,7 @@ fn onto(tree: &Tree, op: &Op, moved: NodeId, there: NodeId) -> Reason
 }
 
 /// Why an object that isn't the root isn't renamed to a path, or exchanged with what is there.
-#[tactic(auto, unfolding(crate::specs::Meant::reason_in, crate::specs::Meant::path_in, crate::specs::Meant::above_by, crate::specs::Reasons::moved_to))]
+#[tactic(auto, unfolding(crate::specs::Meant::reason_in, crate::specs::Meant::path_in, crate::specs::Meant::above_by, ll_reasons::specs::Reasons::moved_to))]
 fn moved_to(tree: &Tree, op: &Op, moved: NodeId, exchange: bool) -> Reason
     requires { IsNode tree.now moved }
     ensures { reason_in op.now result ≡ moved_to tree.now (path_named op.now First) moved
@@ -53,8 +53,8 @@ fn moved_to(tree: &Tree, op: &Op, moved: NodeId, exchange: bool) -> Reason
 
 /// Why the object of a call's first path, whose place may be known, isn't renamed to its second, or the two aren't
 /// exchanged.
-#[tactic(auto, unfolding(crate::specs::Meant::reason_in, crate::specs::Meant::path_in, crate::specs::Meant::above_by, crate::specs::Reasons::unrenamed))]
-pub fn unrenamed(tree: &Tree, op: &Op, exchange: bool, known: Option<Place>) -> Reason
+#[tactic(auto, unfolding(crate::specs::Meant::reason_in, crate::specs::Meant::path_in, crate::specs::Meant::above_by, ll_reasons::specs::Reasons::unrenamed))]
+pub(crate) fn unrenamed(tree: &Tree, op: &Op, exchange: bool, known: Option<Place>) -> Reason
     requires { IfSome known (λ one. one ≡ place tree.now (text_named op.now First)) }
     ensures { reason_in op.now result ≡ unrenamed tree.now (path_named op.now First)
         (place tree.now (text_named op.now First)) (path_named op.now Second)
@@ -70,7 +70,7 @@ pub fn unrenamed(tree: &Tree, op: &Op, exchange: bool, known: Option<Place>) -> 
 }
 
 /// Why an object that isn't the root gets no further name.
-#[tactic(auto, unfolding(crate::specs::Meant::reason_in, crate::specs::Meant::path_in, crate::specs::Meant::above_by, crate::specs::Reasons::linked_to))]
+#[tactic(auto, unfolding(crate::specs::Meant::reason_in, crate::specs::Meant::path_in, crate::specs::Meant::above_by, ll_reasons::specs::Reasons::linked_to))]
 fn linked_to(tree: &Tree, op: &Op, linked: NodeId) -> Reason
     requires { IsNode tree.now linked }
     ensures { reason_in op.now result ≡ linked_to tree.now (path_named op.now First) linked
@@ -85,8 +85,8 @@ fn linked_to(tree: &Tree, op: &Op, linked: NodeId) -> Reason
 }
 
 /// Why the object of a call's first path, whose place may be known, gets no further name, the second.
-#[tactic(auto, unfolding(crate::specs::Meant::reason_in, crate::specs::Meant::path_in, crate::specs::Meant::above_by, crate::specs::Reasons::unlinked))]
-pub fn unlinked(tree: &Tree, op: &Op, known: Option<Place>) -> Reason
+#[tactic(auto, unfolding(crate::specs::Meant::reason_in, crate::specs::Meant::path_in, crate::specs::Meant::above_by, ll_reasons::specs::Reasons::unlinked))]
+pub(crate) fn unlinked(tree: &Tree, op: &Op, known: Option<Place>) -> Reason
     requires { IfSome known (λ one. one ≡ place tree.now (text_named op.now First)) }
     ensures { reason_in op.now result ≡ unlinked tree.now (path_named op.now First)
         (place tree.now (text_named op.now First)) (path_named op.now Second)

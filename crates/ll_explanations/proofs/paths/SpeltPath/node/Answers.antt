@@ -1,8 +1,8 @@
 use Rattle.std.proofs.Common.{◌∙◌, ap}
 use Rattle.ll_tree.specs.Trees.{node_at}
 use Rattle.ll_reasons.specs.Reasons.{spelt}
-use Rattle.ll_reasons.proofs.SpeltTexts.{spelt_read}
-use Rattle.ll_reasons.proofs.paths.SpeltPath.node.Goals as goal
+use Rattle.ll_explanations.proofs.SpeltTexts.{spelt_read}
+use Rattle.ll_explanations.proofs.paths.SpeltPath.node.Goals as goal
 
 pub returns-clause-exact : goal.returns-clause-exact
 returns-clause-exact c =

@@ -4,7 +4,7 @@ use Rattle.std.specs.Prelude.{◌≢◌}
 use Rattle.ll_tree.specs.declared.place.NodeId.{NodeId}
 use Rattle.ll_lines.specs.Paths.{Name, Path, front}
 use Rattle.ll_tree.specs.Trees.{Entry, is_dir, kind_at, node_at}
-use Rattle.ll_reasons.specs.Meant.{above_by}
+use Rattle.ll_explanations.specs.Meant.{above_by}
 use Rattle.ll_reasons.specs.Reasons.{absent, beside, ends_at, no_directory, nowhere, or_above}
 
 -- a path has one name more than the one above it

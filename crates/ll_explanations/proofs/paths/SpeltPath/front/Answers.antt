@@ -1,7 +1,7 @@
 use Rattle.std.proofs.Common.{◌∙◌, ap, sym, arith}
 use Rattle.ll_lines.specs.Paths.{front}
-use Rattle.ll_reasons.proofs.SpeltTexts.{front_shape, front_spelt, long_path, short_root}
-use Rattle.ll_reasons.proofs.paths.SpeltPath.front.Goals as goal
+use Rattle.ll_explanations.proofs.SpeltTexts.{front_shape, front_spelt, long_path, short_root}
+use Rattle.ll_explanations.proofs.paths.SpeltPath.front.Goals as goal
 
 pub returns-then-text-le1-clause-none : goal.returns-then-text-le1-clause-none
 returns-then-text-le1-clause-none c =

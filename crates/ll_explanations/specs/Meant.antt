@@ -4,11 +4,11 @@ use Rattle.std.specs.Prelude.{ℕ, zero, suc, List, [], ◌∷◌}
 use Rattle.ll_lines.specs.Paths.{Path, front}
 use Rattle.ll_trace.specs.declared.op.Op.{Op}
 unfoldable pub use Rattle.ll_trace.specs.Operations.{paths_of}
-use Rattle.ll_reasons.specs.declared.why.NamedPath.{NamedPath}
-use Rattle.ll_reasons.specs.declared.why.Which.{Which}
-use Rattle.ll_reasons.specs.declared.why.Which.TheVariants.{First, Second}
-use Rattle.ll_reasons.specs.declared.why.Reason.{Reason as Given}
-use Rattle.ll_reasons.specs.declared.why.Reason.TheVariants as given
+use Rattle.ll_explanations.specs.declared.why.NamedPath.{NamedPath}
+use Rattle.ll_explanations.specs.declared.why.Which.{Which}
+use Rattle.ll_explanations.specs.declared.why.Which.TheVariants.{First, Second}
+use Rattle.ll_explanations.specs.declared.why.Reason.{Reason as Given}
+use Rattle.ll_explanations.specs.declared.why.Reason.TheVariants as given
 use Rattle.ll_reasons.specs.Reasons.{Reason, spelt, absent, no_directory, present, of_kind, root, unmoved, beneath_itself, over_itself, mixed, open_already, unopened, not_for_writing, held_already, unheld, unsupported, unenforced}
 
 -- the first of some texts, and the second; the root's where there is none

@@ -1,5 +1,5 @@
 use Rattle.std.proofs.Common.{rules}
-use Rattle.ll_reasons.proofs.paths.text_of.Goals as goal
+use Rattle.ll_explanations.proofs.paths.text_of.Goals as goal
 
 pub returns-in-First-clause-text : goal.returns-in-First-clause-text
 returns-in-First-clause-text c = search rules

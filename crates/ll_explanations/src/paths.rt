@@ -3,8 +3,8 @@
 ghost use Rattle.std.specs.Prelude.{◌≡◌, ◌≢◌, [], IfNone, IfSome, IsTrue, is_some};
 ghost use Rattle.ll_lines.specs.Paths.{front, path_of};
 ghost use Rattle.ll_tree.specs.Trees.{IsNode, node_at};
-ghost use Rattle.ll_reasons.specs.declared.why.Which.TheVariants.{First, Second};
-ghost use Rattle.ll_reasons.specs.Meant.{path_in, path_named, text_named};
+ghost use Rattle.ll_explanations.specs.declared.why.Which.TheVariants.{First, Second};
+ghost use Rattle.ll_explanations.specs.Meant.{path_in, path_named, text_named};
 ghost use Rattle.ll_reasons.specs.Reasons.{spelt};
 
 use crate::why::{NamedPath, Which};

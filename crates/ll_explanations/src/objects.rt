@@ -3,8 +3,8 @@
 ghost use Rattle.std.specs.Prelude.{◌≡◌, IfSome, IsTrue, is_some};
 ghost use Rattle.ll_lines.specs.Paths.{path_of};
 ghost use Rattle.ll_tree.specs.{Trees.place, TreeFacts.IsPlace};
-ghost use Rattle.ll_reasons.specs.declared.why.Which.TheVariants.{First};
-ghost use Rattle.ll_reasons.specs.Meant.{path_named, reason_in, text_named};
+ghost use Rattle.ll_explanations.specs.declared.why.Which.TheVariants.{First};
+ghost use Rattle.ll_explanations.specs.Meant.{path_named, reason_in, text_named};
 ghost use Rattle.ll_reasons.specs.Reasons.{no_object, nowhere, spelt, unmet};
 ghost use Rattle.ll_trace.specs.declared.op.Op.{Op as Operation};
 
@@ -15,7 +15,7 @@ use ll_trace::{Op, PathText};
 use ll_tree::{Place, Tree};
 
 /// The place of the first path of a call, which may be known.
-#[tactic(auto, using(crate::proofs::Placed::place_inside))]
+#[tactic(auto, using(ll_reasons::proofs::Placed::place_inside))]
 pub(crate) fn place_of(tree: &Tree, op: &Op, known: Option<Place>) -> Place
     requires { IfSome known (λ one. one ≡ place tree.now (text_named op.now First)) }
     ensures place { result ≡ place tree.now (text_named op.now First) }
@@ -59,8 +59,8 @@ pub(crate) fn nowhere(tree: &Tree, op: &Op, which: Which) -> Reason
 }
 
 /// Why the path of a rule isn't that of an object.
-#[tactic(auto, unfolding(crate::specs::Meant::reason_in, crate::specs::Meant::path_in, crate::specs::Meant::above_by, crate::specs::Reasons::no_object))]
-pub fn no_object_at(tree: &Tree, path: &PathText) -> Reason
+#[tactic(auto, unfolding(crate::specs::Meant::reason_in, crate::specs::Meant::path_in, crate::specs::Meant::above_by, ll_reasons::specs::Reasons::no_object))]
+pub(crate) fn no_object_at(tree: &Tree, path: &PathText) -> Reason
     ensures { (op : Operation) → text_named op First ≡ path.now → reason_in op result
         ≡ no_object tree.now (path_named op First) (place tree.now (text_named op First)) }
 {
@@ -73,8 +73,8 @@ pub fn no_object_at(tree: &Tree, path: &PathText) -> Reason
 }
 
 /// Why the first path of a call, whose place may be known, isn't that of an object which the call takes.
-#[tactic(auto, unfolding(crate::specs::Meant::reason_in, crate::specs::Meant::path_in, crate::specs::Meant::above_by, crate::specs::Reasons::no_object))]
-pub fn no_object(tree: &Tree, op: &Op, known: Option<Place>) -> Reason
+#[tactic(auto, unfolding(crate::specs::Meant::reason_in, crate::specs::Meant::path_in, crate::specs::Meant::above_by, ll_reasons::specs::Reasons::no_object))]
+pub(crate) fn no_object(tree: &Tree, op: &Op, known: Option<Place>) -> Reason
     requires { IfSome known (λ one. one ≡ place tree.now (text_named op.now First)) }
     ensures { reason_in op.now result ≡ no_object tree.now (path_named op.now First)
         (place tree.now (text_named op.now First)) }
@@ -89,7 +89,7 @@ pub fn no_object(tree: &Tree, op: &Op, known: Option<Place>) -> Reason
 
 /// Why what is at the first path of a call, whose place may be known, isn't what it wants there.
 #[tactic(auto, unfolding(crate::specs::Meant::meaning_unmet))]
-pub fn unmet(tree: &Tree, op: &Op, wanted: Wanted, known: Option<Place>) -> Reason
+pub(crate) fn unmet(tree: &Tree, op: &Op, wanted: Wanted, known: Option<Place>) -> Reason
     requires { IfSome known (λ one. one ≡ place tree.now (text_named op.now First)) }
     ensures { reason_in op.now result ≡ unmet tree.now (path_named op.now First)
         (place tree.now (text_named op.now First)) wanted }

@@ -2,11 +2,11 @@ use Rattle.std.proofs.Common.{◌≡◌, ℕ, List, ◌<◌, ◌≤◌, ◌+◌,
 use Rattle.ll_lines.specs.declared.path.TheConstants.{LONGEST_PATH}
 use Rattle.ll_lines.specs.Paths.{Path, front}
 use Rattle.ll_tree.specs.Trees.{is_dir, kind_at, node_at}
-use Rattle.ll_reasons.specs.Meant.{above_by, path_in, reason_in}
+use Rattle.ll_explanations.specs.Meant.{above_by, path_in, reason_in}
 use Rattle.ll_reasons.specs.Reasons.{absent, no_directory, nowhere, spelt}
-use Rattle.ll_reasons.proofs.SpeltTexts.{few_names}
-use Rattle.ll_reasons.proofs.Upward.{above_directory, above_gone, above_next, above_other, root_absent, shorter_above}
-use Rattle.ll_reasons.proofs.objects.nowhere_from.Goals as goal
+use Rattle.ll_explanations.proofs.SpeltTexts.{few_names}
+use Rattle.ll_explanations.proofs.Upward.{above_directory, above_gone, above_next, above_other, root_absent, shorter_above}
+use Rattle.ll_explanations.proofs.objects.nowhere_from.Goals as goal
 
 pub returns-then-is_directory : goal.returns-then-is_directory
 unfolding reason_in path_in
