@@ -66,7 +66,7 @@ fn push_gained(text: &mut TextBuffer, tree: &Tree, object: NodeId, rights: Fs, d
 
 /// The path that the record at an index opens, which is empty if it opens none.
 #[tactic(auto, unfolding(crate::specs::Words::path_opened))]
-fn path_opened(records: &[Record], index: u32) -> &str
+pub fn path_opened(records: &[Record], index: u32) -> &str
     ensures { result.now ≡ path_opened (slice_get records.now index) }
 {
     match records.get(index as usize) {

@@ -19,11 +19,11 @@ ghost use Rattle.ll_json.specs.Why.{objection_json, path_json, port_rights_json,
 use crate::json_text::JsonText;
 use crate::rights::write_rights_as;
 use crate::words::{write_number, write_text};
-use ll_explain::{line_at, line_made, word_for};
+use ll_explain::{line_at, line_made, path_opened, word_for};
 use ll_explanations::{LayerObjection, Objection};
 use ll_report::FindingAt;
 use ll_rights::{Fs, FsRight, Net};
-use ll_trace::{Op, Record};
+use ll_trace::Record;
 use ll_tree::{NodeId, Tree};
 
 /// Writes which rights are missing on a node.
@@ -76,19 +76,6 @@ fn write_mounting(out: &mut JsonText)
     out.write_key("mounting");
     out.write_true();
     out.end_object();
-}
-
-/// The path that the record at an index opens, or no text if it opens none.
-fn path_opened(records: &[Record], index: u32) -> &str
-    ensures { result.now ≡ spec.path_opened (slice_get records.now index) }
-{
-    match records.get(index as usize) {
-        None => "",
-        Some(record) => match &record.op {
-            Op::OpenFile { path, .. } => path.as_str(),
-            _ => "",
-        },
-    }
 }
 
 /// Writes a member that is the word for one right.
