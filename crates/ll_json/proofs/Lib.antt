@@ -10,3 +10,6 @@ pub mod SpansSaid
 pub mod RowsMade
 pub mod Judged
 pub mod RowsTold
+pub mod Visible
+pub mod Shallow
+pub mod ReadBack

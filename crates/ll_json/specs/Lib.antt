@@ -10,3 +10,4 @@ pub mod Spans
 pub mod Reports
 pub mod Rows
 pub mod Judged
+pub mod ReadBack

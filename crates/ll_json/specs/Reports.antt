@@ -25,11 +25,15 @@ said_under shown tree versions index = map (λ version. members_at shown.explana
 abbrev pub found_of : Shown → List Entry → List Version → List Found
 found_of shown tree versions = map (λ version. found_under shown tree version.records version.abi) versions
 
--- the line of the record at an index; those records are left out that the report's text leaves out
+-- the value of the record at an index
+abbrev pub row_json : Shown → List Entry → ℕ → List Version → ℕ → Record → Json
+row_json shown tree oldest versions index r = record_json r (answers_json oldest (said_under shown tree versions index))
+
+-- its line; those records are left out that the report's text leaves out
 abbrev pub row_line : Shown → List Entry → ℕ → List Version → ℕ → Record → List ℕ
 row_line shown tree oldest versions index r =
     if is_row_left_out shown (found_of shown tree versions) index then []
-    else line_text (record_json r (answers_json oldest (said_under shown tree versions index)))
+    else line_text (row_json shown tree oldest versions index r)
 
 -- the lines of records, the first of which is at an index of the trace
 unfoldable pub lines_from : Shown → List Entry → ℕ → List Version → ℕ → List Record → List ℕ
@@ -57,10 +61,14 @@ totals_from abi (found ∷ others) = total_json abi found ∷ totals_from (abi +
 abbrev pub totals_json : List Json → List ℕ → Json
 totals_json totals program = object_of ((codes "totals", array_of totals) ∷ (codes "version", string program) ∷ [])
 
+-- the value of the last line
+abbrev pub last_json : Shown → List Entry → ℕ → List Version → List ℕ → Json
+last_json shown tree oldest versions program = totals_json (totals_from oldest (found_of shown tree versions)) program
+
 -- ---- the report
 
 -- over versions, of which the oldest has this number, on records whose calls meet this tree
 pub record IsJsonReport (shown : Shown) (tree : List Entry) (oldest : ℕ) (versions : List Version) (records : List Record) (program : List ℕ) (report : Told) : Type 0 where
   pub text : report.text
-      ≡ lines_from shown tree oldest versions 0 records ++ line_text (totals_json (totals_from oldest (found_of shown tree versions)) program)
+      ≡ lines_from shown tree oldest versions 0 records ++ line_text (last_json shown tree oldest versions program)
   pub refused : report.refused ≡ refused_under_some (found_of shown tree versions) records

@@ -1,6 +1,6 @@
-//! What some values say.
+//! What some values say, and that lines of the report read back.
 
-ghost use Rattle.std.specs.Prelude.{◌≡◌, ◌∷◌, [], Some, codes, false};
+ghost use Rattle.std.specs.Prelude.{◌≡◌, ◌∷◌, [], ℕ, List, Some, codes, false};
 ghost use Rattle.json.specs.{Print.print, Tree.json_tokens};
 ghost use Rattle.ll_rights.specs.{declared.abi.Abi.TheVariants.V4, declared.kind.Kind.TheVariants.Fifo};
 ghost use Rattle.ll_rights.specs.Rights.{other, read_file, refer, truncate, write_file};
@@ -14,6 +14,11 @@ ghost use Rattle.ll_reasons.specs.Explanations.{mootness, nothing, objections};
 ghost use Rattle.ll_reasons.specs.Objections.{closed, gained, kept, missing, mounting};
 ghost use Rattle.ll_reasons.specs.Reasons.{absent, of_kind, unsupported};
 ghost use Rattle.ll_json.specs.Records.{answer_json, answer_members};
+ghost use Rattle.ll_tree.specs.Trees.{Entry};
+ghost use Rattle.ll_trace.specs.declared.op.Record.{Record as OneRecord};
+ghost use Rattle.ll_report.specs.declared.options.Shown.{Shown as Options};
+ghost use Rattle.ll_json.specs.{ReadBack.FitsWords, ReadBack.ReadsBack, Versions.Version};
+ghost use Rattle.ll_json.specs.Reports.{last_json, row_json};
 ghost use Rattle.ll_json.specs.Why.{condition_json, objection_json, reason_json};
 
 /// The text of some objections.
@@ -73,4 +78,16 @@ pub fn worked_answers()
         (answer_json 1 1 (answer_members [] [] Moot (mootness (Some (absent (codes "none" ∷ [])))))))
         ≡ codes
         "{\"abi\":[1,1],\"answer\":\"moot\",\"why\":{\"reason\":\"absent\",\"path\":\"/none\"}}" }
+{}
+
+/// A line of the report is read as the value that was printed, if no number in it is past 64 bits. Before the line feed
+/// that ends it, it has no control character.
+#[tactic(auto, using(crate::proofs::ReadBack::row_reads_back, crate::proofs::ReadBack::last_reads_back))]
+pub fn lines_read_back()
+    ensures records { (shown : Options) (tree : List Entry) (oldest : ℕ) (versions : List Version)
+        (index : ℕ) (r : OneRecord) → FitsWords (row_json shown tree oldest versions index r)
+        → ReadsBack (row_json shown tree oldest versions index r) }
+    ensures totals { (shown : Options) (tree : List Entry) (oldest : ℕ) (versions : List Version)
+        (program : List ℕ) → FitsWords (last_json shown tree oldest versions program)
+        → ReadsBack (last_json shown tree oldest versions program) }
 {}
