@@ -1,5 +1,5 @@
 -- What the words of the program's command line ask for.
--- Source: docs/RULES.md.
+-- Source: landaudit-rules(1).
 use Rattle.std.specs.Prelude.{ℕ, Bool, List, [], ◌∷◌, ◌-◌, ◌==◌, ◌&&◌, nat_lt, length, codes, Option, Some, None, slice_index_or, if◌then◌else◌}
 use Rattle.std.specs.Str.{bytes_eq}
 use Rattle.ll_rights.specs.declared.abi.Abi.{Abi}

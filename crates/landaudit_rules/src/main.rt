@@ -44,7 +44,7 @@ Status:
   3  the file can't be read, or a line of it is wrong
   4  no memory is left, or the answers can't be written
 
-The lines that are read and written are described in docs/RULES.md.
+The lines that are read and written are described in landaudit-rules(1).
 "
 );
 

@@ -1,5 +1,5 @@
 -- Policies taken in one after another.
--- Source: docs/RULES.md, "Calls".
+-- Source: landaudit-rules(1), "Calls".
 use Rattle.std.specs.Prelude.{◌≡◌, ℕ, Bool, ◌||◌, List, ◌++◌, Ok}
 use Rattle.ll_rights.specs.declared.abi.Abi.{Abi}
 use Rattle.ll_lines.specs.Lines.{Line}

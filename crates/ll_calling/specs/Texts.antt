@@ -1,5 +1,5 @@
 -- Calls, and the tables of rights, as lines of JSON.
--- Source: docs/RULES.md, "Calls" and "Rights"; docs/FORMATS.md, "The trace file".
+-- Source: landaudit-rules(1), "Calls" and "Rights"; docs/FORMATS.md, "The trace file".
 use Rattle.std.specs.Prelude.{◌≡◌, ℕ, Bool, false, List, [], ◌∷◌, ◌++◌, map, codes, flat_map, slice_get, Option, Some, None, if◌then◌else◌}
 use Rattle.std.specs.List.{list_any}
 use Rattle.std.specs.Option.{is_some}

@@ -1,5 +1,5 @@
 -- What is written of policies, and of the tables of rights.
--- Source: docs/RULES.md, "Calls" and "Rights".
+-- Source: landaudit-rules(1), "Calls" and "Rights".
 use Rattle.std.specs.Prelude.{◌≡◌, ℕ, Bool, true, false, List, Option}
 use Rattle.std.specs.Io.KnownBytes.{Appends}
 use Rattle.ll_rights.specs.declared.abi.Abi.{Abi}

@@ -1,5 +1,5 @@
 -- Comparisons on the lines of a file, and the answers to them.
--- Source: docs/RULES.md.
+-- Source: landaudit-rules(1).
 use Rattle.std.specs.Prelude.{◌≡◌, ℕ, List, flat_map, Option, Ok}
 use Rattle.std.specs.Io.KnownBytes.{Appends}
 use Rattle.ll_lines.specs.Lines.{Line}

@@ -1,5 +1,5 @@
 -- What is found of two policies, as JSON.
--- Source: docs/RULES.md.
+-- Source: landaudit-rules(1).
 use Rattle.std.specs.Prelude.{ℕ, [], ◌∷◌, codes, Option, Vec}
 use Rattle.std.specs.Global.{Global}
 use Rattle.json.specs.Json.{Json}

@@ -1,5 +1,5 @@
 -- Answers to the lines of a file, of which each that isn't blank asks for one.
--- Source: docs/RULES.md.
+-- Source: landaudit-rules(1).
 use Rattle.std.specs.Prelude.{◌≡◌, ℕ, List, None, Result}
 use Rattle.std.specs.List.{AllZip}
 use Rattle.ll_lines.specs.declared.fault.Cause.{Cause}

@@ -1,4 +1,4 @@
-"""The program landaudit-rules: finds it and asks it (docs/RULES.md)."""
+"""The program landaudit-rules: finds it and asks it (landaudit-rules(1))."""
 
 from __future__ import annotations
 

@@ -1,4 +1,4 @@
-"""Asks landaudit-rules which rights the calls that put policies in force have (docs/RULES.md, "Calls").
+"""Asks landaudit-rules which rights the calls that put policies in force have (landaudit-rules(1), "Calls").
 
 What a rule asks for depends on what it allows, on what its layer handles, and on whether its object is a directory. So
 rules that are equal in this are asked about once, on a directory and on what is none.

@@ -1,6 +1,6 @@
 """Asks landaudit-rules what two policies let pass.
 
-A comparison has the layers of both policies with rules on objects by number (docs/RULES.md).
+A comparison has the layers of both policies with rules on objects by number (landaudit-rules(1)).
 """
 
 from __future__ import annotations
