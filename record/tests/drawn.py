@@ -1,6 +1,8 @@
 """Random tests whose examples hypothesis draws and makes smaller; they are skipped where the library is missing.
 
-The examples are the same in each run.
+The examples are the same in each run. Tests keep seeds of their own where one run of a program answers for all
+examples, and where an example is made of thousands of draws, as recordings, stories, audits and `brute` are: these take
+seconds to draw, and most are more than the 8 KiB that hypothesis gives an example.
 """
 
 from __future__ import annotations

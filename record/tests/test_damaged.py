@@ -2,6 +2,7 @@
 
 from __future__ import annotations
 
+import contextlib
 import random
 import unittest
 from itertools import groupby
@@ -12,12 +13,12 @@ from landaudit_record.recorder import converting
 from landaudit_record.recorder.ports import Ports
 from landaudit_record.recorder.writing import ListedTree, Recording
 
+from .drawn import by_chance
 from .kept_logs import LOGS, KeptLogs
 from .stories import names
 from .written_logs import CWD, WrittenLogs
 
 LOGGED = sorted(path.name for path in LOGS.iterdir() if path.is_dir())
-ROUNDS = 40
 MARKS = ('"', ",", "(", ")", "{", "}", "<", ">", "=", "0", "9", "-", " ", "\\", "|", "/")
 
 
@@ -33,21 +34,17 @@ def damaged(line: str, chance: random.Random) -> str:
 
 
 class DamagedLogs(KeptLogs):
-    def test_damaged_lines_are_counted_and_every_exec_is_whole(self) -> None:
-        chance = random.Random(7)
-        for name in LOGGED:
-            folder = self.folder(name)
-            log = folder / "strace.txt"
-            lines = log.read_text("latin-1").splitlines()
-            for number in range(ROUNDS):
-                with self.subTest(log=name, round=number):
-                    kept = [damaged(line, chance) if chance.random() < 0.3 else line for line in lines]
-                    log.write_text("".join(f"{line}\n" for line in kept), "latin-1")
-                    try:
-                        converting.convert(folder, Ports())
-                    except Problem:
-                        continue
-                    self.assert_whole(self.lines(folder, "trace.jsonl"))
+    @by_chance(examples=20 * len(LOGGED))
+    def test_damaged_lines_are_counted_and_every_exec_is_whole(self, chance: random.Random) -> None:
+        folder = self.folder(chance.choice(LOGGED))
+        log = folder / "strace.txt"
+        lines = log.read_text("latin-1").splitlines()
+        for at in chance.sample(range(len(lines)), chance.randint(1, min(len(lines), 60))):
+            lines[at] = damaged(lines[at], chance)
+        log.write_text("".join(f"{line}\n" for line in lines), "latin-1")
+        with contextlib.suppress(Problem):
+            converting.convert(folder, Ports())
+            self.assert_whole(self.lines(folder, "trace.jsonl"))
 
     def assert_whole(self, trace: list[Record]) -> None:
         """Each file that is opened to be run is run, and what it is opened by is closed."""

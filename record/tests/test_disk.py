@@ -11,6 +11,8 @@ from struct import pack
 
 from landaudit_record.recorder import disk
 
+from .drawn import by_chance
+
 LOADER = b"/lib/ld.so\0"
 
 
@@ -85,14 +87,13 @@ class Interpreters(unittest.TestCase):
         long[64 + 32 : 64 + 40] = b"\xff" * 8
         self.assertEqual(self.of(bytes(long)), "/lib/ld.so")
 
-    def test_random_bytes(self) -> None:
-        chosen = random.Random(42)
-        for _ in range(400):
-            broken = bytearray(elf(wide=chosen.random() < 0.5, order=chosen.choice("<>")))
-            for _ in range(chosen.randrange(1, 12)):
-                broken[chosen.randrange(6, len(broken))] = chosen.randrange(256)
-            found = self.of(bytes(broken))
-            self.assertTrue(found is None or "\0" not in found)
+    @by_chance(examples=200)
+    def test_random_bytes(self, chance: random.Random) -> None:
+        broken = bytearray(elf(wide=chance.random() < 0.5, order=chance.choice("<>")))
+        for _ in range(chance.randrange(1, 12)):
+            broken[chance.randrange(6, len(broken))] = chance.randrange(256)
+        found = self.of(bytes(broken))
+        self.assertTrue(found is None or "\0" not in found)
 
     def test_what_is_no_file(self) -> None:
         self.assertIsNone(disk.interpreter("/nothere"))

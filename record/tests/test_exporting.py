@@ -12,6 +12,7 @@ import shutil
 import subprocess
 import tempfile
 import unittest
+from collections import Counter
 from collections.abc import Iterator, Sequence
 from pathlib import Path
 from typing import Any
@@ -25,6 +26,7 @@ from landaudit_record.policy import fitting, policies
 from landaudit_record.policy.policies import Layer, PathRule, Policy
 
 from . import libraries
+from .drawn import by_chance
 from .json_schema import Validator
 from .test_forms import random_policy
 from .test_importing import read
@@ -357,11 +359,14 @@ class AsJson(Folder):
             "path_beneath": [{"allowed_access": ["execute"], "parent": "/v"}, {**of_group, "parent": "/x"},
                              {**of_group, "parent": "/y"}]}]})
 
+    @by_chance(examples=40)
+    def test_random_policies_by_their_schema(self, chance: random.Random) -> None:
+        schema = Validator.of("policy.schema.json")
+        made = json.loads(exported("\n".join(random_policy(chance)), form="json"))
+        self.assertEqual((schema.faults(made), schema.undescribed(made)), ([], []))
+
     def test_by_its_schema(self) -> None:
         schema = Validator.of("policy.schema.json")
-        for seed in range(40):
-            made = json.loads(exported("\n".join(random_policy(random.Random(seed))), form="json"))
-            self.assertEqual((schema.faults(made), schema.undescribed(made)), ([], []), seed)
         made = json.loads(exported(COMMENTED + 'include = "base"\n', form="json"))
         self.assertEqual((schema.faults(made), schema.undescribed(made)), ([], []))
         first = made["layer"][0]
@@ -380,17 +385,14 @@ class AsJson(Folder):
                 del inside[member]
         self.assertEqual(schema.faults(made), [])
 
-    def test_it_reads_as_the_same_policy(self) -> None:
+    @by_chance(examples=100)
+    def test_it_reads_as_the_same_policy(self, chance: random.Random) -> None:
         """The members are those of the policy's file, so tables of TOML can be made of them."""
-        for seed in range(100):
-            text = "\n".join(random_policy(random.Random(seed)))
-            policy = read(text)
-            made = json.loads(exported(text, form="json"))
-            with self.subTest(seed=seed, text=text):
-                again = read("\n".join(tables(made)))
-                self.assertEqual([layer.scoped for layer in again.layers], [layer.scoped for layer in policy.layers])
-                for abi in range(OLDEST_ABI, NEWEST_ABI + 1):
-                    self.assertEqual(one_by_one(again, abi), one_by_one(policy, abi))
+        text = "\n".join(random_policy(chance))
+        policy, again = read(text), read("\n".join(tables(json.loads(exported(text, form="json")))))
+        self.assertEqual([layer.scoped for layer in again.layers], [layer.scoped for layer in policy.layers], text)
+        for abi in range(OLDEST_ABI, NEWEST_ABI + 1):
+            self.assertEqual(one_by_one(again, abi), one_by_one(policy, abi), text)
 
 
 def tables(document: dict[str, Any]) -> Iterator[str]:
@@ -433,8 +435,9 @@ class Widened(Folder):
             for _ in range(chance.randint(0, 4)):
                 on = chance.choice(paths)
                 near = FILE_RIGHTS if on in self.FILES else FS.groups["all"]
+                some = sorted(near & handled)
                 words = chance.choice((["all"], ["read"], ["read", "execute"], ["read", "write"],
-                                       chance.sample(sorted(near & handled), min(2, len(near & handled)))))
+                                       chance.sample(some, 2) if len(some) > 2 else some))
                 if any(FS.groups.get(word, {word}) & handled & near for word in words):
                     text += rule(repr(words), f'"TOP{on}"')
             if "net = []" not in text.rpartition("[[layer]]")[2] and chance.random() < 0.5:
@@ -480,41 +483,41 @@ class Widened(Folder):
 
     @unittest.skipUnless(BUILT.exists(), f"{BUILT} is not built")
     def test_by_random_policies(self) -> None:
-        exact = wider = 0
-        for seed in range(80):
-            policy = self.file(self.policy(random.Random(seed), (*self.DIRECTORIES, *self.FILES)))
+        seen = Counter[str]()
+
+        @by_chance(examples=80)
+        def check(chance: random.Random) -> None:
+            policy = self.file(self.policy(chance, (*self.DIRECTORIES, *self.FILES)))
             for form in self.FORMS:
-                with self.subTest(seed=seed, form=form, policy=policy.read_text()):
-                    again = self.again(policy, form)
-                    if again is not None:
-                        (passes, scoped), (wide, left) = self.lets(policy), self.lets(again)
-                        self.assertEqual(passes - wide, set())
-                        self.assertEqual(left - scoped, set())
-                        if called("export", policy, f"--{form}")[0] == 0:
-                            self.assertEqual((wide, left), (passes, scoped))
-                            exact += 1
-                        wider += (wide, left) != (passes, scoped)
-        self.assertGreater(exact, 20)
-        self.assertGreater(wider, 20)
+                again = self.again(policy, form)
+                if again is not None:
+                    (passes, scoped), (wide, left) = self.lets(policy), self.lets(again)
+                    self.assertEqual((passes - wide, left - scoped), (set(), set()), (form, policy.read_text()))
+                    if called("export", policy, f"--{form}")[0] == 0:
+                        self.assertEqual((wide, left), (passes, scoped), (form, policy.read_text()))
+                        seen["exact"] += 1
+                    seen["wider"] += (wide, left) != (passes, scoped)
+
+        check()
+        self.assertGreater(min(seen["exact"], seen["wider"]), 20)
 
     @unittest.skipUnless(BUILT.exists(), f"{BUILT} is not built")
-    def test_wherever_objects_are_moved_or_linked(self) -> None:
+    @by_chance(examples=12)
+    def test_wherever_objects_are_moved_or_linked(self, chance: random.Random) -> None:
         """The wider form grants each right that the policy grants, as landaudit-rules decides. Where it grants more, it
         may refuse moves, since what is moved would gain rights there.
 
         The comparison is of all machines, and the forms are for this one, so no rule is on a file.
         """
-        for seed in range(12):
-            policy = self.file(self.policy(random.Random(seed), self.DIRECTORIES))
-            for form in self.FORMS:
-                with self.subTest(seed=seed, form=form, policy=policy.read_text()):
-                    again = self.again(policy, form)
-                    if again is not None:
-                        _, out, _ = called("diff", again, policy)
-                        first, *lost = out.partition(f"{again} lets pass")[0].splitlines()
-                        self.assertTrue(first.startswith((f"{policy} lets ", "no call differs")), out)
-                        allowed = "  perhaps moves to under " if form == "landrun" else "-"
-                        self.assertEqual([line for line in lost if not line.startswith(allowed)], [])
+        policy = self.file(self.policy(chance, self.DIRECTORIES))
+        for form in self.FORMS:
+            again = self.again(policy, form)
+            if again is not None:
+                _, out, _ = called("diff", again, policy)
+                first, *lost = out.partition(f"{again} lets pass")[0].splitlines()
+                self.assertTrue(first.startswith((f"{policy} lets ", "no call differs")), out)
+                allowed = "  perhaps moves to under " if form == "landrun" else "-"
+                self.assertEqual([line for line in lost if not line.startswith(allowed)], [], policy.read_text())
 
 
 if __name__ == "__main__":

@@ -19,6 +19,8 @@ from landaudit_record.kernel_log import calls, counting, data, denials, granting
 from landaudit_record.kernel_log.denials import Denial, Log
 from landaudit_record.kernel_log.records import UnreadRecord
 
+from .drawn import by_chance
+
 DENIED = Path(__file__).resolve().parent / "denied"
 HEADERS = Path("/usr/include")
 OUT, IN, BOX = "/work/box/out", "/work/box/in", "/work/box/box"
@@ -294,19 +296,17 @@ class Missed(unittest.TestCase):
             with self.subTest(text):
                 self.assertEqual(len(read(text).unread), 1)
 
-    def test_no_log_is_too_odd_to_be_read(self) -> None:
+    @by_chance(examples=40)
+    def test_no_log_is_too_odd_to_be_read(self, chance: random.Random) -> None:
         """Logs with some bytes changed, removed and doubled: all that is read of them can be counted and written."""
-        chance = random.Random(3)
-        text = kept("netlink.log")[:20_000] + kept("dmesg.log") + kept("auditd-4.0.2.log")
-        for _ in range(60):
-            odd = bytearray(text)
-            for _ in range(200):
-                at = chance.randrange(len(odd))
-                odd[at:at + chance.randrange(3)] = chance.choice((b"", b"0", b"\xff", b'"', b" ", b"=", b"-", b"F" * 9))
-            log = read(bytes(odd))
-            found = counting.count(log)
-            written = json.dumps(data.as_data(found, granting.grant(log)))
-            self.assertEqual(json.loads(written)["denied"], len(log.denials))
+        odd = bytearray(kept("netlink.log")[:20_000] + kept("dmesg.log") + kept("auditd-4.0.2.log"))
+        for _ in range(chance.randint(1, 400)):
+            at = chance.randrange(len(odd))
+            odd[at:at + chance.randrange(3)] = chance.choice((b"", b"0", b"\xff", b'"', b" ", b"=", b"-", b"F" * 9))
+        log = read(bytes(odd))
+        found = counting.count(log)
+        written = json.dumps(data.as_data(found, granting.grant(log)))
+        self.assertEqual(json.loads(written)["denied"], len(log.denials))
 
     def test_other_lines_are_passed_over(self) -> None:
         """Also one of a command whose words look like a record."""

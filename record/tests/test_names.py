@@ -9,6 +9,8 @@ from collections.abc import Callable
 from landaudit_record.recorder.disk import Disk, Seen
 from landaudit_record.recorder.names import Found, Names, Node
 
+from .drawn import by_chance
+
 DISK = {
     "/usr": Seen("dir"),
     "/usr/lib": Seen("dir"),
@@ -129,23 +131,23 @@ class Paths(unittest.TestCase):
         self.names.ensure("/w/moved", "dir")
         self.assertEqual(self.find("moved/in/x").broken, 3)
 
-    def test_a_path_leads_where_it_does_whoever_was_asked_before(self) -> None:
-        for seed in range(8):
-            chance, done = random.Random(seed), []
-            for _ in range(40):
-                done.append(change(chance))
-                done[-1](self.names)
-                fresh = Names(Disk(0.0, DISK), {}, [])
-                for one in done:
-                    one(fresh)
-                for path in (some_path(chance) for _ in range(8)):
-                    follow, directory = chance.random() < 0.5, chance.choice(["/w", "/usr/lib", "/w/a"])
-                    known = self.find(path, follow, directory)
-                    new = fresh.find("/", directory, path, follow, self)
-                    self.assertEqual((known.path, known.broken, kind(known)), (new.path, new.broken, kind(new)), path)
-                    at, again = self.names.at(known.path), fresh.at(known.path)
-                    self.assertEqual(at and at.kind, again and again.kind)
-            self.setUp()
+    @by_chance(examples=40)
+    def test_a_path_leads_where_it_does_whoever_was_asked_before(self, chance: random.Random) -> None:
+        self.setUp()
+        done = []
+        for _ in range(chance.randint(1, 16)):
+            done.append(change(chance))
+            done[-1](self.names)
+            fresh = Names(Disk(0.0, DISK), {}, [])
+            for one in done:
+                one(fresh)
+            for path in (some_path(chance) for _ in range(8)):
+                follow, directory = chance.choice((False, True)), chance.choice(["/w", "/usr/lib", "/w/a"])
+                known = self.find(path, follow, directory)
+                new = fresh.find("/", directory, path, follow, self)
+                self.assertEqual((known.path, known.broken, kind(known)), (new.path, new.broken, kind(new)), path)
+                at, again = self.names.at(known.path), fresh.at(known.path)
+                self.assertEqual(at and at.kind, again and again.kind)
 
     def test_what_stood_before_the_run_counts_in_a_watched_directory(self) -> None:
         names = Names(Disk(0.0, DISK), {"/w/gone": Seen("fifo")}, ["/w"])

@@ -12,6 +12,7 @@ import unittest
 from landaudit_record.common import jsonl
 from landaudit_record.recorder.names import OF_KIND, REPLACED_OR_NOT
 
+from .drawn import by_chance
 from .strace_lines import CONFINED, CWD, StraceLines
 
 MADE = "0x241 /* O_WRONLY|O_CREAT|O_TRUNC */, 0666"
@@ -235,21 +236,19 @@ class WrittenPaths(StraceLines):
         self.assertEqual([record["path"] for record in trace], ["/w/nothere~new~/x", "/w/nothere~new~/~new~"])
         self.assertEqual(trace[0]["shown"], "/w/nothere/../x")
 
-    def test_random_paths(self) -> None:
-        seed = 20
-        chosen = random.Random(seed)
-        for _ in range(20):
-            self.convert(*(self.call(chosen) for _ in range(60)))
-            kinds = {"": "dir"}
-            for line in self.lines("tree.jsonl"):
-                path = line["path"]
-                self.assertTrue(reads_as_path(path), path)
-                self.assertNotIn(path, kinds)
-                self.assertEqual(kinds.get(path.rpartition("/")[0]), "dir", path)
-                kinds[path] = line["kind"]
-            for line in self.lines("trace.jsonl"):
-                for member in ("path", "from", "to"):
-                    self.assertTrue(reads_as_path(line.get(member, "/")), line)
+    @by_chance(examples=25)
+    def test_random_paths(self, chance: random.Random) -> None:
+        self.convert(*(self.call(chance) for _ in range(chance.randint(1, 60))))
+        kinds = {"": "dir"}
+        for line in self.lines("tree.jsonl"):
+            path = line["path"]
+            self.assertTrue(reads_as_path(path), path)
+            self.assertNotIn(path, kinds)
+            self.assertEqual(kinds.get(path.rpartition("/")[0]), "dir", path)
+            kinds[path] = line["kind"]
+        for line in self.lines("trace.jsonl"):
+            for member in ("path", "from", "to"):
+                self.assertTrue(reads_as_path(line.get(member, "/")), line)
 
     def test_the_target_of_a_link_that_is_no_text_is_left_out(self) -> None:
         self.convert('symlink("\\377", "new") = 0', reads("new/x").replace("= 3</w/new/x>", "= -1 ENOENT (No)"))

@@ -16,10 +16,11 @@ from landaudit_record.common.resolving import DISK, LinkLoop, NothingElse, Walke
 from landaudit_record.common.trees import Tree
 from landaudit_record.policy import policies
 
+from .drawn import by_chance
 from .recorded import write_lines
 
 NAMES = ("a", "b", "c")
-PATHS = 400
+PATHS = 100
 
 
 def opened(path: str) -> str | int:
@@ -62,16 +63,19 @@ class AsTheKernel(unittest.TestCase):
 
     def test_random_paths(self) -> None:
         met: set[str | int] = set()
-        for seed in range(12):
-            with self.subTest(seed):
-                of = random.Random(seed)
-                self.top = str(Path(self.enterContext(tempfile.TemporaryDirectory())).resolve())
-                self.fill(of)
+
+        @by_chance(examples=30)
+        def check(chance: random.Random) -> None:
+            with tempfile.TemporaryDirectory() as top:
+                self.top = str(Path(top).resolve())
+                self.fill(chance)
                 for _ in range(PATHS):
-                    path = self.path(of, absolute=True)
+                    path = self.path(chance, absolute=True)
                     by_kernel = opened(path)
                     met.add(by_kernel if isinstance(by_kernel, int) else "found")
                     self.assertEqual(self.by_walk(path), by_kernel, path)
+
+        check()
         self.assertEqual(met, {"found", errno.ENOENT, errno.ENOTDIR, errno.ELOOP})
 
     def by_walk(self, path: str) -> str | int:
