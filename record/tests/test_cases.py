@@ -130,7 +130,7 @@ class Reading(unittest.TestCase):
             ('[[allowed]]\ncall = "open r"\npath = "@/file/x"\nkind = "reg"\n[[allowed]]\ncall = "exec"\npath = "@/file"',
              "allowed 2, path: @/file has kind 'dir' in another case"),
             ('[[nothing]]\nrights = ["write"]', "nothing 1: under is missing"),
-            ('[[nothing]]\nrights = []\nunder = "/"', "nothing 1, rights: is empty: name a right at least"),
+            ('[[nothing]]\nrights = []\nunder = "/"', "nothing 1, rights: is empty: name at least one right"),
             ('[[only]]\nrights = ["reed"]\nunder = "/"', "only 1, rights: unknown right for files 'reed', did you mean 'read'?"),
             ('[[only]]\nrights = ["read"]\nunder = []', "only 1, under: is empty: give one or several"),
             ('[[only]]\nrights = ["read"]\nunder = "usr"', "only 1, under: 'usr' is not absolute"),

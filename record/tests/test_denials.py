@@ -265,7 +265,7 @@ class UnderPolicy(unittest.TestCase):
         matched = self.matched(TWO)
         self.assertEqual(matched.layers["a1"], 1)
         warnings = list(map(str, counting.count(self.log, matched).summary.warnings))
-        self.assertIn(f"layers of 2 programs would be those of {self.folder}/P.toml: python3, x: --program chooses the "
+        self.assertIn(f"layers of 2 programs fit {self.folder}/P.toml: python3, x: --program chooses the "
                       "right one", warnings)
 
     def test_denials_of_one_domain_that_would_be_of_two_layers(self) -> None:

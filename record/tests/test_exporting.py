@@ -258,7 +258,7 @@ class OfPrograms(Folder):
         self.assertIn("setpriv has no ports: bind_tcp allowed on every port", said)
         self.assertIn("setpriv has no scopes: signal without a scope", said)
         status, _, errors = self.export('[[layer]]\nhandled_access_net = ["all"]\n', "--setpriv", "--widen")
-        self.assertEqual((status, "setpriv can say nothing of it" in errors), (3, True))
+        self.assertEqual((status, "setpriv can't express any of it" in errors), (3, True))
 
     def test_landrun(self) -> None:
         """By the source of landrun 0.1.17."""
@@ -293,7 +293,7 @@ class OfPrograms(Folder):
                       "bind_tcp allowed on every port", said)
         self.assertIn("layer 1, scoped: landrun has both scopes or none: signal without a scope", said)
         status, _, errors = self.export('[[layer]]\nscoped = ["signal"]\n', "--landrun", "--widen")
-        self.assertEqual((status, "landrun can say nothing of it" in errors), (3, True))
+        self.assertEqual((status, "landrun can't express any of it" in errors), (3, True))
         for name in ("x,y", "x "):
             status, _, errors = self.export(LAYER + rule('["read"]', f'"TOP/{name}"'), "--landrun", "--widen")
             self.assertEqual((status, f"landrun can't name '{self.top}/{name}'" in errors), (3, True))
@@ -473,7 +473,7 @@ class Widened(Folder):
         """What is exported, imported again; None if the form can say nothing of the policy."""
         status, out, errors = called("export", policy, f"--{form}", "--widen")
         if status:
-            self.assertIn("can say nothing of it", errors)
+            self.assertIn("can't express any of it", errors)
             return None
         name = f"{form}.toml"
         words = self.file(out, name) if form == "landlockconfig" else out

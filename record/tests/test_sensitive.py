@@ -17,7 +17,7 @@ def warned(place: str, *rights: str) -> str:
 
 class Warnings(unittest.TestCase):
     def test_everything(self) -> None:
-        self.assertEqual(warned("/", "make_reg"), "make_reg on everything that there is")
+        self.assertEqual(warned("/", "make_reg"), "make_reg on everything")
 
     def test_what_is_the_kernels(self) -> None:
         for place in ("/proc", "/proc/meminfo", "/proc/sys/kernel/pid_max"):

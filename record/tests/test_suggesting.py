@@ -240,7 +240,7 @@ class Remarks(unittest.TestCase):
 
     def test_a_warning(self) -> None:
         make = (opened("/~new~", "w", create=True, shown="/n"), refused(missing_on("/", "make_reg")))
-        told = ("(for what the run makes there: /n)", "warning: make_reg on everything that there is")
+        told = ("(for what the run makes there: /n)", "warning: make_reg on everything")
         self.assertEqual(self.remarks(make), [told])
 
 

@@ -136,7 +136,7 @@ class Widening(Disk):
         wanted = Wanted({"/usr/x": asked("read_file"), "/proc/x": asked("read_file", call=2)}, [], {})
         (rule,) = widening.rules(wanted, CountedObjects([]), 1)
         self.assertEqual(said(rule), ("also everything else under / (read_file)",
-                                        "warning: read_file on everything that there is"))
+                                        "warning: read_file on everything"))
         wanted.paths["/usr/y"] = asked("read_file", call=3)
         self.assertEqual({rule.place for rule in widening.rules(wanted, CountedObjects([]), 2)}, {"/usr", "/proc/x"})
 

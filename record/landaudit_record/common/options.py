@@ -153,8 +153,8 @@ def add_of_program(parser: argparse.ArgumentParser) -> None:
     source.add_argument(
         "--of-program",
         action="store_true",
-        help="the policy that the recorded program puts in force by itself, as landaudit-policy import prints it: "
-        "--program or --process choose one of several",
+        help="the recorded program's own policy, as landaudit-policy import prints it; --program or --process chooses "
+        "one of several",
     )
     add_process(parser)
 

@@ -76,8 +76,8 @@ def add_set(parser: argparse.ArgumentParser) -> None:
         action="append",
         type=_pair,
         default=[],
-        help="the value of ${NAME} in the policy and in the files beside it (the option may be given several times; "
-        "else the environment's LANDAUDIT_NAME, else the file's own [variables])",
+        help="the value of ${NAME} in the policy and in the files beside it; may be repeated (default: the value of "
+        "LANDAUDIT_NAME in the environment, else that in the file's own [variables])",
     )
 
 

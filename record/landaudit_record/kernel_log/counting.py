@@ -147,7 +147,7 @@ def _warnings(found: Counted) -> Iterator[str]:
     name = found.matched.policy.path
     makers = sorted({maker_of(found.log.domains[domain]) for domain in found.matched.layers} - {NOT_SAID})
     if len(makers) > 1:
-        yield (f"layers of {len(makers)} programs would be those of {name}: {some_of(makers)}: --program chooses the "
+        yield (f"layers of {len(makers)} programs fit {name}: {some_of(makers)}: --program chooses the "
                "right one")
     for domain in found.matched.unlike:
         yield (f"no layer of {name} fits all denials of domain {domain}: is that the policy that was in force, or was "

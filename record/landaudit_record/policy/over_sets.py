@@ -99,7 +99,7 @@ class _QuestionReader:
         if self.kind == NEVER and (len(rights) != _BOTH or not FS.since.keys() >= set(self.table[key])):
             (self.place / key).fault(f"must be two rights, of {listed(FS.since)}")
         if not rights:
-            (self.place / key).fault(f"is empty: name a right at least, of {listed(FS.words())}")
+            (self.place / key).fault(f"is empty: name at least one right: {listed(FS.words())}")
         asked = (rights,) if self.kind == NEVER else tuple((right,) for right in rights)
         under = one_or_several(self.table.get("under", ROOT), self._path, self.place / "under")
         grouped = access.rights - access.outright

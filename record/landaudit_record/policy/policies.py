@@ -300,7 +300,7 @@ def _allowed(value: Any, family: Family, handled: Rights, handled_key: str, plac
     """What a rule allows. A right that is named and not handled would make the kernel refuse the rule."""
     access = read_access(value, family, place)
     if not access.rights:
-        place.fault(f"is empty: a rule allows a right {family.what} at least, as {listed(family.words())}")
+        place.fault(f"is empty: name at least one right {family.what}: {listed(family.words())}")
     unhandled = family.ordered(access.outright - handled)
     if unhandled:
         place.fault(f"the layer does not handle {listed(unhandled)}: name it in {handled_key}, or leave it out here")

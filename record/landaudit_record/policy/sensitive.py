@@ -26,7 +26,7 @@ _OF_USERS = "*/.ssh"
 def warnings(place: str, rights: Rights) -> Iterator[str]:
     """The warnings for a rule on a path."""
     if place == ROOT:
-        yield f"{', '.join(sorted(rights))} on everything that there is"
+        yield f"{', '.join(sorted(rights))} on everything"
         return
     over = list(upwards(place))
     for path, why in _OF_KERNEL.items():

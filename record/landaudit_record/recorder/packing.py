@@ -172,7 +172,7 @@ def _extract(archive: tarfile.TarFile, folder: Path, file: Path, most_bytes: int
             raise Problem(f"{file}: {member.name!r} is not a file of a recording")
         left -= member.size
         if number >= MOST_FILES or left < 0:
-            raise Problem(f"{file}: more than {MOST_FILES:,} files or {most_bytes:,} bytes: if it is yours, give "
+            raise Problem(f"{file}: more than {MOST_FILES:,} files or {most_bytes:,} bytes: if you trust it, give "
                           "--most-bytes")
         place = folder / name
         place.parent.mkdir(parents=True, exist_ok=True)

@@ -36,7 +36,7 @@ def find() -> Path:
     for program in (BUILT, Path(sys.argv[0]).resolve().parent / PROGRAM, *([Path(found)] if found else [])):
         if os.access(program, os.X_OK) and program.is_file():
             return program
-    raise Problem(f"{PROGRAM} is not built: run 'make witness', or install the package of it", WANTING)
+    raise Problem(f"{PROGRAM} is not built: run 'make witness', or install its package", WANTING)
 
 
 #: Whom a witness hears: all processes which the children of this process start, or these children too.

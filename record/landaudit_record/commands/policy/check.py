@@ -27,9 +27,9 @@ CASES = """
 Cases are TOML: each [[refused]] or [[allowed]] has a call in the words of a
 trace (open r, open w create, exec, mknod fifo, rename, connect, ..) with path,
 from and to, or port; abi (one or a range) unless the case is about all ABIs;
-and kind for a path that is not on this machine. [[nothing]] and [[only]] have
-rights that may pass nowhere at or under some paths, or nowhere else; [[never]]
-has two rights that may not pass both."""
+and kind for a path that is not on this machine. [[nothing]] has rights that must
+not pass at or under some paths, [[only]] rights that must not pass elsewhere,
+and [[never]] two rights that must not both pass on one object."""
 
 
 def add_arguments(parser: argparse.ArgumentParser) -> None:

@@ -25,7 +25,7 @@ from ...summaries.reporting import compared
 from ...summaries.page import differences
 
 NAME = "diff"
-HELP = "show what a new policy allows and an old one refuses, and the reverse, whichever files there are"
+HELP = "show what a new policy allows and an old one refuses, and the reverse, whatever files exist"
 EXAMPLE = """landaudit-policy diff old.toml new.toml
   landaudit-policy diff policy.toml --old-allows nothing"""
 

@@ -58,12 +58,12 @@ def add_arguments(parser: argparse.ArgumentParser) -> None:
     parser.add_argument(
         "--widen",
         action="store_true",
-        help="where the form can't say the policy, print one that grants more, and say what, instead of an error",
+        help="where the form can't express the policy, grant more and say what, instead of failing",
     )
     parser.add_argument(
         "--log",
         action="store_true",
-        help="have the kernel log what it refuses the programs that are executed afterwards, from ABI "
+        help="have the kernel log what it refuses to programs that are executed afterwards, from ABI "
         f"{ABI_OF_LOG} on (Linux {ABIS[ABI_OF_LOG].linux}) and if its audit is switched on: landaudit-record denials "
         "reads that log",
     )

@@ -16,15 +16,15 @@ from ...policy import importing, importing_text, policy_text
 from ...policy.forms import Imported, firejail, landlockconfig, landrun, setpriv
 
 NAME = "import"
-HELP = "print a policy that comes from elsewhere, as TOML: of a recorded program, or in the form of another program"
+HELP = "print a policy from elsewhere as TOML: a recorded program's own, or one written for another program"
 EXAMPLE = """landaudit-policy import rec > policy.toml
   landaudit-policy import --landrun '--rox /usr --rw /srv/data ./server'"""
 ABOUT = f"""
 OUT is a recording of a program that restricts itself. The other forms are those
 of setpriv ({setpriv.VERSION}), firejail ({firejail.VERSION}), landrun
 ({landrun.VERSION}) and landlockconfig ({landlockconfig.VERSION}).
-What a form has and is not known here is an error, and nothing is dropped without
-a comment."""
+Options of these that are not known here are errors, and a comment names each
+thing that is dropped."""
 #: The options that name a policy in another form, each with what reads it.
 _FORMS: dict[str, Callable[[str, Given], Imported]] = {
     "landlockconfig": lambda file, _: landlockconfig.read(Path(file)),

@@ -26,7 +26,7 @@ from ...engine.reading import judged
 from ...recorder import witness
 
 NAME = "compare"
-HELP = "compare landaudit's answers with what the kernel did to a program that was under a layer"
+HELP = "compare landaudit's answers with the kernel's, for a program that ran under Landlock"
 EXAMPLE = """landaudit-record run rec --policy policy.toml -- sort /etc/passwd
   landaudit-record compare rec"""
 

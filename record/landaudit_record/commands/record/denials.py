@@ -23,7 +23,7 @@ from ...policy.policies import Policy
 from ...summaries.summary_text import Style
 
 NAME = "denials"
-HELP = "say what Landlock refused by the kernel's log (Linux 6.15 and later), and suggest rules"
+HELP = "read in the kernel's log (Linux 6.15 and later) what Landlock refused, and suggest rules"
 EXAMPLE = """landaudit-record denials /var/log/audit/audit.log
   journalctl -k -o short-monotonic | landaudit-record denials -
   landaudit-record denials audit.log --policy policy.toml --suggest >> policy.toml"""
@@ -36,8 +36,8 @@ def add_arguments(parser: argparse.ArgumentParser) -> None:
         "logs",
         metavar="FILE",
         nargs="+",
-        help="a log as auditd, 'journalctl -k' or dmesg writes it; - is standard input. Lines that are no record of "
-        "the kernel's audit are passed over",
+        help="a log as auditd, 'journalctl -k' or dmesg writes it; - is standard input. Lines that are not audit "
+        "records of the kernel are skipped",
     )
     parser.add_argument(
         "--policy",

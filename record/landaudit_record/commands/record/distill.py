@@ -10,7 +10,7 @@ from ...common.options import add_recordings
 from ...common.progress import Progress
 
 NAME = "distill"
-HELP = "write what recordings ask a policy, each call once, into one small file that stands for them"
+HELP = "write what recordings ask a policy, each call once, to one small file that is used in their place"
 EXAMPLE = """landaudit-record distill rec -o web.distilled
   landaudit-record audit web.distilled --policy policy.toml"""
 

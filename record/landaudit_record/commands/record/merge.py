@@ -11,7 +11,7 @@ from ...audit import distilled, joining
 from ...common.problems import USAGE, Problem
 
 NAME = "merge"
-HELP = "join what 'audit --json' printed for different recordings, or distilled recordings, in any order"
+HELP = "join the results of 'audit --json' for different recordings, or distilled recordings, in any order"
 EXAMPLE = """landaudit-record merge host1.json host2.json > all.json
   landaudit-record merge unit.distilled web.distilled -o app.distilled"""
 

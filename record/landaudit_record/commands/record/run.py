@@ -46,7 +46,7 @@ def add_arguments(parser: argparse.ArgumentParser) -> None:
         action="append",
         default=[],
         help="list DIR before the run, to know what the command overwrites, moves and removes there"
-        " (the working directory is always listed; the option may be given several times)",
+        " (the working directory is always listed); may be repeated",
     )
     parser.add_argument(
         "--policy",
@@ -89,8 +89,8 @@ def _add_recorder(parser: argparse.ArgumentParser) -> None:
         type=int,
         action="append",
         default=[],
-        help="record a process that runs, its descendants and what they start, by the witness, in place of a command"
-        " (the option may be given several times)",
+        help="record a running process, its descendants and what they start, by the witness, in place of a command;"
+        " may be repeated",
     )
     parser.add_argument(
         "--cgroup",
@@ -103,8 +103,8 @@ def _add_recorder(parser: argparse.ArgumentParser) -> None:
         metavar="SECONDS",
         type=float,
         dest="seconds",
-        help="with --pid or --cgroup, end the recording after so long (default: at SIGINT, or when all that --pid"
-        " names has ended)",
+        help="with --pid or --cgroup, end the recording after this time (default: at SIGINT, or when all processes"
+        " that --pid names have ended)",
     )
 
 

@@ -1,4 +1,4 @@
-"""Takes the folder of a recording out of the file that `pack` wrote."""
+"""Restores the folder of a recording from the file that `pack` wrote."""
 
 from __future__ import annotations
 
@@ -8,7 +8,7 @@ from pathlib import Path
 from ...recorder import packing
 
 NAME = "unpack"
-HELP = "take the folder of a recording out of the file that 'pack' wrote"
+HELP = "restore the folder of a recording from the file that 'pack' wrote"
 EXAMPLE = "landaudit-record unpack rec.tar.zst rec"
 
 
@@ -21,7 +21,7 @@ def add_arguments(parser: argparse.ArgumentParser) -> None:
         metavar="N",
         type=_bytes,
         default=packing.MOST_BYTES,
-        help=f"the most bytes that the recording may have (default: {packing.MOST_BYTES:,})",
+        help=f"refuse a recording of more than N bytes (default: {packing.MOST_BYTES:,})",
     )
 
 

@@ -91,7 +91,7 @@ def written(policy: Policy, comments: Comments, log: bool) -> Exported:
     options += _of_ports(policy, found, losses)
     options += _of_scopes(policy, found, losses)
     if [NO_PATHS] in options and [NO_PORTS] in options and [NO_SCOPES] in options:
-        raise Problem(f"{policy.path}: {NAME} can say nothing of it: it restricts files, all of TCP, or both scopes")
+        raise Problem(f"{policy.path}: {NAME} can't express any of it: it restricts files, all of TCP, or both scopes")
     besides = [f"On a kernel before ABI {_NEWEST_ABI} it goes on with less, as {BEST} says."]
     if any(option[0] in ("--rw", "--rwx") for option in options):
         besides.append("On ABI 1 it restricts nothing, since --rw and --rwx of a directory grant refer.")

@@ -72,7 +72,7 @@ def written(policy: Policy, comments: Comments, _: bool) -> Exported:
     handled = found.fs & frozenset(RIGHTS.values())
     losses = [*found.losses, *_losses(policy)]
     if not handled:
-        raise Problem(f"{policy.path}: {NAME} can say nothing of it: it restricts files alone, by {listed(RIGHTS)}")
+        raise Problem(f"{policy.path}: {NAME} can't express any of it: it restricts files alone, by {listed(RIGHTS)}")
     options = [["--no-new-privs"], [ACCESS, f"fs:{_named(handled)}"]]
     options += [[RULE, f"path-beneath:{_named(on.rights & handled)}:{on.path}"]
                 for on in found.paths if on.rights & handled]

@@ -27,8 +27,8 @@ def write(file: Path, review: Review) -> None:
 def made(review: Review) -> str:
     """The page of a comparison."""
     title = f"{review.new} in place of {review.old}" if review.old else f"{review.new}, without an old policy"
-    about = ("What the new policy lets pass and the old one refuses, and the reverse, whichever files there are. "
-             if review.old else "What the policy lets pass or refuses, whichever files there are. ")
+    about = ("What the new policy lets pass and the old one refuses, and the reverse, whatever files exist. "
+             if review.old else "What the policy lets pass or refuses, whatever files exist. ")
     return page(title, f"{about}{differing_text.tried(review)}.", _figures(review), list(_parts(review)))
 
 

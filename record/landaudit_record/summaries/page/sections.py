@@ -218,9 +218,9 @@ def moot(summary: Summary) -> Markup:
 
 def paths(abis: Sequence[int], found: Paths) -> Markup:
     """The tree of paths."""
-    told = paragraph("Calls on paths about which Landlock is asked, at or below each directory: as wide as they are "
-                     "many, the redder, the more are refused. A call on two paths is counted once if both are below. A "
-                     "click on a directory shows the groups and kinds there.")
+    told = paragraph("Calls on paths about which Landlock is asked, at or below each directory: the wider, the more "
+                     "calls; the redder, the more of them are refused. A call on two paths is counted once if both are "
+                     "below. A click on a directory shows the groups and kinds there.")
     buttons = (element("button", title, attributes={"type": "button", "id": name})
                for title, name in (("Open directories with refusals", "open"), ("Close all", "close")))
     doors = element("div", *buttons, kind="tools", attributes={"id": "doors", "hidden": ""})

@@ -34,7 +34,7 @@ from .rules import Rules, lacking
 REFUSED = FindingKind("refused", "Landlock refuses a call that the recorded program makes.")
 UNSURE = FindingKind("may-be-refused", "A call may be refused: the recording does not tell what was there before it.")
 NOT_JUDGED = FindingKind("not-judged", "Something that a policy may refuse could not be judged.")
-NO_LONGER = FindingKind("accepted-no-longer-refused", "A refusal is accepted that no call meets any more.")
+NO_LONGER = FindingKind("accepted-no-longer-refused", "An accepted refusal no longer occurs.")
 #: The kinds of warnings.
 _WARNED: Mapping[type[Warned], FindingKind] = {
     RuleRefused: FindingKind("rule-refused", "The kernel refuses a rule or a layer of the policy."),

@@ -15,7 +15,7 @@ from .rules import Rules
 
 MORE = FindingKind("allows-more", "The new policy lets something pass that the old one refuses.")
 LESS = FindingKind("allows-less", "The new policy refuses something that the old one lets pass.")
-NOT_THERE = FindingKind("accepted-not-there", "A difference is accepted that is not there.")
+NOT_THERE = FindingKind("accepted-not-there", "An accepted difference does not occur.")
 
 
 def report(review: Review, new: Policy) -> Report:
@@ -23,7 +23,7 @@ def report(review: Review, new: Policy) -> Report:
     rules = Rules(new)
     found = [_finding(row, review, MORE, Level.ERROR, _spot(row.what, rules)) for row in review.more]
     found += [_finding(row, review, LESS, Level.NOTE, Position(review.new)) for row in review.less]
-    found += [Finding(NOT_THERE, Level.NOTE, str(one), f"accepted, but not there ({one.reason})", (str(one),),
+    found += [Finding(NOT_THERE, Level.NOTE, str(one), f"accepted, but does not occur ({one.reason})", (str(one),),
                       Position(review.new)) for one in review.not_there]
     summary = (f"{counted(len(review.more), 'difference')} by which it allows more, {len(review.less):,} by which it "
                f"allows less, {len(review.accepted):,} accepted; {differing_text.tried(review)}")
