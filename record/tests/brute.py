@@ -21,7 +21,6 @@ from __future__ import annotations
 
 import argparse
 import contextlib
-import io
 import json
 import random
 import re
@@ -46,6 +45,7 @@ from landaudit_record.common.trees import ROOT, joined  # noqa: E402
 from landaudit_record.engine import landaudit  # noqa: E402
 from landaudit_record.policy import asking, policies  # noqa: E402
 from tests import covering, random_checks, random_questions  # noqa: E402
+from tests.calling import called  # noqa: E402
 from tests.random_calls import Call, Caller, Move, Port, Right  # noqa: E402
 from tests.random_policies import (  # noqa: E402
     GROUPS, LINKS, NAMES, Kinds, Layer, Maker, Names, Policy, Rule, granted, meant, plain,
@@ -97,11 +97,10 @@ def _answer(line: str) -> Answer:
 
 def run(words: Sequence[str], program: cli.CommandLineProgram) -> tuple[int, str, str]:
     """The status of a command, and what it writes to standard output and to standard error."""
-    with contextlib.redirect_stdout(io.StringIO()) as out, contextlib.redirect_stderr(io.StringIO()) as errors:
-        status = cli.main(words, program)
+    status, out, errors = called(words, program)
     if status >= ENDED:
         sys.exit(status)
-    return status, out.getvalue(), errors.getvalue()
+    return status, out, errors
 
 
 # ---- landaudit-policy diff

@@ -11,6 +11,7 @@ import unittest
 from pathlib import Path
 
 from . import standing
+from .calling import InFolder
 from .live_actor import RECORDER, wanting
 
 #: Shell commands, each with a program that it needs.
@@ -42,10 +43,7 @@ POLICIES = (
 
 
 @unittest.skipIf(wanting() is not None, wanting() or "")
-class LiveDistilling(unittest.TestCase):
-    def setUp(self) -> None:
-        self.folder = Path(self.enterContext(tempfile.TemporaryDirectory())).resolve()
-
+class LiveDistilling(InFolder):
     def recorded(self, name: str, command: str) -> tuple[Path, Path]:
         """A recording of a command that runs in a new folder, and that folder."""
         work, recording = self.folder / f"{name}-work", self.folder / f"rec-{name}"

@@ -9,7 +9,6 @@ from __future__ import annotations
 import json
 import subprocess
 import sys
-import tempfile
 import unittest
 from collections import Counter
 from pathlib import Path
@@ -17,6 +16,7 @@ from typing import Any
 
 from landaudit_record.recorder import recordings
 
+from .calling import InFolder
 from .live_actor import CONFINER, PYTHON, RECORDER, wanting
 
 POLICY = """
@@ -119,11 +119,8 @@ from os import chdir, link, mkdir, rename, symlink, unlink
 
 
 @unittest.skipIf(wanting() is not None, wanting() or "")
-class LiveObjects(unittest.TestCase):
+class LiveObjects(InFolder):
     """Each shape in a folder of its own, filled alike."""
-
-    def setUp(self) -> None:
-        self.folder = Path(self.enterContext(tempfile.TemporaryDirectory())).resolve()
 
     def fill(self, name: str) -> Path:
         """A folder with a policy about it."""

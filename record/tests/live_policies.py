@@ -5,13 +5,13 @@ from __future__ import annotations
 import json
 import os
 import subprocess
-import tempfile
 import unittest
 from pathlib import Path
 
 from landaudit_record.common.rights import ABI_OF_SCOPES
 from landaudit_record.policy import landlock_calls
 
+from .calling import InFolder
 from .live_actor import CONFINER, PYTHON, RECORDER, wanting
 
 #: Restricts itself once more, by a layer that refuses nothing that it does afterwards.
@@ -32,11 +32,8 @@ HARMLESS = '[[layer]]\nhandled_access_fs = ["make_block"]\n'
 
 
 @unittest.skipIf(wanting() is not None, wanting() or "")
-class LivePolicies(unittest.TestCase):
+class LivePolicies(InFolder):
     """Each test runs one command under two policies, and compares the policies."""
-
-    def setUp(self) -> None:
-        self.folder = Path(self.enterContext(tempfile.TemporaryDirectory())).resolve()
 
     def said(self, *words: str | Path) -> subprocess.CompletedProcess[str]:
         return subprocess.run(words, cwd=self.folder, capture_output=True, text=True, check=False)

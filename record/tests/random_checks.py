@@ -6,8 +6,6 @@ kernel, which opens them.
 
 from __future__ import annotations
 
-import contextlib
-import io
 import json
 import os
 import random
@@ -26,6 +24,7 @@ from landaudit_record.common.trees import ROOT, directory_of, joined
 from landaudit_record.engine import landaudit
 from landaudit_record.policy import asking
 
+from .calling import called
 from .random_calls import Caller
 from .random_policies import LINKS, Kinds, Maker, Policy, Rule
 
@@ -152,10 +151,9 @@ def checked(program: Path, folder: Path, policy: Policy, top: Path, cases: str) 
     (folder / "policy.toml").write_text(text)
     (folder / "cases.toml").write_text(cases)
     words = ["check", str(folder / "policy.toml"), str(folder / "cases.toml"), "--json", "--landaudit", str(program)]
-    with contextlib.redirect_stdout(io.StringIO()) as out, contextlib.redirect_stderr(io.StringIO()) as errors:
-        status = cli.main(words, cli.POLICY)
-    assert status in (0, 1, NOT_ALL_JUDGED), errors.getvalue()
-    return status, json.loads(out.getvalue().replace(f"{top}/", "/"))
+    status, out, errors = called(words, cli.POLICY)
+    assert status in (0, 1, NOT_ALL_JUDGED), errors
+    return status, json.loads(out.replace(f"{top}/", "/"))
 
 
 def faults(program: Path, of: random.Random, count: int) -> tuple[int, list[str]]:

@@ -6,14 +6,12 @@ import json
 import os
 import tempfile
 import unittest
-from contextlib import redirect_stderr, redirect_stdout
-from io import BytesIO, StringIO, TextIOWrapper
 from pathlib import Path
 from unittest import mock
 
-from landaudit_record import cli
 from landaudit_record.common.finished import Finished
 
+from .calling import called
 from .recorded import PID, missing_on, moot, refused, write_lines
 
 #: How wide lines are where a test is not about that.
@@ -94,11 +92,7 @@ class StandIn(unittest.TestCase):
 
     def called(self, *words: object) -> tuple[int, str, str]:
         """The status of a call, and what it wrote to standard output and standard error."""
-        out, errors = TextIOWrapper(BytesIO(), encoding="utf-8"), StringIO()
-        with redirect_stdout(out), redirect_stderr(errors):
-            status = cli.main([str(word) for word in words])
-        out.seek(0)
-        return status, out.read(), errors.getvalue()
+        return called(words)
 
     def audited(self, *words: object, abi: str | None = "3") -> tuple[int, str, str]:
         chosen = [] if abi is None else ["--abi", abi]

@@ -5,26 +5,17 @@ It does not keep the order of calls, the numbers of processes and descriptors, a
 
 from __future__ import annotations
 
-import contextlib
-import io
 import json
 import re
 from collections import Counter
-from collections.abc import Iterable, Sequence
+from collections.abc import Sequence
 from pathlib import Path
 from typing import Any
 
-from landaudit_record import cli
+from .calling import called
 
 Said = dict[str, Any]
 _LINE = re.compile(r", opened at line [0-9]+")
-
-
-def called(words: Iterable[object]) -> tuple[int, str, str]:
-    """The status of a call, and what it writes to standard output and standard error."""
-    with contextlib.redirect_stdout(io.StringIO()) as out, contextlib.redirect_stderr(io.StringIO()) as errors:
-        status = cli.main([str(word) for word in words])
-    return status, out.getvalue(), errors.getvalue()
 
 
 def distill(recordings: Sequence[object], to: Path) -> Path:

@@ -2,10 +2,8 @@
 
 from __future__ import annotations
 
-import tempfile
 import unittest
 from collections import Counter
-from pathlib import Path
 
 from landaudit_record.audit.auditor import TriedPolicy
 from landaudit_record.audit.summary import Refusal, RefusingLayer, Summary
@@ -16,6 +14,7 @@ from landaudit_record.policy.policies import Layer, Policy
 from landaudit_record.summaries.page import cards
 from landaudit_record.summaries.page.offering import NO_RULE, OF_PROGRAM
 
+from .calling import InFolder
 from .pages import Element, read
 from .worded import subject
 
@@ -32,10 +31,7 @@ def opened(path: str, *rights: str) -> Refusal:
     return refused("open", path, Missing(rights or ("read_file",), path))
 
 
-class Cards(unittest.TestCase):
-    def setUp(self) -> None:
-        self.folder = Path(self.enterContext(tempfile.TemporaryDirectory())).resolve()
-
+class Cards(InFolder):
     def policy(self, text: str = DENY) -> Policy:
         file = self.folder / "P.toml"
         file.write_text(text, encoding="utf-8")

@@ -2,8 +2,6 @@
 
 from __future__ import annotations
 
-import contextlib
-import io
 import random
 import shutil
 import subprocess
@@ -18,6 +16,7 @@ from landaudit_record.common.problems import NOT_ALL_JUDGED
 from landaudit_record.engine.landaudit import BUILT
 
 from . import random_checks, random_questions
+from .calling import called
 from .drawn import by_chance
 from .live_actor import CONFINER
 
@@ -89,10 +88,9 @@ class Checking(unittest.TestCase):
         for name, text in (("policy", policy), ("cases", cases)):
             (self.folder / f"{name}.toml").write_text(text.replace("@", str(self.folder)))
         words = ["check", str(self.folder / "policy.toml"), str(self.folder / "cases.toml")]
-        with contextlib.redirect_stdout(io.StringIO()) as out, contextlib.redirect_stderr(io.StringIO()) as errors:
-            status = cli.main(words, cli.POLICY)
-        said = [it.getvalue().replace(str(self.folder), "@") for it in (out, errors)]
-        return status, said[0].splitlines(), said[1]
+        status, *said = called(words, cli.POLICY)
+        out, errors = (it.replace(str(self.folder), "@") for it in said)
+        return status, out.splitlines(), errors
 
     def point(self, case: str, policy: str = POLICY) -> tuple[int, list[str]]:
         """The status of a check of one case, and the lines of its point."""

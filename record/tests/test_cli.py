@@ -17,18 +17,14 @@ from landaudit_record import PROGRAMS, VERSION, cli
 from landaudit_record.recorder import tracing
 from landaudit_record.recorder.writing import Recording
 
+from .calling import called
 from .kept_logs import LOGS
 
 
 def said(*words: str) -> tuple[int, str]:
     """The status of a command line, and what it writes to standard error."""
-    error = io.StringIO()
-    with contextlib.redirect_stderr(error), contextlib.redirect_stdout(io.StringIO()):
-        try:
-            status = cli.main(words)
-        except SystemExit as end:
-            status = int(end.code or 0)
-    return status, error.getvalue()
+    status, _, errors = called(words)
+    return status, errors
 
 
 class CommandLine(unittest.TestCase):
@@ -39,20 +35,15 @@ class CommandLine(unittest.TestCase):
 
     def test_each_subcommand_has_help_with_an_example(self) -> None:
         for command in ("run", "convert", "apply", "audit", "compare", "suggest"):
-            with self.subTest(command), contextlib.redirect_stdout(io.StringIO()) as out:
-                with self.assertRaises(SystemExit) as end:
-                    cli.main([command, "--help"])
-                self.assertFalse(end.exception.code)
-                example = out.getvalue().partition("example:\n")[2]
-                self.assertIn(f"  landaudit-record {command} ", example)
+            with self.subTest(command):
+                status, out, _ = called([command, "--help"])
+                self.assertEqual(status, 0)
+                self.assertIn(f"  landaudit-record {command} ", out.partition("example:\n")[2])
 
     def test_the_version(self) -> None:
         for word in ("-V", "--version"):
-            with self.subTest(word), contextlib.redirect_stdout(io.StringIO()) as out:
-                with self.assertRaises(SystemExit) as end:
-                    cli.main([word])
-                self.assertFalse(end.exception.code)
-                self.assertEqual(out.getvalue(), f"landaudit-record {VERSION}\n")
+            with self.subTest(word):
+                self.assertEqual(called([word]), (0, f"landaudit-record {VERSION}\n", ""))
 
     def test_wrong_words_are_status_2(self) -> None:
         for words in ([], ["nosuch"], ["audit"], ["audit", "rec", "--abi", "0"]):

@@ -6,7 +6,6 @@ put in force before the second, so that its domain has the smaller number.
 
 from __future__ import annotations
 
-import contextlib
 import io
 import json
 import re
@@ -19,7 +18,6 @@ from pathlib import Path
 from typing import Any
 from unittest import mock
 
-from landaudit_record import cli
 from landaudit_record.commands.record import denials as command
 from landaudit_record.kernel_log import counting, data, granting, matching, text
 from landaudit_record.kernel_log import page as page
@@ -27,6 +25,7 @@ from landaudit_record.policy import policies
 from landaudit_record.policy.policies import Policy
 from landaudit_record.summaries.page import sections
 
+from .calling import InFolder, called
 from .json_schema import DOCS, Schema, Validator
 from .pages import Element, read as read_page
 from .test_kernel_log import ACCESS, BOX, CALL, DENIED, DOMAIN, ENDED, IN, OUT, kept, line, read
@@ -79,11 +78,8 @@ def members(schema: Any) -> Iterator[tuple[str, Schema]]:
         yield from members(one)
 
 
-class Command(unittest.TestCase):
+class Command(InFolder):
     """What the command prints, and its status."""
-
-    def setUp(self) -> None:
-        self.folder = Path(self.enterContext(tempfile.TemporaryDirectory()))
 
     def run_on(self, *words: str, log: str | bytes | None = None) -> tuple[int, str]:
         """The status and the output on a log, by default the kept one."""
@@ -91,9 +87,8 @@ class Command(unittest.TestCase):
         if log is not None:
             file = self.folder / "log"
             file.write_bytes(log if isinstance(log, bytes) else log.encode())
-        with contextlib.redirect_stdout(io.StringIO()) as out:
-            status = cli.main(["denials", str(file), *words])
-        return status, out.getvalue()
+        status, out, _ = called(["denials", file, *words])
+        return status, out
 
     def policy(self, content: str) -> Policy:
         (self.folder / "P.toml").write_text(content)
@@ -146,17 +141,18 @@ class Command(unittest.TestCase):
 
     def test_standard_input(self) -> None:
         stream = io.TextIOWrapper(io.BytesIO(kept("dmesg.log")))
-        with mock.patch.object(sys, "stdin", stream), contextlib.redirect_stdout(io.StringIO()) as out:
-            self.assertEqual(cli.main(["denials", "-"]), 1)
-        self.assertIn("denials in standard input", out.getvalue())
+        with mock.patch.object(sys, "stdin", stream):
+            status, out, _ = called(["denials", "-"])
+        self.assertEqual((status, "denials in standard input" in out), (1, True))
 
     def test_a_log_that_is_not_there_or_named_twice(self) -> None:
-        with contextlib.redirect_stderr(io.StringIO()) as error:
-            self.assertEqual(cli.main(["denials", str(self.folder / "none")]), 3)
-            self.assertEqual(cli.main(["denials", str(self.folder)]), 3)
-            self.assertEqual(cli.main(["denials", "a", "a"]), 2)
-        self.assertIn("none can't be read: No such file", error.getvalue())
-        self.assertIn("a log is named twice", error.getvalue())
+        for logs, status, told in (
+            ([self.folder / "none"], 3, "none can't be read: No such file"),
+            ([self.folder], 3, "can't be read: Is a directory"),
+            (["a", "a"], 2, "a log is named twice"),
+        ):
+            found, _, errors = called(["denials", *logs])
+            self.assertEqual((found, told in errors), (status, True), errors)
 
     def test_one_program(self) -> None:
         with mock.patch.dict("os.environ", {"COLUMNS": "200"}):
@@ -198,9 +194,7 @@ class Command(unittest.TestCase):
                     self.assertNotEqual(SCHEMA.faults(without), [])
 
     def test_rules_and_data_are_not_asked_for_at_once(self) -> None:
-        with contextlib.redirect_stderr(io.StringIO()), self.assertRaises(SystemExit) as end:
-            self.run_on("--json", "--suggest")
-        self.assertEqual(end.exception.code, 2)
+        self.assertEqual(self.run_on("--json", "--suggest")[0], 2)
 
 
 class UnderPolicy(unittest.TestCase):
@@ -292,11 +286,8 @@ def places(rule: dict[str, Any]) -> list[Any]:
     return [tuple(rule["port"])] if "port" in rule else [parents] if isinstance(parents, str) else parents
 
 
-class Rules(unittest.TestCase):
+class Rules(InFolder):
     """The rules from a log."""
-
-    def setUp(self) -> None:
-        self.folder = Path(self.enterContext(tempfile.TemporaryDirectory()))
 
     def rules(self, *logs: str | bytes, policy: str | None = None) -> tuple[list[dict[str, Any]], str]:
         """The rules in the order in which they are printed, and all that is printed."""
@@ -463,9 +454,9 @@ class Page(unittest.TestCase):
                 self.assertEqual(len(found.all("script")), 1)
 
     def test_it_is_written_beside_what_is_printed(self) -> None:
-        with tempfile.TemporaryDirectory() as folder, contextlib.redirect_stdout(io.StringIO()):
+        with tempfile.TemporaryDirectory() as folder:
             file = Path(folder, "page.html")
-            cli.main(["denials", str(DENIED / "dmesg.log"), "--html", str(file)])
+            called(["denials", DENIED / "dmesg.log", "--html", file])
             self.assertIn("<title>denials in ", file.read_text())
 
 

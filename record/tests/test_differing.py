@@ -2,8 +2,6 @@
 
 from __future__ import annotations
 
-import contextlib
-import io
 import tempfile
 import time
 import unittest
@@ -17,6 +15,7 @@ from landaudit_record.policy import moving, policies
 from landaudit_record.policy.regions import RULED_KINDS, Region, Regions, areas, as_named
 
 from . import brute, covering
+from .calling import InFolder, called
 from .random_calls import Call, Right
 
 OLD = """[[layer]]
@@ -77,19 +76,14 @@ class InRegions(unittest.TestCase):
 
 
 @unittest.skipUnless(BUILT.exists(), f"{BUILT} is not built")
-class Differing(unittest.TestCase):
-    def setUp(self) -> None:
-        self.folder = Path(self.enterContext(tempfile.TemporaryDirectory())).resolve()
-
+class Differing(InFolder):
     def said(self, old: str, new: str, *words: str) -> tuple[int, list[str], str]:
         """The status, the lines and the errors of a comparison."""
         for name, text in (("old", old), ("new", new)):
             (self.folder / name).write_text(text)
-        paths = [str(self.folder / name) for name in ("old", "new")]
-        with contextlib.redirect_stdout(io.StringIO()) as out, contextlib.redirect_stderr(io.StringIO()) as errors:
-            status = cli.main(["diff", *paths, *words], cli.POLICY)
-        said = [it.getvalue().replace(f"{self.folder}/", "") for it in (out, errors)]
-        return status, said[0].splitlines(), said[1]
+        status, *said = called(["diff", self.folder / "old", self.folder / "new", *words], cli.POLICY)
+        out, errors = (it.replace(f"{self.folder}/", "") for it in said)
+        return status, out.splitlines(), errors
 
     def test_the_same_policy(self) -> None:
         status, lines, _ = self.said(OLD, OLD)
@@ -439,9 +433,8 @@ class Differing(unittest.TestCase):
     def without_old(self, new: str, allowed: str, *words: str) -> tuple[int, list[str]]:
         """The status and the lines where there is no old policy."""
         (self.folder / "new").write_text(new)
-        with contextlib.redirect_stdout(io.StringIO()) as out:
-            status = cli.main(["diff", str(self.folder / "new"), "--old-allows", allowed, *words], cli.POLICY)
-        return status, out.getvalue().replace(f"{self.folder}/", "").splitlines()[:-1]
+        status, out, _ = called(["diff", self.folder / "new", "--old-allows", allowed, *words], cli.POLICY)
+        return status, out.replace(f"{self.folder}/", "").splitlines()[:-1]
 
     def test_no_old_policy(self) -> None:
         policy = ('[[layer]]\nhandled_access_fs = ["execute", "read_file"]\nscoped = ["signal", "abstract_unix_socket"]\n'
@@ -468,9 +461,9 @@ class Differing(unittest.TestCase):
     def test_an_old_policy_or_none(self) -> None:
         (self.folder / "new").write_text(OLD)
         for words in ([], [str(self.folder / "new"), "--old-allows", "nothing"]):
-            with contextlib.redirect_stderr(io.StringIO()) as errors:
-                self.assertEqual(cli.main(["diff", str(self.folder / "new"), *words], cli.POLICY), 2)
-            self.assertIn("give the old policy or, if there is none, --old-allows", errors.getvalue())
+            status, _, errors = called(["diff", self.folder / "new", *words], cli.POLICY)
+            told = "give the old policy or, if there is none, --old-allows" in errors
+            self.assertEqual((status, told), (2, True))
 
     def test_random_policies_by_random_calls(self) -> None:
         calls = differ = 0

@@ -5,7 +5,6 @@ from __future__ import annotations
 import json
 import random
 import shutil
-import tempfile
 import unittest
 from collections.abc import Sequence
 from pathlib import Path
@@ -19,6 +18,7 @@ from landaudit_record.recorder.ports import Ports
 from landaudit_record.recorder.writing import Limits
 
 from . import brute, standing, stories
+from .calling import InFolder
 from .json_schema import DIALECT, DOCS, Validator
 from .kept_logs import LOGS
 from .recorded import records, write_lines
@@ -31,11 +31,8 @@ handled_access_net = ["all"]
 """
 
 
-class Scratch(unittest.TestCase):
+class Scratch(InFolder):
     """A test with a folder."""
-
-    def setUp(self) -> None:
-        self.folder = Path(self.enterContext(tempfile.TemporaryDirectory()))
 
     def recording(self, name: str, *calls: jsonl.Record, tree: Sequence[jsonl.Record] = ()) -> Path:
         """A recording that is written by hand: each of its records is a call, or they say their calls."""

@@ -2,8 +2,6 @@
 
 from __future__ import annotations
 
-import contextlib
-import io
 import json
 import os
 import random
@@ -25,7 +23,7 @@ from landaudit_record.engine.landaudit import BUILT
 from landaudit_record.policy import fitting, policies
 from landaudit_record.policy.policies import Layer, PathRule, Policy
 
-from . import libraries
+from . import calling, libraries
 from .drawn import by_chance
 from .json_schema import Validator
 from .test_forms import random_policy
@@ -62,9 +60,7 @@ LAYER = '[[layer]]\nhandled_access_fs = ["all"]\n'
 
 def called(command: str, *words: object) -> tuple[int, str, str]:
     """The status of a command, and what it prints."""
-    with contextlib.redirect_stdout(io.StringIO()) as out, contextlib.redirect_stderr(io.StringIO()) as errors:
-        status = cli.main([command, *map(str, words)], cli.POLICY)
-    return status, out.getvalue(), errors.getvalue()
+    return calling.called([command, *words], cli.POLICY)
 
 
 def exported(text: str, *options: str, form: str = "c") -> str:
@@ -141,10 +137,8 @@ class Code(unittest.TestCase):
                     self.assertEqual((run.returncode, run.stderr), (0, ""))
 
     def test_without_a_form(self) -> None:
-        with contextlib.redirect_stderr(io.StringIO()) as error, self.assertRaises(SystemExit) as end:
-            cli.main(["export", "P.toml"], cli.POLICY)
-        self.assertEqual(end.exception.code, 2)
-        self.assertIn("one of the arguments --c --rust", error.getvalue())
+        status, _, errors = called("export", "P.toml")
+        self.assertEqual((status, "one of the arguments --c --rust" in errors), (2, True))
 
 
 class Languages(unittest.TestCase):

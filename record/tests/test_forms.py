@@ -7,11 +7,8 @@ from __future__ import annotations
 import json
 import os
 import random
-import tempfile
 import unittest
 from collections.abc import Iterator
-from contextlib import redirect_stderr, redirect_stdout
-from io import StringIO
 from pathlib import Path
 from typing import Any
 from unittest import mock
@@ -24,6 +21,7 @@ from landaudit_record.policy.policies import HIGHEST_PORT, Layer, Policy
 from landaudit_record.recorder import converting
 from landaudit_record.recorder.ports import Ports
 
+from .calling import InFolder, called
 from .drawn import by_chance
 from .kept_logs import KeptLogs
 from .test_importing import read
@@ -34,13 +32,8 @@ WRITE = ALL - READ - {"execute"}
 
 def imported(*words: str, **environment: str) -> tuple[int, str, str]:
     """The status of an import, and what it prints."""
-    out, errors = StringIO(), StringIO()
-    with redirect_stdout(out), redirect_stderr(errors), mock.patch.dict(os.environ, environment):
-        try:
-            status = cli.main(["import", *words], cli.POLICY)
-        except SystemExit as ended:
-            status = int(str(ended.code))
-    return status, out.getvalue(), errors.getvalue()
+    with mock.patch.dict(os.environ, environment):
+        return called(["import", *words], cli.POLICY)
 
 
 def rights(layer: Layer) -> dict[str | int, frozenset[str]]:
@@ -55,10 +48,7 @@ def rights(layer: Layer) -> dict[str | int, frozenset[str]]:
     return found
 
 
-class Forms(unittest.TestCase):
-    def setUp(self) -> None:
-        self.folder = Path(self.enterContext(tempfile.TemporaryDirectory()))
-
+class Forms(InFolder):
     def layers(self, *words: str, **environment: str) -> tuple[Layer, ...]:
         """The layers that an import prints."""
         status, out, errors = imported(*words, **environment)

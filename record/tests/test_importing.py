@@ -5,8 +5,6 @@ from __future__ import annotations
 import tempfile
 import unittest
 from collections.abc import Sequence
-from contextlib import redirect_stderr, redirect_stdout
-from io import StringIO
 from pathlib import Path
 
 from landaudit_record import cli
@@ -19,6 +17,7 @@ from landaudit_record.policy.policies import Policy
 from landaudit_record.recorder import converting
 from landaudit_record.recorder.ports import Ports
 
+from .calling import called
 from .kept_logs import LOGS, KeptLogs
 from .recorded import write_lines
 
@@ -27,10 +26,7 @@ KERNEL_OK = {"kernel": "ok"}
 
 def imported(*words: str) -> tuple[int, str, str]:
     """The status of an import, and what it prints to standard output and standard error."""
-    out, errors = StringIO(), StringIO()
-    with redirect_stdout(out), redirect_stderr(errors):
-        status = cli.main(["import", *words], cli.POLICY)
-    return status, out.getvalue(), errors.getvalue()
+    return called(["import", *words], cli.POLICY)
 
 
 def read(text: str) -> Policy:

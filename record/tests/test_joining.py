@@ -18,6 +18,7 @@ from landaudit_record.engine.landaudit import BUILT
 from landaudit_record.recorder.names import MADE_OR_THERE
 
 from . import brute, standing, stories
+from .calling import InFolder
 from .json_schema import Validator
 from .recorded import write_lines
 
@@ -158,10 +159,7 @@ class Audits(unittest.TestCase):
 
 
 @unittest.skipUnless(BUILT.exists(), f"{BUILT} is not built")
-class Recordings(unittest.TestCase):
-    def setUp(self) -> None:
-        self.folder = Path(self.enterContext(tempfile.TemporaryDirectory()))
-
+class Recordings(InFolder):
     def told(self, count: int) -> list[Path]:
         """Random stories."""
         folders = [self.folder / f"rec-{seed}" for seed in range(count)]

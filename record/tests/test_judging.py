@@ -22,6 +22,7 @@ from landaudit_record.recorder import converting
 from landaudit_record.recorder.ports import Ports
 from landaudit_record.recorder.writing import Limits
 
+from .calling import called
 from .kept_logs import KeptLogs
 
 RECORD = Path(__file__).resolve().parents[1]
@@ -150,9 +151,7 @@ class Judging(KeptLogs):
         where = f"tree {self.recording}/tree-2.jsonl, trace {self.recording}/trace-2.jsonl"
         for does, told in faults.items():
             program = self.landaudit(f"if trace.name == 'trace-2.jsonl': {does}")
-            error = StringIO()
-            with self.subTest(told), redirect_stderr(error):
-                words = ["audit", str(self.recording), "--as-recorded", "--landaudit", program]
-                self.assertEqual(cli.main(words), WANTING)
-                self.assertEqual(error.getvalue(), f"landaudit-record: {told} ({where})\n")
+            with self.subTest(told):
+                words = ["audit", self.recording, "--as-recorded", "--landaudit", program]
+                self.assertEqual(called(words), (WANTING, "", f"landaudit-record: {told} ({where})\n"))
                 self.assert_nothing_is_left()

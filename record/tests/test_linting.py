@@ -4,11 +4,11 @@ from __future__ import annotations
 
 import tempfile
 import unittest
-from contextlib import redirect_stderr, redirect_stdout
-from io import StringIO
 from pathlib import Path
 
 from landaudit_record import cli
+
+from .calling import called
 
 WARNED = "warning: without effect unless it is moved or linked: "
 LAYER = '[[layer]]\nhandled_access_fs = ["all"]\nhandled_access_net = ["all"]\n'
@@ -34,9 +34,8 @@ class Linting(unittest.TestCase):
         """The status, and the remarks without the folder; the last line counts them."""
         policy = self.folder / "P.toml"
         policy.write_text(text)
-        with redirect_stdout(StringIO()) as out, redirect_stderr(StringIO()):
-            status = cli.main(["lint", str(policy)], cli.POLICY)
-        *lines, last = out.getvalue().replace(f"{self.folder}/", "").splitlines()
+        status, out, _ = called(["lint", policy], cli.POLICY)
+        *lines, last = out.replace(f"{self.folder}/", "").splitlines()
         notes = sum(": note: " in line for line in lines)
         warnings = len(lines) - notes
         self.assertEqual(last, f"P.toml: {warnings} warning{'s' * (warnings != 1)}, {notes} note{'s' * (notes != 1)}")

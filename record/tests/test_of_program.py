@@ -7,12 +7,9 @@ import tempfile
 import unittest
 from collections import Counter
 from collections.abc import Iterator
-from contextlib import redirect_stderr, redirect_stdout
 from dataclasses import replace
-from io import StringIO
 from pathlib import Path
 
-from landaudit_record import cli
 from landaudit_record.audit import auditor, of_program
 from landaudit_record.common import finished, jsonl, trace_lines
 from landaudit_record.common.finished import Finished, Part
@@ -25,6 +22,7 @@ from landaudit_record.policy import importing, policies, policy_text
 from landaudit_record.policy.importing import Following, Own
 from landaudit_record.recorder.writing import Limits
 
+from .calling import InFolder, called
 from .recorded import write_lines
 from .stories import told
 from .test_importing import RESTRICT, by, create, rule, run
@@ -48,10 +46,7 @@ CALLS = (
 ON_RULESETS = ("create", "add_path", "add_port", "restrict", "close_rs")
 
 
-class InFolder(unittest.TestCase):
-    def setUp(self) -> None:
-        self.folder = Path(self.enterContext(tempfile.TemporaryDirectory()))
-
+class InFolder(InFolder):
     def recording(self, name: str, *calls: Record) -> str:
         """A recording of one process, each of whose calls has a number."""
         folder = self.folder / name
@@ -61,13 +56,7 @@ class InFolder(unittest.TestCase):
         return str(folder)
 
     def said(self, *words: str) -> tuple[int, str, str]:
-        out, errors = StringIO(), StringIO()
-        with redirect_stdout(out), redirect_stderr(errors):
-            try:
-                status = cli.main(words)
-            except SystemExit as ended:
-                status = int(str(ended.code))
-        return status, out.getvalue(), errors.getvalue()
+        return called(words)
 
     def written(self, name: str) -> list[Record]:
         """The trace in which the program's own policy is tried as it is."""

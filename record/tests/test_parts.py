@@ -5,12 +5,9 @@ from __future__ import annotations
 import json
 import tempfile
 import unittest
-from contextlib import redirect_stderr, redirect_stdout
-from io import StringIO
 from pathlib import Path
 from unittest import mock
 
-from landaudit_record import cli
 from landaudit_record.commands.record import convert
 from landaudit_record.policy import policies
 from landaudit_record.policy.policies import Policy
@@ -19,6 +16,7 @@ from landaudit_record.recorder.ports import Ports
 from landaudit_record.recorder.writing import LIMITS, Limits, ListedTree, Recording
 
 from .answers import answers, parts, wanting
+from .calling import called
 from .kept_logs import LOGS, KeptLogs
 from .stories import names, told
 from .written_logs import CWD, WrittenLogs
@@ -90,10 +88,7 @@ class Parts(KeptLogs):
 
     def suggested(self, recording: Path) -> str:
         """What is suggested for the policy that was read last."""
-        policy = str(Path(self._folder) / "policy.toml")
-        with redirect_stdout(StringIO()) as out, redirect_stderr(StringIO()):
-            cli.main(["suggest", str(recording), "--policy", policy])
-        return out.getvalue()
+        return called(["suggest", recording, "--policy", Path(self._folder) / "policy.toml"])[1]
 
     def told(self, seed: int, limits: Limits, calls: int = 100) -> Path:
         """The recording of a random story."""

@@ -4,12 +4,9 @@ from __future__ import annotations
 
 import random
 import re
-import tempfile
-import unittest
 from collections import Counter
 from collections.abc import Iterator, Sequence
 from itertools import product
-from pathlib import Path
 from typing import Any
 from unittest import mock
 
@@ -21,6 +18,7 @@ from landaudit_record.common.problems import Problem
 from landaudit_record.engine import reading
 from landaudit_record.engine.reading import Told, Walk
 
+from .calling import InFolder
 from .drawn import by_chance
 from .recorded import (
     Object,
@@ -49,11 +47,8 @@ def op(name: str, pid: int = 1, **members: Any) -> Record:
     return {"op": name, "pid": pid, **members}
 
 
-class Written(unittest.TestCase):
+class Written(InFolder):
     """Traces and reports in a folder, written in one form or another."""
-
-    def setUp(self) -> None:
-        self.folder = Path(self.enterContext(tempfile.TemporaryDirectory()))
 
     def walk(
         self, calls: Sequence[Call], form: str = COMPACT, number: int = 0, *, only_refused: bool = False

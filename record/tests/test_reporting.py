@@ -8,7 +8,6 @@ from __future__ import annotations
 
 import contextlib
 import html
-import io
 import json
 import os
 import re
@@ -51,6 +50,7 @@ from landaudit_record.summaries.reporting import audited, checked, compared, git
 from landaudit_record.summaries.reporting.audited import Audited
 
 from . import libraries
+from .calling import called
 from .json_schema import Validator
 from .stand_in import StandIn
 from .test_page import HOSTILE
@@ -96,9 +96,8 @@ def read_by(script: str, text: str) -> Any:
 
 def policy_command(*words: object) -> tuple[int, str]:
     """The status of a subcommand of landaudit-policy, and what it prints."""
-    with contextlib.redirect_stdout(io.StringIO()) as out, contextlib.redirect_stderr(io.StringIO()):
-        status = cli.main([str(word) for word in words], cli.POLICY)
-    return status, out.getvalue()
+    status, out, _ = called(words, cli.POLICY)
+    return status, out
 
 
 def unescaped(text: str) -> str:

@@ -2,9 +2,7 @@
 
 from __future__ import annotations
 
-import contextlib
 import copy
-import io
 import json
 import re
 import shutil
@@ -33,6 +31,7 @@ from landaudit_record.recorder import converting
 from landaudit_record.recorder.ports import Ports
 from landaudit_record.summaries.reporting import linted
 
+from .calling import called
 from .json_schema import DIALECT, DOCS, Schema, Validator
 from .kept_logs import LOGS, KeptLogs
 from .stand_in import StandIn
@@ -443,10 +442,9 @@ class Built(KeptLogs):
 
     def called(self, program: Any, *words: object) -> dict[str, Any]:
         """What a command prints as data."""
-        with contextlib.redirect_stdout(io.StringIO()) as out, contextlib.redirect_stderr(io.StringIO()) as errors:
-            status = cli.main([*map(str, words), "--json"], program)
-        self.assertIn(status, (0, 1, 5), errors.getvalue())
-        found: dict[str, Any] = json.loads(out.getvalue())
+        status, out, errors = called([*words, "--json"], program)
+        self.assertIn(status, (0, 1, 5), errors)
+        found: dict[str, Any] = json.loads(out)
         return found
 
     def file(self, name: str, text: str) -> Path:

@@ -2,8 +2,6 @@
 
 from __future__ import annotations
 
-import contextlib
-import io
 import json
 import tempfile
 import unittest
@@ -11,7 +9,6 @@ from collections import Counter
 from pathlib import Path
 from typing import Any
 
-from landaudit_record import cli
 from landaudit_record.audit import auditor, condensing, distilled, reaching
 from landaudit_record.audit.summary import Summary
 from landaudit_record.common import finished, jsonl, reach
@@ -21,6 +18,7 @@ from landaudit_record.common.reach import ABSTRACT, PTRACE, SIGNAL, ProcessLayer
 from landaudit_record.common.rights import ABIS
 from landaudit_record.policy import policies
 
+from .calling import called
 from .recorded import write_lines
 from .written_logs import CONFINED, WrittenLogs
 
@@ -347,10 +345,8 @@ class Judged(unittest.TestCase):
         words = ["audit", str(self.folder), "--policy", str(self.policy), "--json"]
         for abi, refused in (((), [0, 0, 0, 0, 0, 1, 1]), (("--abi", "6"), [1]), (("--abi", "5"), [0]),
                              (("--abi", "4-6"), [0, 0, 1])):
-            out = io.StringIO()
-            with self.subTest(abi), contextlib.redirect_stdout(out), contextlib.redirect_stderr(io.StringIO()):
-                status = cli.main([*words, *abi])
-            data = json.loads(out.getvalue())
+            status, out, _ = called([*words, *abi])
+            data = json.loads(out)
             self.assertEqual([step["refused"] for step in data["abis"]], refused)
             self.assertEqual((status, data["abi"]), (max(refused), data["abis"][-1]["abi"]))
             self.assertEqual([step["records"] for step in data["abis"]][-1], data["records"])

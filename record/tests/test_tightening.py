@@ -2,15 +2,12 @@
 
 from __future__ import annotations
 
-import contextlib
-import io
 import random
 import tempfile
 import unittest
 from pathlib import Path
 from unittest import mock
 
-from landaudit_record import cli
 from landaudit_record.common import comments
 from landaudit_record.common.jsonl import Record
 from landaudit_record.common.rights import FILE_RIGHTS, FS, NEWEST_ABI
@@ -21,7 +18,7 @@ from landaudit_record.policy import applying, called, fitting, policies, policy_
 from landaudit_record.policy.policies import Policy
 from landaudit_record.tighten.tightening import units, without
 
-from . import brute
+from . import brute, calling
 from .drawn import by_chance
 from .random_policies import Maker
 from .recorded import write_lines
@@ -123,9 +120,7 @@ class Tightening(unittest.TestCase):
         return folder
 
     def said(self, *words: str | Path) -> tuple[int, str, str]:
-        with contextlib.redirect_stdout(io.StringIO()) as out, contextlib.redirect_stderr(io.StringIO()) as errors:
-            status = cli.main(["tighten", "--policy", str(self.policy), *map(str, words)])
-        return status, out.getvalue(), errors.getvalue()
+        return calling.called(["tighten", "--policy", self.policy, *words])
 
     def test_what_is_printed(self) -> None:
         self.policy.write_text(POLICY)

@@ -5,8 +5,6 @@ from __future__ import annotations
 import os
 import tempfile
 import unittest
-from contextlib import redirect_stderr, redirect_stdout
-from io import StringIO
 from pathlib import Path
 from unittest import mock
 
@@ -18,6 +16,7 @@ from landaudit_record.common.variables import Given
 from landaudit_record.policy import cases, policies, policy_text
 from landaudit_record.policy.policies import Policy
 
+from .calling import InFolder, called
 from .worded import subject
 
 LAYER = '[[layer]]\nhandled_access_fs = ["all"]\nhandled_access_net = ["all"]\n'
@@ -26,11 +25,8 @@ PORT = '[[layer.net_port]]\nallowed_access = ["connect_tcp"]\nport = '
 APP = '[variables]\nAPP = "/srv/app"\n'
 
 
-class InFolder(unittest.TestCase):
+class InFolder(InFolder):
     """A folder for files."""
-
-    def setUp(self) -> None:
-        self.folder = Path(self.enterContext(tempfile.TemporaryDirectory()))
 
     def file(self, text: str, name: str = "P.toml") -> Path:
         path = self.folder / name
@@ -124,13 +120,8 @@ class Faults(InFolder):
 
 class Commands(InFolder):
     def run_it(self, *words: str, **environment: str) -> tuple[int, str, str]:
-        out, errors = StringIO(), StringIO()
-        with redirect_stdout(out), redirect_stderr(errors), mock.patch.dict(os.environ, environment):
-            try:
-                status = cli.main(words, cli.POLICY)
-            except SystemExit as ended:
-                status = int(str(ended.code))
-        return status, out.getvalue(), errors.getvalue()
+        with mock.patch.dict(os.environ, environment):
+            return called(words, cli.POLICY)
 
     def test_values_of_the_command_line_and_the_environment(self) -> None:
         policy = str(self.file(LAYER + RULE + '"${APP}"\n'))

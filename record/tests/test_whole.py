@@ -9,12 +9,9 @@ import signal
 import subprocess
 import sys
 import unittest
-from contextlib import redirect_stderr, redirect_stdout
-from io import StringIO
 from pathlib import Path
 from unittest import mock
 
-from landaudit_record import cli
 from landaudit_record.audit import auditor
 from landaudit_record.common import finished
 from landaudit_record.common.finished import CONVERTED, Converted, Size
@@ -23,6 +20,7 @@ from landaudit_record.recorder import converting, recordings
 from landaudit_record.recorder.ports import Ports
 from landaudit_record.recorder.writing import Limits, ListedTree, Recording
 
+from .calling import called
 from .kept_logs import KeptLogs
 from .recorded import write_lines
 from .stand_in import WIDE
@@ -54,12 +52,9 @@ class Whole(KeptLogs):
 
     def audited(self, *words: str) -> tuple[int, str, str]:
         """The status of an audit, and what it wrote to standard output and standard error."""
-        out, errors = StringIO(), StringIO()
-        wide = mock.patch.dict(os.environ, COLUMNS=WIDE)
-        with redirect_stdout(out), redirect_stderr(errors), wide:
-            alone = [] if "--policy" in words else ["--as-recorded"]
-            status = cli.main(["audit", str(self.recording), "--landaudit", str(self.landaudit), *alone, *words])
-        return status, out.getvalue(), errors.getvalue()
+        alone = [] if "--policy" in words else ["--as-recorded"]
+        with mock.patch.dict(os.environ, COLUMNS=WIDE):
+            return called(["audit", self.recording, "--landaudit", self.landaudit, *alone, *words])
 
     def test_one_part_has_the_files_of_one(self) -> None:
         done = self.convert_it()
@@ -133,12 +128,11 @@ class Whole(KeptLogs):
         self.convert_it(Limits(own=20))
         policy = Path(self._folder) / "policy.toml"
         policy.write_text('[[layer]]\nhandled_access_net = ["bind_tcp"]\n')
-        errors, out = StringIO(), Path(self._folder) / "tried.jsonl"
-        with redirect_stderr(errors):
-            self.assertEqual(cli.main(["apply", str(policy), str(self.recording), "--out", str(out)]), USAGE)
-        first = self.recording / "trace-1.jsonl"
-        self.assertIn(f"parts: name one of its traces, such as {first}\n", errors.getvalue())
-        self.assertEqual(cli.main(["apply", str(policy), str(first), "--out", str(out)]), 0)
+        out, first = Path(self._folder) / "tried.jsonl", self.recording / "trace-1.jsonl"
+        status, _, errors = called(["apply", policy, self.recording, "--out", out])
+        told = f"parts: name one of its traces, such as {first}\n" in errors
+        self.assertEqual((status, told), (USAGE, True), errors)
+        self.assertEqual(called(["apply", policy, first, "--out", out])[0], 0)
         self.assertGreater(out.stat().st_size, first.stat().st_size)
 
     def test_what_is_said_in_no_known_way(self) -> None:
