@@ -33,23 +33,17 @@ def _made(scene: Scene, thread: Thread, call: Call, op: str, spot: Spot, node: N
         scene.names.put(spot.real, node)
 
 
+def _name(scene: Scene, thread: Thread, call: Call) -> Spot:
+    """The name that a call makes or removes."""
+    return arguments.name_at(scene, thread, call, *_NAMES[call.name])
+
+
 def _mkdir(scene: Scene, thread: Thread, call: Call) -> None:
-    _made(scene, thread, call, "mkdir", arguments.name_at(scene, thread, call, None, 0), Node("dir"))
-
-
-def _mkdirat(scene: Scene, thread: Thread, call: Call) -> None:
-    _made(scene, thread, call, "mkdir", arguments.name_at(scene, thread, call, 0, 1), Node("dir"))
+    _made(scene, thread, call, "mkdir", _name(scene, thread, call), Node("dir"))
 
 
 def _mknod(scene: Scene, thread: Thread, call: Call) -> None:
-    _made_node(scene, thread, call, arguments.name_at(scene, thread, call, None, 0), 1)
-
-
-def _mknodat(scene: Scene, thread: Thread, call: Call) -> None:
-    _made_node(scene, thread, call, arguments.name_at(scene, thread, call, 0, 1), 2)
-
-
-def _made_node(scene: Scene, thread: Thread, call: Call, spot: Spot, mode: int) -> None:
+    spot, mode = _name(scene, thread, call), _NAMES[call.name][1] + 1
     wanted = stat.S_IFMT(arguments.number_at(call, mode)) or stat.S_IFREG
     if wanted == stat.S_IFDIR:
         raise NotAsked("mknod of a directory")
@@ -59,14 +53,7 @@ def _made_node(scene: Scene, thread: Thread, call: Call, spot: Spot, mode: int) 
 
 
 def _symlink(scene: Scene, thread: Thread, call: Call) -> None:
-    _made_link(scene, thread, call, arguments.name_at(scene, thread, call, None, 1))
-
-
-def _symlinkat(scene: Scene, thread: Thread, call: Call) -> None:
-    _made_link(scene, thread, call, arguments.name_at(scene, thread, call, 1, 2))
-
-
-def _made_link(scene: Scene, thread: Thread, call: Call, spot: Spot) -> None:
+    spot = _name(scene, thread, call)
     _made(scene, thread, call, "symlink", spot, Node("sym", target=arguments.path_at(call, 0)))
 
 
@@ -78,21 +65,11 @@ def bound(scene: Scene, thread: Thread, call: Call) -> None:
         _made(scene, thread, call, "mknod", scene.spot(thread, None, name, False), Node("sock"), kind="sock")
 
 
-def _unlink(scene: Scene, thread: Thread, call: Call) -> None:
-    _removed(scene, thread, call, "unlink", arguments.name_at(scene, thread, call, None, 0))
-
-
-def _rmdir(scene: Scene, thread: Thread, call: Call) -> None:
-    _removed(scene, thread, call, "rmdir", arguments.name_at(scene, thread, call, None, 0))
-
-
-def _unlinkat(scene: Scene, thread: Thread, call: Call) -> None:
-    op = "rmdir" if arguments.number_at(call, 2) & AT_REMOVEDIR else "unlink"
-    _removed(scene, thread, call, op, arguments.name_at(scene, thread, call, 0, 1))
-
-
-def _removed(scene: Scene, thread: Thread, call: Call, op: str, spot: Spot) -> None:
-    spot = arguments.object_at(scene, call, spot, "dir" if op == "rmdir" else "reg")
+def _remove(scene: Scene, thread: Thread, call: Call) -> None:
+    op = call.name
+    if op == "unlinkat":
+        op = "rmdir" if arguments.number_at(call, 2) & AT_REMOVEDIR else "unlink"
+    spot = arguments.object_at(scene, call, _name(scene, thread, call), "dir" if op == "rmdir" else "reg")
     scene.say(thread, call, op, path=spot.path, **arguments.shown(spot))
     if call.ok and spot.node is not None:
         scene.names.is_of(spot.node, *(("dir",) if op == "rmdir" else NO_DIRECTORIES))
@@ -130,16 +107,19 @@ def _chroot(scene: Scene, thread: Thread, call: Call) -> None:
         thread.directories.root = arguments.spot_at(scene, thread, call, None, 0, True).real
 
 
+#: Where calls on a name have the descriptor of its directory, if they have one, and the name.
+_NAMES: dict[str, tuple[int | None, int]] = {
+    **dict.fromkeys(("mkdir", "mknod", "unlink", "rmdir"), (None, 0)),
+    **dict.fromkeys(("mkdirat", "mknodat", "unlinkat"), (0, 1)),
+    "symlink": (None, 1),
+    "symlinkat": (1, 2),
+}
+
 HANDLERS = {
-    "mkdir": _mkdir,
-    "mkdirat": _mkdirat,
-    "mknod": _mknod,
-    "mknodat": _mknodat,
-    "symlink": _symlink,
-    "symlinkat": _symlinkat,
-    "unlink": _unlink,
-    "rmdir": _rmdir,
-    "unlinkat": _unlinkat,
+    **dict.fromkeys(("mkdir", "mkdirat"), _mkdir),
+    **dict.fromkeys(("mknod", "mknodat"), _mknod),
+    **dict.fromkeys(("symlink", "symlinkat"), _symlink),
+    **dict.fromkeys(("unlink", "rmdir", "unlinkat"), _remove),
     "truncate": _truncate,
     "truncate64": _truncate,
     "chdir": _chdir,

@@ -16,27 +16,26 @@ RENAME_EXCHANGE = 2
 RENAME_WHITEOUT = 4
 
 
+#: Where calls with the descriptors of directories have these and their paths, and where the others have theirs.
+_BY_DIRECTORIES, _BY_PATHS = ((0, 1), (2, 3)), ((None, 0), (None, 1))
+_WITH_FLAGS = ("renameat2", "linkat")
+
+
+def _ends(call: Call) -> tuple[tuple[int | None, int], tuple[int | None, int]]:
+    """Where a call has what it moves or links, and where it has the new name."""
+    return _BY_PATHS if call.name in ("rename", "link") else _BY_DIRECTORIES
+
+
+def _flags(call: Call) -> int:
+    return arguments.number_at(call, 4) if call.name in _WITH_FLAGS else 0
+
+
 def _rename(scene: Scene, thread: Thread, call: Call) -> None:
-    _renamed(scene, thread, call, (None, 0), (None, 1), 0)
-
-
-def _renameat(scene: Scene, thread: Thread, call: Call) -> None:
-    _renamed(scene, thread, call, (0, 1), (2, 3), 0)
-
-
-def _renameat2(scene: Scene, thread: Thread, call: Call) -> None:
-    _renamed(scene, thread, call, (0, 1), (2, 3), arguments.number_at(call, 4))
-
-
-Argument = tuple[int | None, int]
-
-
-def _renamed(scene: Scene, thread: Thread, call: Call, start: Argument, end: Argument, flags: int) -> None:
+    flags = _flags(call)
     exchange = bool(flags & RENAME_EXCHANGE)
     if call.error == "EEXIST" and flags & RENAME_NOREPLACE:
         raise NotAsked("EEXIST before Landlock is asked")
-    moved = arguments.name_at(scene, thread, call, *start)
-    target = arguments.name_at(scene, thread, call, *end)
+    moved, target = (arguments.name_at(scene, thread, call, *end) for end in _ends(call))
     moved = _source(scene, call, moved, target, exchange)
     if exchange and call.error != "ENOENT":
         target = arguments.object_at(scene, call, target, "reg", KINDS)
@@ -100,14 +99,7 @@ def _say_move(scene: Scene, thread: Thread, call: Call, op: str, start: Spot, en
 
 
 def _link(scene: Scene, thread: Thread, call: Call) -> None:
-    _linked(scene, thread, call, (None, 0), (None, 1), 0)
-
-
-def _linkat(scene: Scene, thread: Thread, call: Call) -> None:
-    _linked(scene, thread, call, (0, 1), (2, 3), arguments.number_at(call, 4))
-
-
-def _linked(scene: Scene, thread: Thread, call: Call, start: Argument, end: Argument, flags: int) -> None:
+    flags, (start, end) = _flags(call), _ends(call)
     follow = bool(flags & arguments.AT_SYMLINK_FOLLOW)
     source = arguments.spot_at(scene, thread, call, *start, follow)
     target = arguments.name_at(scene, thread, call, *end)
@@ -124,10 +116,4 @@ def _linked(scene: Scene, thread: Thread, call: Call, start: Argument, end: Argu
         scene.names.put(target.real, source.node)
 
 
-HANDLERS = {
-    "rename": _rename,
-    "renameat": _renameat,
-    "renameat2": _renameat2,
-    "link": _link,
-    "linkat": _linkat,
-}
+HANDLERS = {"rename": _rename, "renameat": _rename, "renameat2": _rename, "link": _link, "linkat": _link}

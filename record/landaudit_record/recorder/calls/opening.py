@@ -47,11 +47,7 @@ UNNAMED = "#tmpfile"
 
 
 def _open(scene: Scene, thread: Thread, call: Call) -> None:
-    _opened(scene, thread, call, None, 0, arguments.number_at(call, 1))
-
-
-def _openat(scene: Scene, thread: Thread, call: Call) -> None:
-    _opened(scene, thread, call, 0, 1, arguments.number_at(call, 2))
+    _opened(scene, thread, call, *GIVEN[call.name], flags_of(call))
 
 
 def _openat2(scene: Scene, thread: Thread, call: Call) -> None:
@@ -66,7 +62,7 @@ def _openat2(scene: Scene, thread: Thread, call: Call) -> None:
         directory = values.descriptor(call.arguments[0]).path or directories.directory
         thread.directories = replace(directories, root=directory, directory=directory)
     try:
-        _opened(scene, thread, call, 0, 1, flags_of(call))
+        _open(scene, thread, call)
     finally:
         thread.directories = directories
 
@@ -80,10 +76,6 @@ def flags_of(call: Call) -> int:
             flags = values.member(call.arguments[2], "flags")
             return values.number(flags) if flags else 0
     return arguments.number_at(call, 1 if call.name == "open" else 2)
-
-
-def _creat(scene: Scene, thread: Thread, call: Call) -> None:
-    _opened(scene, thread, call, None, 0, flags_of(call))
 
 
 def _opened(scene: Scene, thread: Thread, call: Call, base: int | None, path: int, flags: int) -> None:
@@ -324,4 +316,4 @@ def _say_open(scene: Scene, thread: Thread, call: Call, spot: Spot, number: int,
 #: Where each call has the descriptor of a directory, if it has one, and its path.
 GIVEN: dict[str, tuple[int | None, int]] = {"open": (None, 0), "openat": (0, 1), "openat2": (0, 1), "creat": (None, 0)}
 
-HANDLERS = {"open": _open, "openat": _openat, "openat2": _openat2, "creat": _creat}
+HANDLERS = {"open": _open, "openat": _open, "openat2": _openat2, "creat": _open}
