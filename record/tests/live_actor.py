@@ -99,7 +99,3 @@ class LiveActor(unittest.TestCase):
     def test_as_a_user(self) -> None:
         self.work.chmod(0o777)
         self.assert_busy(self.compared(5, by=NOBODY))
-
-
-if __name__ == "__main__":
-    unittest.main()

@@ -121,7 +121,3 @@ class LiveConfining(unittest.TestCase):
         run = self.said(PYTHON, RECORDER, "run", self.folder / "rec", "--policy", self.policy, "--", "true")
         self.assertEqual(run.returncode, 3)
         self.assertFalse((self.folder / "rec").exists())
-
-
-if __name__ == "__main__":
-    unittest.main()

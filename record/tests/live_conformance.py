@@ -19,7 +19,3 @@ class LiveConformance(unittest.TestCase):
         self.assertEqual(run.returncode, 0, run.stderr)
         row = r'{"program": "cat", "policy": "read-only", "calls": (\d+), "agree": \1}\n\Z'
         self.assertRegex(run.stdout, row)
-
-
-if __name__ == "__main__":
-    unittest.main()

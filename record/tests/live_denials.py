@@ -271,7 +271,3 @@ def _abstract(name: str) -> Any:
     it.bind(f"\0{name}")
     it.listen()
     return it
-
-
-if __name__ == "__main__":
-    unittest.main()

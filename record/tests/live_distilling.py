@@ -90,7 +90,3 @@ class LiveDistilling(InFolder):
 def size(folder: Path) -> int:
     """The bytes of all files of a folder."""
     return sum(path.stat().st_size for path in folder.rglob("*") if os.path.isfile(path))
-
-
-if __name__ == "__main__":
-    unittest.main()

@@ -278,7 +278,3 @@ class LiveExporting(unittest.TestCase):
 def passing(said: str) -> set[str]:
     """The calls that pass, by the lines of the probe."""
     return {line for line in said.splitlines() if line.endswith(" ok")}
-
-
-if __name__ == "__main__":
-    unittest.main()

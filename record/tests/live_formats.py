@@ -113,7 +113,3 @@ class LiveFormats(unittest.TestCase):
         subprocess.run([str(RECORDER), "convert", str(out)], capture_output=True, check=True)
         holes = [line["class"] for _, line in jsonl.numbered(out / "unsaid.jsonl") if line.get("asks")]
         self.assertEqual(holes, [programs.UNKNOWN_FORMAT])
-
-
-if __name__ == "__main__":
-    unittest.main()

@@ -172,7 +172,3 @@ def granted(layer: policies.Layer, abi: int = NEWEST_ABI) -> dict[str | int, Rig
             rights = port_rule.allowed_access.rights & layer.handled_access_net.rights & NET.known(abi)
             found[port] = found.get(port, frozenset()) | rights
     return found
-
-
-if __name__ == "__main__":
-    unittest.main()

@@ -464,7 +464,3 @@ class LiveBuild(unittest.TestCase):
         self.assertIn(run.returncode, (0, 1), run.stderr)
         found = {(one["call"], one["place"]) for one in json.loads(run.stdout)["refusals"]}
         return found, read((folder / "audited.html").read_text(encoding="utf-8"))
-
-
-if __name__ == "__main__":
-    unittest.main()

@@ -49,7 +49,3 @@ class LiveParts(unittest.TestCase):
         actor = [PYTHON, str(HERE / "actor.py"), "7", str(self.work / "actor")]
         subprocess.run([*actor, "0"], check=True)
         self.compare(Limits(own=100), "script", *actor, "150", "--confine")
-
-
-if __name__ == "__main__":
-    unittest.main()

@@ -207,7 +207,3 @@ parent = ["/usr", "/lib64", "@/link"]
         ended = [self.under(self.folder / name, PYTHON, "-c", RESTRICT).stdout for name in ("old", "new")]
         self.assertEqual(ended, ["Argument list too long\n", "ok\n"])
         self.assertEqual((status, lines[0]), (1, "new lets pass what old refuses:"))
-
-
-if __name__ == "__main__":
-    unittest.main()

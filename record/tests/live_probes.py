@@ -256,7 +256,3 @@ class LiveProbes(unittest.TestCase):
         """The classes in which a recording counts calls that may be refused."""
         lines = numbered(self.folder / out / "unsaid.jsonl")
         return frozenset(line["class"] for _, line in lines if line.get("asks"))
-
-
-if __name__ == "__main__":
-    unittest.main()

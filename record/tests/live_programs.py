@@ -140,7 +140,3 @@ def _content(path: Path) -> str:
     if path.is_symlink():
         return f"-> {os.readlink(path)}"
     return "a directory" if path.is_dir() else hashlib.sha256(path.read_bytes()).hexdigest()
-
-
-if __name__ == "__main__":
-    unittest.main()

@@ -225,7 +225,3 @@ def _read(terminal: int) -> bytes:
         return os.read(terminal, 4096)
     except OSError:
         return b""
-
-
-if __name__ == "__main__":
-    unittest.main()

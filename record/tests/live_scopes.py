@@ -453,7 +453,3 @@ class LiveScopes(unittest.TestCase):
         said = json.loads(subprocess.run(audit, capture_output=True, text=True, check=False).stdout)
         self.assertEqual([one["call"] for one in said["refusals"]], ["kill"])
         self.assertEqual([step["refused"] for step in said["abis"]], [0, 1])
-
-
-if __name__ == "__main__":
-    unittest.main()

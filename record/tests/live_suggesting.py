@@ -67,7 +67,3 @@ class LiveSuggesting(unittest.TestCase):
         for file, status in (("/etc/passwd", 0), ("/etc/shadow", 2)):
             run = self.run_in_work([sys.executable, CONFINER, "confine", self.policy, "--", *command, file])
             self.assertEqual(run.returncode, status, run.stderr)
-
-
-if __name__ == "__main__":
-    unittest.main()

@@ -67,7 +67,3 @@ class LiveTightening(unittest.TestCase):
         apart = policy_text.apart(policy, [Tree()])
         for unit in units(apart, NEWEST_ABI):
             yield "\n".join(policy_text.lines(without(apart, [unit]), comments.Comments(), lambda *_: ""))
-
-
-if __name__ == "__main__":
-    unittest.main()

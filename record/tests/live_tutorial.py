@@ -142,7 +142,3 @@ class Tutorial(unittest.TestCase):
         printed = {alike(line) for line in run.stdout.replace(folder, WORKED_IN).splitlines()}
         for line in step.shown:
             self.assertIn(alike(line), printed, run.stdout)
-
-
-if __name__ == "__main__":
-    unittest.main()

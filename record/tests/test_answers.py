@@ -225,7 +225,3 @@ def text_at(abi: int, text: str) -> Iterator[tuple[int | str, ...]]:
             elif meant:
                 lines.append(one[4:])
         yield int(line), int(pid), said, *lines
-
-
-if __name__ == "__main__":
-    unittest.main()

@@ -132,7 +132,3 @@ class Anywhere(unittest.TestCase):
             Comparison((both,), (none,)), Comparison((both,), (none, signal)), Comparison((signal,), (both,))])
         self.assertEqual([set(one.lost) for one in found], [
             {"mounts", "signal", "abstract_unix_socket"}, {"mounts", "abstract_unix_socket"}, set()])
-
-
-if __name__ == "__main__":
-    unittest.main()

@@ -66,7 +66,3 @@ class Each(unittest.TestCase):
         for _ in apart.each(works, 2):
             break
         self.assertLess(time.monotonic() - began, 30)
-
-
-if __name__ == "__main__":
-    unittest.main()

@@ -188,7 +188,3 @@ class Applying(unittest.TestCase):
         first, blank, put, last = out.getvalue().split(b"\n")
         self.assertEqual(b"\n".join([first, blank, last]), own)
         self.assertEqual(json.loads(put), {"op": "nnp", "pid": 10, "policy": {}})
-
-
-if __name__ == "__main__":
-    unittest.main()

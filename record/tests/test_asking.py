@@ -101,7 +101,3 @@ class Asking(unittest.TestCase):
             list(self.asker.answers(self.trials()))
         with mock.patch.object(landaudit, "audit", cut), self.assertRaisesRegex(Problem, "report is cut"):
             list(self.asker.verdicts(self.trials()))
-
-
-if __name__ == "__main__":
-    unittest.main()

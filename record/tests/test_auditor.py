@@ -426,7 +426,3 @@ parent = ["/none", "/a"]
         status, _, errors = self.called("audit", self.recording, "--landaudit", self.folder / "none")
         self.assertEqual(status, 4)
         self.assertIn("give --landaudit", errors)
-
-
-if __name__ == "__main__":
-    unittest.main()

@@ -144,7 +144,3 @@ class Mounts(unittest.TestCase):
             self.assertTrue(found.closes(closed), closed)
         for opened in ("/", "/m", "/nn", "/t/f", "/process"):
             self.assertFalse(found.closes(opened), opened)
-
-
-if __name__ == "__main__":
-    unittest.main()

@@ -133,7 +133,3 @@ class Written(unittest.TestCase):
              "more_warnings": []},
         ])
         json.dumps(data)
-
-
-if __name__ == "__main__":
-    unittest.main()

@@ -108,7 +108,3 @@ class Called(unittest.TestCase):
                   for name, rights in FS.groups.items()]
         self.assertEqual([json.loads(said) for said in run.stdout.splitlines()],
                          [*known, *groups, {"of": "file", "fs": FS.ordered(FILE_RIGHTS)}])
-
-
-if __name__ == "__main__":
-    unittest.main()

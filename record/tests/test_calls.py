@@ -6,7 +6,6 @@ was seen to answer.
 
 from __future__ import annotations
 
-import unittest
 
 from landaudit_record.recorder.calls import descriptors
 
@@ -249,7 +248,3 @@ class Calls(StraceLines):
             'move_mount(3, "", 4, "", 0x4) = -1 EPERM (Operation not permitted)',
         )
         self.assertEqual([record["op"] for record in trace], ["mount"] * 3)
-
-
-if __name__ == "__main__":
-    unittest.main()

@@ -2,7 +2,6 @@
 
 from __future__ import annotations
 
-import unittest
 from collections import Counter
 
 from landaudit_record.audit.auditor import TriedPolicy
@@ -163,7 +162,3 @@ class Cards(InFolder):
         shown = read(cards.cards(summaries, tried, [])).all("div", "cards")
         self.assertEqual([sorted(it.kinds) for it in shown], [["a", "a3", "a4", "cards"], ["a", "a5", "cards"]])
         self.assertEqual([len(it.all("article")) for it in shown], [1, 2])
-
-
-if __name__ == "__main__":
-    unittest.main()

@@ -149,7 +149,3 @@ class Reading(unittest.TestCase):
             self.assertTrue(said.startswith("@/cases.toml: "), said)
             self.assertIn(wanted, said)
             self.assertNotIn("\n", said)
-
-
-if __name__ == "__main__":
-    unittest.main()

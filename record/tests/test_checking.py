@@ -304,7 +304,3 @@ class Checking(unittest.TestCase):
                 status, lines, errors = self.checked(asked, policy)
                 self.assertEqual((status, lines), (3, []))
                 self.assertIn(fault, errors)
-
-
-if __name__ == "__main__":
-    unittest.main()

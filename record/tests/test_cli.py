@@ -178,7 +178,3 @@ class CommandLine(unittest.TestCase):
         with tempfile.TemporaryDirectory() as folder, mock.patch.object(Recording, "write", side_effect=full):
             recording = shutil.copytree(LOGS / "forks", Path(folder) / "forks")
             self.assertEqual(said("convert", str(recording)), (4, "landaudit-record: No space left on device\n"))
-
-
-if __name__ == "__main__":
-    unittest.main()

@@ -260,7 +260,3 @@ class WrittenOut(unittest.TestCase):
         tally.differences[Class.UNNAMED] += 1
         tally.examples[Class.UNNAMED] = Difference(call, Class.UNNAMED)
         self.assertIn("  999,999  agree, 99.999 %", list(comparing_text.lines(tally, "rec")))
-
-
-if __name__ == "__main__":
-    unittest.main()

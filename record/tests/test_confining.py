@@ -267,7 +267,3 @@ class Words(unittest.TestCase):
             policy.write_text('[[layer]]\nhandled_access_fs = ["all"]\n')
             told = (4, "landaudit-policy: no-such-command is not found, or is not a program\n")
             self.assertEqual(self.said("confine", str(policy), "--", "no-such-command"), told)
-
-
-if __name__ == "__main__":
-    unittest.main()

@@ -2,7 +2,6 @@
 
 from __future__ import annotations
 
-import unittest
 from pathlib import Path
 
 from landaudit_record.common.jsonl import Record
@@ -283,7 +282,3 @@ class BadLogs(KeptLogs):
         with self.assertRaisesRegex(Problem, "name a folder that 'landaudit-record run' made") as raised:
             self.lines_of(folder)
         self.assertEqual(raised.exception.status, 3)
-
-
-if __name__ == "__main__":
-    unittest.main()

@@ -4,7 +4,6 @@ from __future__ import annotations
 
 import contextlib
 import random
-import unittest
 from itertools import groupby
 
 from landaudit_record.common.jsonl import Record
@@ -94,7 +93,3 @@ class Halves(WrittenLogs):
             recording.finish(ended=True)
         lines = (self.out / "trace.jsonl").read_text().splitlines()
         self.assertEqual([line[:15] for line in lines], ['{"op":"close","', '{"op":"truncate'])
-
-
-if __name__ == "__main__":
-    unittest.main()

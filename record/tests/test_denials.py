@@ -463,7 +463,3 @@ class Page(unittest.TestCase):
 class Documents(unittest.TestCase):
     def test_the_command_has_what_its_module_says(self) -> None:
         self.assertEqual(command.NAME, "denials")
-
-
-if __name__ == "__main__":
-    unittest.main()

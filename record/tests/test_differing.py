@@ -488,7 +488,3 @@ old lets nothing pass that new refuses
         self.assertEqual(len(list(brute.faults_of(said, outside, none, every, every))), 5)
         self.assertEqual(len(list(brute.faults_of(said, inside, none, none, every))), 5)
         self.assertEqual(len(list(brute.faults_of(said, inside, every, none, every))), 10)
-
-
-if __name__ == "__main__":
-    unittest.main()

@@ -103,7 +103,3 @@ class Interpreters(unittest.TestCase):
     def test_only_blanks_end_the_name_of_a_program(self) -> None:
         self.assertEqual(self.of(b"#! \t/bin/i \t-a b\n"), "/bin/i")
         self.assertEqual(self.of(b"#!/bin/i\r\n"), "/bin/i\r")
-
-
-if __name__ == "__main__":
-    unittest.main()

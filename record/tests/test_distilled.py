@@ -212,7 +212,3 @@ def _policy(of: random.Random) -> str:
             text += f"[[layer.path_beneath]]\nallowed_access = {json.dumps(some)}\nparent = {json.dumps(path)}\n"
         text += '[[layer.net_port]]\nallowed_access = ["all"]\nport = 80\n' if of.random() < 0.5 else ""
     return text
-
-
-if __name__ == "__main__":
-    unittest.main()

@@ -94,7 +94,3 @@ class Distilled(unittest.TestCase):
             self.asked(START, OF_POLICY[0], rule, refused=(3,))
         with self.assertRaisesRegex(Problem, "layer 1: the kernel refuses its restrict"):
             self.asked(START, *OF_POLICY, refused=(3,))
-
-
-if __name__ == "__main__":
-    unittest.main()

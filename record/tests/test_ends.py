@@ -243,7 +243,3 @@ class Ends(unittest.TestCase):
                         self.failed(program, words, run)
                         self.assertEqual(run.returncode, 3, run.stderr)
             file.write_text(before)
-
-
-if __name__ == "__main__":
-    unittest.main()

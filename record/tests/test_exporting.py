@@ -512,7 +512,3 @@ class Widened(Folder):
                 self.assertTrue(first.startswith((f"{policy} lets ", "no call differs")), out)
                 allowed = "  perhaps moves to under " if form == "landrun" else "-"
                 self.assertEqual([line for line in lost if not line.startswith(allowed)], [], policy.read_text())
-
-
-if __name__ == "__main__":
-    unittest.main()

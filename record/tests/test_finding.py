@@ -80,7 +80,3 @@ class Asking(unittest.TestCase):
         with self.assertRaises(Problem) as fault:
             landaudit_rules.ask(landaudit_rules.BUILT, ['{"files":[false],"ports":0}', '{"files":[true],"ports":0}'])
         self.assertEqual((fault.exception.status, str(fault.exception)), (UNREADABLE, "landaudit-rules: line 2: Field"))
-
-
-if __name__ == "__main__":
-    unittest.main()

@@ -103,7 +103,3 @@ class Fitting(unittest.TestCase):
         rule = PathRule(Numbered("path_beneath", 1), Access(grouped=FS.groups["write"]), ("/a",))
         (layer,), _ = fit(policy(Access(outright=frozenset({"make_reg", "refer"})), paths=(rule,)), 1)
         self.assertEqual(layer.path_rules[0].on("reg"), ["make_reg"])
-
-
-if __name__ == "__main__":
-    unittest.main()

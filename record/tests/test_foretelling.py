@@ -114,7 +114,3 @@ class Audits(unittest.TestCase):
         for status in (2, 3, 4):
             with self.assertRaises(RuntimeError):
                 self.audit(status)
-
-
-if __name__ == "__main__":
-    unittest.main()

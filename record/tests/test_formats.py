@@ -147,7 +147,3 @@ class Run(WrittenLogs):
     def test_a_file_that_the_kernel_does_not_run(self) -> None:
         self.assertEqual(self.run_by("toy", "-1 ENOEXEC (Exec format error)"), [])
         self.assertEqual(self.unsaid(), [])
-
-
-if __name__ == "__main__":
-    unittest.main()

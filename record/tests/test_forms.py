@@ -436,7 +436,3 @@ def _paths(chance: random.Random) -> list[str]:
 
 def _ports(chance: random.Random) -> list[str]:
     return [str(chance.sample(range(HIGHEST_PORT + 1), chance.randint(1, 2))) for _ in range(chance.randint(0, 2))]
-
-
-if __name__ == "__main__":
-    unittest.main()

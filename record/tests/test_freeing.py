@@ -99,7 +99,3 @@ class Told(unittest.TestCase):
         lines = [line for _, line in jsonl.numbered(self.out / "unsaid.jsonl")]
         counted = [(line["call"], line["asks"]) for line in lines if line["class"] == converting.TAKEN_AWAY]
         self.assertEqual(counted, [("/w/mounted", True)])
-
-
-if __name__ == "__main__":
-    unittest.main()

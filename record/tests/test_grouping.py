@@ -98,7 +98,3 @@ class Groups(unittest.TestCase):
         layers = RefusingLayer(1, 1, (Missing(("read_file",), "/x/a"),)), own
         found = groups([Refusal("open r", subject("/x/a"), "EACCES", layers, None)])
         self.assertEqual(found[0][1], "policy's 1: read_file; program's 2: refer")
-
-
-if __name__ == "__main__":
-    unittest.main()

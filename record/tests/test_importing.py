@@ -245,7 +245,3 @@ def run(program: str) -> Record:
 
 
 RESTRICT = {"op": "restrict", "rs": 3}
-
-
-if __name__ == "__main__":
-    unittest.main()

@@ -213,7 +213,3 @@ class Suggested(unittest.TestCase):
         self.assertEqual([rule.parents for rule in layer.path_beneath if rule.group is None], [("/a",), ("/w",)])
         self.assertEqual({rule.group for rule in layer.path_beneath} - {None}, {"base", "tmp"})
         self.assertEqual(layer.path_beneath[0].allowed_access, Access(outright=frozenset({"read_file"})))
-
-
-if __name__ == "__main__":
-    unittest.main()

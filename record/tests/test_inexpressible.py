@@ -6,7 +6,6 @@ tests repeat it.
 
 from __future__ import annotations
 
-import unittest
 
 from landaudit_record.recorder.calls import descriptors, inexpressible, mounts, programs, ptrace
 
@@ -307,7 +306,3 @@ class Families(WrittenLogs):
         one = self.TO_NONE.replace(r"\x50\x00", r"\x50\x7f")
         trace = self.convert(self.IPV4, f"bind(3<socket:[7]>, {one}, 16) = -1 EAFNOSUPPORT (Address family)")
         self.assertEqual((trace, self.unsaid()), ([], [(descriptors.OTHER_FAMILY, False)]))
-
-
-if __name__ == "__main__":
-    unittest.main()

@@ -264,7 +264,3 @@ class Recordings(InFolder):
             whole = self.folder / f"{seed}.d"
             standing.called(["merge", *files, "-o", whole])
             self.assertEqual(standing.audited([whole, *words[:4]]), standing.audited([*recordings, *words[:4]]))
-
-
-if __name__ == "__main__":
-    unittest.main()

@@ -17,7 +17,3 @@ class Indented(unittest.TestCase):
     def test_is_as_json_writes_it(self) -> None:
         for value in VALUES:
             self.assertEqual(indented(value), json.dumps(value, indent=2))
-
-
-if __name__ == "__main__":
-    unittest.main()

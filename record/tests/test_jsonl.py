@@ -30,7 +30,3 @@ class Files(unittest.TestCase):
             self.assertEqual(jsonl.write(file, records), 2)
             self.assertEqual(file.read_bytes(), '{"path":"/é"}\n{"path":"/bad\\udcff"}\n'.encode())
             self.assertEqual([record for _, record in jsonl.numbered(file)], records)
-
-
-if __name__ == "__main__":
-    unittest.main()

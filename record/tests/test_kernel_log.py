@@ -394,7 +394,3 @@ def _numbers(lines: Iterable[str]) -> Iterable[tuple[str, int]]:
 class Told(unittest.TestCase):
     def test_an_unread_line_is_one_line(self) -> None:
         self.assertEqual(str(UnreadRecord("log:3", "is cut")), "log:3: is cut")
-
-
-if __name__ == "__main__":
-    unittest.main()

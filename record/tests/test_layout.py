@@ -202,7 +202,3 @@ class Tables(unittest.TestCase):
             "  place: /a/…path/to",
             "  why: execute",
         ])
-
-
-if __name__ == "__main__":
-    unittest.main()

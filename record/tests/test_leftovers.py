@@ -54,7 +54,3 @@ class Left(unittest.TestCase):
             compact = (json.dumps({**line, "pid": 1}, separators=(",", ":")) for line in lines)
             trace.write_text("\n".join(compact) + "\n\n")
             self.assertEqual(leftovers.cut_files([trace]), {"/w/a"})
-
-
-if __name__ == "__main__":
-    unittest.main()

@@ -121,7 +121,3 @@ class Linting(unittest.TestCase):
 
     def test_groups_of_rules_are_for_many_machines(self) -> None:
         self.assertEqual(self.found('include = ["python", "base"]\n' + LAYER), [])
-
-
-if __name__ == "__main__":
-    unittest.main()

@@ -5,7 +5,6 @@ Which calls a running kernel (6.18) refuses, and on which files of /proc, was se
 
 from __future__ import annotations
 
-import unittest
 from pathlib import Path
 
 from landaudit_record.recorder import recordings
@@ -279,7 +278,3 @@ class WithoutReadlink(WrittenLogs):
             'execve("/w/p", ["cat", "/proc/1/status"], 0x1 /* 2 vars */) = 0',
         )
         self.assertEqual(self.unsaid(), [])
-
-
-if __name__ == "__main__":
-    unittest.main()

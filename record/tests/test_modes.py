@@ -133,7 +133,3 @@ class Users(StraceLines):
             fork = f"clone(child_stack=NULL, flags={flags}) = 11"
             self.convert(CONFINED, self.BECOMES, fork, f"{opens}\n11  {opens}")
             self.assertEqual(len(self.unsaid()), 1 + left)
-
-
-if __name__ == "__main__":
-    unittest.main()

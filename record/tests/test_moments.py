@@ -2,7 +2,6 @@
 
 from __future__ import annotations
 
-import unittest
 
 from landaudit_record.common import jsonl
 from landaudit_record.recorder.calls import programs
@@ -232,7 +231,3 @@ class Ends(WrittenLogs):
     def test_a_core_file_may_be_refused(self) -> None:
         self.convert("fork() = 11", "11  +++ killed by SIGABRT (core dumped) +++")
         self.assertEqual(self.unsaid(), [("a core file that the kernel was to write", True)])
-
-
-if __name__ == "__main__":
-    unittest.main()

@@ -160,7 +160,3 @@ class Paths(unittest.TestCase):
             names = Names(Disk(0.0, DISK), before, ["/"], unlisted=unlisted)
             self.assertEqual(getattr(names.at("/w/moved/in"), "kind", None), expected)
             self.assertIsNone(names.at("/usr"))
-
-
-if __name__ == "__main__":
-    unittest.main()

@@ -22,7 +22,3 @@ class Names(unittest.TestCase):
 
     def test_the_way_to_it_counts_from_zero(self) -> None:
         self.assertEqual(Numbered("layer", 3).steps, ("layer", 2))
-
-
-if __name__ == "__main__":
-    unittest.main()

@@ -7,7 +7,6 @@ live_objects.py, which asks the kernel for each of these shapes.
 from __future__ import annotations
 
 import random
-import unittest
 
 from landaudit_record.common import jsonl
 from landaudit_record.recorder.names import OF_KIND, REPLACED_OR_NOT
@@ -292,7 +291,3 @@ def reads_as_path(path: str) -> bool:
         and names[0] == ""
         and all(name not in ("", ".", "..") and "\0" not in name for name in names[1:])
     )
-
-
-if __name__ == "__main__":
-    unittest.main()

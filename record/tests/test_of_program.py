@@ -267,7 +267,3 @@ class Answers(InFolder):
         file = self.folder / "P.toml"
         file.write_text(text)
         return policies.read(file)
-
-
-if __name__ == "__main__":
-    unittest.main()

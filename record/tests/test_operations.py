@@ -141,7 +141,3 @@ def forms(operation: Operation) -> Iterator[Record]:
     some = {name: choices[name] for name in operation.decides if name in choices}
     for values in product(*some.values()) if operation.asks is not None else [()]:
         yield from [{**usual, **dict(zip(some, values))}] * (2 if operation.name in DESCRIPTOR_CALLS else 1)
-
-
-if __name__ == "__main__":
-    unittest.main()

@@ -150,7 +150,3 @@ class Comments(unittest.TestCase):
         found = comments.read(f"{LAYER}# a\n{RULE}# b\n{port}# c\n{RULE}{accepted}# f\n{LAYER}# g\n")
         self.assertEqual(found.parts, {(1, Numbered("path_beneath", 1)): ["a"], (1, Numbered("net_port", 1)): ["b"],
                                        (1, Numbered("path_beneath", 2)): ["c"], (2, None): ["f", "g"]})
-
-
-if __name__ == "__main__":
-    unittest.main()

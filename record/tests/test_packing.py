@@ -117,7 +117,3 @@ class Packed(unittest.TestCase):
     def test_a_folder_that_is_there_is_not_written_into(self) -> None:
         self.assertIn("is there already", called(["unpack", self.archive(), self.recording])[2])
         self.assertEqual(self.content(self.recording), FILES)
-
-
-if __name__ == "__main__":
-    unittest.main()

@@ -586,7 +586,3 @@ port = 443
         wanted = {"read_file": ["5", "5", "5"], "write_file": [yes] * 3, "refer": [yes] * 3,
                   "truncate": [dropped, yes, yes], "connect_tcp": [dropped, dropped, yes], "execute": None}
         self.assertEqual({right: rows.get(right) for right in wanted}, wanted)
-
-
-if __name__ == "__main__":
-    unittest.main()

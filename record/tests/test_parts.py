@@ -182,7 +182,3 @@ class Search(WrittenLogs):
                 recording.commit()
             self.assertLessEqual(len(recording.tree._gaps), 3)
             self.assertLessEqual(len(recording._others), 3)
-
-
-if __name__ == "__main__":
-    unittest.main()

@@ -171,7 +171,3 @@ class Faults(unittest.TestCase):
     def test_seventeen_layers(self) -> None:
         self.assertEqual(len(read(READING * 16).layers), 16)
         self.assert_fault(READING * 17, "at most 16")
-
-
-if __name__ == "__main__":
-    unittest.main()

@@ -127,7 +127,3 @@ class Browsed(unittest.TestCase):
                         with self.subTest(kind, name=one[:9], width=width):
                             self.assertEqual((tab.says(wider), tab.faults), (0, []))
                             self.assertIs(tab.says("document.getElementById('at').checkVisibility()"), False)
-
-
-if __name__ == "__main__":
-    unittest.main()

@@ -15,7 +15,3 @@ class ShownPaths(unittest.TestCase):
 
     def test_a_number_is_no_path(self) -> None:
         self.assertEqual(shown_path({"op": "dup", "fd": 3, "to": 4}, "/d"), "/d")
-
-
-if __name__ == "__main__":
-    unittest.main()

@@ -440,7 +440,3 @@ class Positions(unittest.TestCase):
 
     def test_formats(self) -> None:
         self.assertEqual(reporting.FORMATS, ("text", "json", "sarif", "junit", "markdown", "github"))
-
-
-if __name__ == "__main__":
-    unittest.main()

@@ -125,7 +125,3 @@ class Bytes(unittest.TestCase):
 class Words(unittest.TestCase):
     def test_a_range_of_one_is_named_as_one(self) -> None:
         self.assertEqual((span(alone(3)), span(range(2, 5)), span(range(1, 6))), ("3", "2-4", "1-5"))
-
-
-if __name__ == "__main__":
-    unittest.main()

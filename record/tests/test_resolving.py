@@ -160,7 +160,3 @@ class OfARecording(unittest.TestCase):
     def test_a_tree_by_hand_is_all_that_there_is(self) -> None:
         self.assertIsInstance(surroundings.of(self.folder), NothingElse)
         self.assertEqual(resolving.walked("/usr/bin", surroundings.of(self.folder)), Walked("/usr/bin"))
-
-
-if __name__ == "__main__":
-    unittest.main()

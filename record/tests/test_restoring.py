@@ -119,7 +119,3 @@ class Pieces(unittest.TestCase):
         self.assertEqual(first + [record for record in second if "again" not in record], self.TRACE)
         self.assertEqual([record["op"] for record in second if "again" in record], ["start", "open"])
         self.assertEqual(second[1]["ran"], [{"path": "/bin", "first": True}])
-
-
-if __name__ == "__main__":
-    unittest.main()

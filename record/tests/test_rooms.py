@@ -54,7 +54,3 @@ class Rooms(unittest.TestCase):
     def test_one_module_asks_about_calls_that_no_program_made(self) -> None:
         users = {str(file.relative_to(PACKAGE)) for file in PACKAGE.rglob("*.py") if starts_landaudit(file)}
         self.assertEqual(users, STARTING)
-
-
-if __name__ == "__main__":
-    unittest.main()

@@ -188,7 +188,3 @@ class Signals(unittest.TestCase):
     def test_an_interrupt_is_one(self) -> None:
         with mock.patch("landaudit_record.commands.record.convert.run", side_effect=KeyboardInterrupt):
             self.assertEqual(said("convert", "rec"), (130, "landaudit-record: ended by SIGINT\n"))
-
-
-if __name__ == "__main__":
-    unittest.main()

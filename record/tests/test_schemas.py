@@ -490,7 +490,3 @@ class Built(KeptLogs):
                                  "rule": "net_port 1", "on": "port 80", "rights": ["connect_tcp"]})
         self.assertEqual([one["abi"] for one in by_case["connect port 80"]["answers"]], [4, 5])
         self.assertEqual(by_case["mount -"]["answers"][0]["error"], "EPERM")
-
-
-if __name__ == "__main__":
-    unittest.main()

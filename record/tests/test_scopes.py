@@ -375,7 +375,3 @@ class Told(unittest.TestCase):
         self.assertEqual(list(self.recording(untraced=(READING_LINKS,)).notes), [readlink])
         looks = "calls that only look (stat, readlink) into other processes are not recorded: record it again"
         self.assertEqual(list(self.recording(untraced=(LOOKING, READING_LINKS, SIGNALS)).notes), [looks])
-
-
-if __name__ == "__main__":
-    unittest.main()

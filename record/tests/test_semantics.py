@@ -116,7 +116,3 @@ class Lines(unittest.TestCase):
         for line, (begin, names) in zip(lines, LINES.items(), strict=True):
             self.assertTrue(line.startswith(begin), line)
             self.assert_tests(names)
-
-
-if __name__ == "__main__":
-    unittest.main()

@@ -51,7 +51,3 @@ class Warnings(unittest.TestCase):
         for place in ("/etc/passwd", "/usr/lib", "/etc/ssl/certs", "/procession", "/system", "/home/me/keyboard"):
             with self.subTest(place):
                 self.assertEqual(warned(place), "")
-
-
-if __name__ == "__main__":
-    unittest.main()

@@ -188,7 +188,3 @@ class Forks(unittest.TestCase):
 
     def test_a_failed_fork_makes_nobody(self) -> None:
         self.assertEqual(self.births("1  fork() = -1 EAGAIN (Resource temporarily unavailable)").forks, {})
-
-
-if __name__ == "__main__":
-    unittest.main()

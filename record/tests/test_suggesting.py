@@ -521,7 +521,3 @@ port = [80, 81]
         found = suggested([*layer(), MOUNT])
         written = "\n".join(suggestion_text.lines(found, policy()))
         self.assertIn("# 1 call is refused by layers of the policy whatever their rules are: mount 1", written)
-
-
-if __name__ == "__main__":
-    unittest.main()

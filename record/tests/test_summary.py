@@ -564,7 +564,3 @@ class Joining(unittest.TestCase):
                 report = write_report(Path(folder, "report.jsonl"), said, ["allowed"] * len(said))
                 with self.assertRaisesRegex(Problem, "is not a report on"):
                     list(judged(write_lines(Path(folder, "trace.jsonl"), trace), report, NEWEST_ABI))
-
-
-if __name__ == "__main__":
-    unittest.main()

@@ -8,7 +8,6 @@ from __future__ import annotations
 
 import os
 import socket
-import unittest
 from pathlib import Path
 
 from landaudit_record.common import finished, jsonl
@@ -264,7 +263,3 @@ class Rulesets(WrittenLogs):
         trace = self.convert(*CONFINED, restrict, f'truncate("f", 0) = {EACCES}')
         self.assertEqual(told(trace[-1:], "op", "kernel"), [("truncate", "EACCES")])
         self.assertEqual(self.unsaid(), [(landlock.FOREIGN_RULESET, False)])
-
-
-if __name__ == "__main__":
-    unittest.main()

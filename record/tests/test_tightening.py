@@ -336,7 +336,3 @@ port = 443
                 self.assertEqual(tried.faults, [])
                 left += tried.differ
         self.assertGreater(left, 10)
-
-
-if __name__ == "__main__":
-    unittest.main()

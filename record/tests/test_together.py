@@ -201,7 +201,3 @@ class United(unittest.TestCase):
         members = [self.member(name, READING_LINKS) for name in ("r1", "r2")]
         found = together.united([(member, Summary(5)) for member in members])
         self.assertEqual(found.untraced, ("readlink(2) into other processes is not recorded (run --readlink)",))
-
-
-if __name__ == "__main__":
-    unittest.main()

@@ -61,7 +61,3 @@ class Told(unittest.TestCase):
             trace.write_text("\n".join(lines))
             found = [number for number, _ in told(trace, heads({"exit"}), trace_lines.AGAIN)]
         self.assertEqual(found, [1, 5, 6, 7])
-
-
-if __name__ == "__main__":
-    unittest.main()

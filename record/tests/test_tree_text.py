@@ -115,7 +115,3 @@ class Trees(unittest.TestCase):
     def test_a_very_deep_path(self) -> None:
         """Names behind the 64th are one name, so one directory has both."""
         self.assertEqual(len(drawn((reads("/d" * 1000), 1), (reads("/d" * 1000 + "/e"), 1))[3:]), 3)
-
-
-if __name__ == "__main__":
-    unittest.main()

@@ -93,7 +93,3 @@ class Trees(unittest.TestCase):
     def test_upwards(self) -> None:
         self.assertEqual(list(trees.upwards("/usr/lib/libc.so")), ["/usr/lib/libc.so", "/usr/lib", "/usr", "/"])
         self.assertEqual(list(trees.upwards("/")), ["/"])
-
-
-if __name__ == "__main__":
-    unittest.main()

@@ -270,7 +270,3 @@ class United(unittest.TestCase):
                         ({**record, "kernel": kernel, "otherwise": True}, other, process)]
                 (call,) = judged_calls(both, 5)
                 self.assertTrue(agree(call))
-
-
-if __name__ == "__main__":
-    unittest.main()

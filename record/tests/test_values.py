@@ -55,7 +55,3 @@ class Values(unittest.TestCase):
         self.assertEqual(values.number(values.member(attr, "handled_access_net") or ""), 2)
         self.assertIsNone(values.member(attr, "scoped"))
         self.assertEqual(values.member('{sa_family=0x1 /* AF_UNIX */, sun_path="a, b=}"}', "sun_path"), '"a, b=}"')
-
-
-if __name__ == "__main__":
-    unittest.main()

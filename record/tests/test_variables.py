@@ -4,7 +4,6 @@ from __future__ import annotations
 
 import os
 import tempfile
-import unittest
 from pathlib import Path
 from unittest import mock
 
@@ -227,7 +226,3 @@ def meaning(policy: Policy) -> list[object]:
     """What a policy says, whatever its groups are called."""
     return [[(rule.allowed_access, rule.parents) for rule in layer.path_beneath] + [*layer.net_port]
             for layer in policy.layers]
-
-
-if __name__ == "__main__":
-    unittest.main()

@@ -87,7 +87,3 @@ class OfProcess(unittest.TestCase):
         self.assertEqual(varying.of_process("/proc/71/task/72/comm"), "/proc/71")
         for path in ("/proc/meminfo", "/proc/sys/kernel", "/x/proc/71"):
             self.assertIsNone(varying.of_process(path))
-
-
-if __name__ == "__main__":
-    unittest.main()

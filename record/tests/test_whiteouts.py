@@ -6,7 +6,6 @@ errata/abi-1.h of Debian's linux-source-6.1, 6.1.192-2).
 
 from __future__ import annotations
 
-import unittest
 from typing import Any
 
 from .kept_logs import bare
@@ -46,7 +45,3 @@ class Files(CharacterDevices):
         self.assertEqual(left, {"op": "mknod", "path": "/w/f~new~", "kind": "reg"})
         self.assertEqual(moved, {"op": "rename", "from": "/w/f", "to": "/w/e/g~new~"})
         self.assertEqual((removed["path"], self.tree()["/w/f~2~"]), ("/w/f~2~", "reg"))
-
-
-if __name__ == "__main__":
-    unittest.main()

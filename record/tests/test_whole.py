@@ -231,7 +231,3 @@ class Said(unittest.TestCase):
     def test_records_that_are_written_again_do_not_count(self) -> None:
         parts = (Size(100, 0, 9, 1), Size(90, 30, 9, 1))
         self.assertEqual(Converted(parts, 3, 12).records, 160)
-
-
-if __name__ == "__main__":
-    unittest.main()

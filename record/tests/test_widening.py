@@ -182,7 +182,3 @@ class Widening(Disk):
                     self.assertLessEqual(set(rights), {right for rule in over for right in rule.rights})
                 granted = {str(rule.place): asked(*rule.rights) for rule in found}
                 self.assertEqual(missing_rights.narrowed(granted), granted)
-
-
-if __name__ == "__main__":
-    unittest.main()
