@@ -18,6 +18,7 @@ OBJECTS = RuledObjects.of(("/a", "/b", "/a/f", "/g"))
 DIRECTORIES = tuple(map(OBJECTS.directory, OBJECTS.paths))
 FILES = tuple(map(OBJECTS.file, OBJECTS.paths))
 RIGHT = "read_file"
+ASKED = frozenset({RIGHT})
 SEEDS = 1500
 
 Placed = frozenset[int]
@@ -59,7 +60,8 @@ def compared(seed: int) -> Comparison:
     """Two policies, often with layers in common."""
     of = random.Random(seed)
     old, new = layers(of), layers(of)
-    return Comparison(old, (*old, *new)[: of.randint(1, 4)] if of.random() < 0.3 else new)
+    new = (*old, *new)[: of.randint(1, 4)] if of.random() < 0.3 else new
+    return Comparison(old, new, objects=ASKED, single=ASKED, gains=ASKED)
 
 
 def refused(old: Ruled, new: Sequence[Ruled]) -> set[Placed]:
@@ -104,11 +106,11 @@ class Anywhere(unittest.TestCase):
     def test_regions_and_ports(self) -> None:
         """A right passes in a region by the rules on it and on what it is in, and on a port by those on it."""
         pairs = [compared(seed) for seed in range(SEEDS // 5)]
-        over = {0: 0, **dict(enumerate(OBJECTS.parents(), start=1))}
+        over = {0: 0, **dict(enumerate(OBJECTS.parents, start=1))}
         placed = {number: frozenset({0, over[number], number}) for number in over}
-        self.assertEqual([OBJECTS.parents()[number - 1] for number in (*DIRECTORIES, *FILES)],
+        self.assertEqual([OBJECTS.parents[number - 1] for number in (*DIRECTORIES, *FILES)],
                          [0, 0, OBJECTS.directory("/a"), 0] * 2)
-        asked = [replace(pair, parents=OBJECTS.parents(), ports=2) for pair in pairs]
+        asked = [replace(pair, parents=OBJECTS.parents, ports=2, regions=ASKED) for pair in pairs]
         for seed, (pair, answer) in enumerate(zip(asked, ruling.answers(BUILT, OBJECTS, asked))):
             with self.subTest(seed):
                 self.of_passing(answer.regions[RIGHT], *(
@@ -120,6 +122,22 @@ class Anywhere(unittest.TestCase):
         (found,) = ruling.answers(BUILT, OBJECTS, [of_ports])
         self.of_passing(found.ports["bind_tcp"], {1}, set())
         self.of_passing(found.ports["connect_tcp"], {0, 1, 2}, {0, 1, 2})
+
+    def test_what_is_not_asked(self) -> None:
+        """Nothing is told of a right that a question is not about, although the new policy lets it pass everywhere."""
+        old = Ruled(1, frozenset({RIGHT, "execute"}), ())
+        for asked in (RIGHT, "execute"):
+            both = frozenset({asked})
+            (found,) = ruling.answers(BUILT, OBJECTS, [
+                Comparison((old,), (), OBJECTS.parents, regions=both, objects=both, single=both, gains=both)])
+            for right in (RIGHT, "execute"):
+                is_asked = right == asked
+                everywhere = {0, *DIRECTORIES, *FILES} if is_asked else set()
+                with self.subTest(asked, right=right):
+                    self.assertEqual(found.regions[right], Passing(frozenset(), frozenset(everywhere), frozenset()))
+                    self.assertEqual(found.chains[right], [(0,)] if is_asked else [])
+                    self.assertEqual(found.single[right], [tuple(sorted(everywhere))] if is_asked else [])
+                    self.assertEqual(found.gains[right], [None] if is_asked else [])
 
     def of_passing(self, found: Passing, old: set[int], new: set[int]) -> None:
         """Where a right passes under each policy, and under both."""

@@ -1,5 +1,5 @@
 -- A comparison of two policies, as a line of JSON says it: which objects are files, what each is in, how many ports are
--- numbered, and the layers of both. Rules are on objects and ports by their numbers; what several rules grant on one number is granted there together.
+-- numbered, what is asked, and the layers of both. Rules are on objects and ports by their numbers; what several rules grant on one number is granted there together.
 -- Source: landaudit-rules(1); landlock(7), "Landlock rules".
 use Rattle.std.specs.Prelude.{ℕ, ◌+◌, Bool, true, nat_le, List, [], ◌∷◌, ◌++◌, length, map, replicate, codes, Result, Ok, Err, slice_set, slice_index_or, if◌then◌else◌}
 use Rattle.serde_json.specs.Data.{Data}
@@ -10,10 +10,11 @@ use Rattle.ll_rights.specs.NetRights as network
 use Rattle.ll_lines.specs.declared.fault.Cause.{Cause}
 use Rattle.ll_lines.specs.declared.fault.Cause.TheVariants.{Field}
 use Rattle.ll_lines.specs.Members.{value_at, number_at, flag_at, items_at, ◌>>=◌}
-use Rattle.ll_members.specs.Rights.{fs_at, net_at}
+use Rattle.ll_members.specs.Rights.{net_at, texts_at, with_fs}
 use Rattle.ll_values.specs.Lists.{fold_items, list_at, place_in, truth_in}
 use Rattle.ll_policy.specs.declared.layer.Layer.{Layer}
 use Rattle.ll_comparison.specs.declared.comparison.TheConstants.{MOST_PORTS}
+use Rattle.ll_comparison.specs.declared.comparison.Asked.{Asked}
 use Rattle.ll_comparison.specs.declared.comparison.Comparison.{Comparison as Compared}
 
 -- a layer: what it handles, what is granted on each object and on each port, by their numbers, and its scopes
@@ -29,10 +30,15 @@ pub record Comparison : Type 0 where
   pub files : List Bool
   pub parents : List ℕ
   pub ports : ℕ
+  pub asked : Asked
   pub old : List LayerSeen
   pub new : List LayerSeen
 
 -- ---- rules
+
+-- the rights for files that a member names
+abbrev pub rights_at : List ℕ → Data → Result Fs Cause
+rights_at name value = texts_at name with_fs files.no_right value
 
 -- some rights more on the object of a number
 unfoldable pub with_files_on : Fs → List Fs → Data → Result (List Fs) Cause
@@ -43,7 +49,7 @@ with_files_on rights sets value = do
 -- what a rule grants more on its objects
 unfoldable pub with_object_rule : List Fs → Data → Result (List Fs) Cause
 with_object_rule sets value = do
-  rights ← fs_at value
+  rights ← rights_at (codes "fs") value
   objects ← items_at (codes "objects") value
   fold_items (with_files_on rights) sets objects
 
@@ -84,7 +90,7 @@ scopes_in value = do
 -- a layer with rules on so many objects and ports
 unfoldable pub layer_in : ℕ → ℕ → Data → Result LayerSeen Cause
 layer_in objects ports value = do
-  handled ← fs_at value
+  handled ← rights_at (codes "fs") value
   handled_network ← net_at value
   on_objects ← on_objects_at objects value
   on_ports ← on_ports_at ports value
@@ -127,14 +133,24 @@ port_count_at value = do
   count ← number_at (codes "ports") value
   if nat_le count MOST_PORTS then Ok count else Err Field
 
+-- which rights for files are asked about
+unfoldable pub asked_in : Data → Result Asked Cause
+asked_in value = do
+  regions ← rights_at (codes "regions") value
+  objects ← rights_at (codes "objects") value
+  single ← rights_at (codes "single") value
+  gains ← rights_at (codes "gains") value
+  Ok (record { regions = regions; objects = objects; single = single; gains = gains })
+
 unfoldable pub comparison_in : Data → Result Comparison Cause
 comparison_in value = do
   files ← files_at value
   parents ← parents_at value
   ports ← port_count_at value
+  asked ← asked_in value
   old ← layers_at (codes "old") (length files) ports value
   new ← layers_at (codes "new") (length files) ports value
-  Ok (record { files = files; parents = parents; ports = ports; old = old; new = new })
+  Ok (record { files = files; parents = parents; ports = ports; asked = asked; old = old; new = new })
 
 -- the comparison on a line
 unfoldable pub comparison_on : List ℕ → Result Comparison Cause
@@ -159,6 +175,7 @@ all_seen comparison = record {
   files = comparison.files.items;
   parents = comparison.parents.items;
   ports = comparison.ports;
+  asked = comparison.asked;
   old = map seen comparison.old.items;
   new = map seen comparison.new.items;
 }

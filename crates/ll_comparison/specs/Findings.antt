@@ -5,7 +5,7 @@ use Rattle.std.specs.Prelude.{◌≡◌, ◌-◌, List, length, map}
 use Rattle.std.specs.List.{AllZip}
 use Rattle.ll_rights.specs.Rights as files
 use Rattle.ll_rights.specs.NetRights as network
-use Rattle.ll_policy.specs.Found.{TellsObjects, TellsGains, TellsSingleObjects}
+use Rattle.ll_policy.specs.Found.{TellsObjects, TellsGains, TellsSingleObjects, asked_of}
 use Rattle.ll_policy.specs.Regions.{TellsRegions, TellsPorts}
 use Rattle.ll_policy.specs.Places.{is_file_in}
 use Rattle.ll_policy.specs.Policies.{rules_of, lost}
@@ -21,13 +21,13 @@ pub record AreLost (old new : List Layer) (found : Lost) : Type 0 where
   pub abstract_unix_socket : found.abstract_unix_socket ≡ lost AbstractUnixSocket old new
   pub signal : found.signal ≡ lost Signal old new
 
--- With each right, in which regions it passes and on which ports, what is found of objects, together and alone, and of
--- gains; which restrictions are lost; and how many layers more a process can stack.
+-- With each right, in which regions it passes and on which ports, and, if it is asked about, what is found of objects,
+-- together and alone, and of gains; which restrictions are lost; and how many layers more a process can stack.
 pub record IsFound (comparison : Comparison) (found : Found) : Type 0 where
-  pub regions : AllZip (TellsRegions comparison.parents.items (map rules_of comparison.old.items) (map rules_of comparison.new.items)) files.all_rights found.regions.items
-  pub objects : AllZip (TellsObjects (is_file_in comparison.files.items) (map rules_of comparison.old.items) (map rules_of comparison.new.items)) files.all_rights found.objects.items
-  pub single : AllZip (TellsSingleObjects (length comparison.files.items) (map rules_of comparison.old.items) (map rules_of comparison.new.items)) files.all_rights found.single.items
-  pub gains : AllZip (TellsGains (is_file_in comparison.files.items) (map rules_of comparison.old.items) (map rules_of comparison.new.items)) files.all_rights found.gains.items
+  pub regions : AllZip (TellsRegions comparison.asked.regions comparison.parents.items (map rules_of comparison.old.items) (map rules_of comparison.new.items)) files.all_rights found.regions.items
+  pub objects : AllZip (λ right. TellsObjects (is_file_in comparison.files.items) (asked_of comparison.asked.objects right (map rules_of comparison.old.items)) (map rules_of comparison.new.items) right) files.all_rights found.objects.items
+  pub single : AllZip (λ right. TellsSingleObjects (length comparison.files.items) (asked_of comparison.asked.single right (map rules_of comparison.old.items)) (map rules_of comparison.new.items) right) files.all_rights found.single.items
+  pub gains : AllZip (λ right. TellsGains (is_file_in comparison.files.items) (asked_of comparison.asked.gains right (map rules_of comparison.old.items)) (map rules_of comparison.new.items) right) files.all_rights found.gains.items
   pub ports : AllZip (TellsPorts comparison.ports (map rules_of comparison.old.items) (map rules_of comparison.new.items)) network.all_rights found.ports.items
   pub lost : AreLost comparison.old.items comparison.new.items found.lost
   pub spare_layers : found.spare_layers ≡ length comparison.old.items - length comparison.new.items

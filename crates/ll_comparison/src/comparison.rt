@@ -5,11 +5,12 @@ ghost use Rattle.serde_json.specs.View.{view, items_view};
 ghost use Rattle.ll_lines.specs.Readers.{Gives, Reads};
 ghost use Rattle.ll_policy.specs.Places.{is_file_in};
 ghost use Rattle.ll_values.specs.Lists.{fold_items, one_more, truth_in};
-ghost use Rattle.ll_comparison.specs.Comparisons.{scopes_in, files_at, with_parent, parents_at, port_count_at, layer_in, layers_at, comparison_in, comparison_on, seen, all_seen};
+ghost use Rattle.ll_comparison.specs.Comparisons.{scopes_in, files_at, with_parent, parents_at, port_count_at, asked_in, layer_in, layers_at, comparison_in, comparison_on, seen, all_seen};
 
 use crate::rules::{granted_on_objects, granted_on_ports};
 use ll_lines::Cause;
 use ll_policy::Layer;
+use ll_rights::Fs;
 use ll_values::{
     flag_of, fs_of, items_of, net_of, number_of, place_in_list, truth_in_list, value_of,
 };
@@ -18,6 +19,19 @@ use std::alloc::Global;
 
 /// The most ports that are numbered: a port has 16 bits.
 pub const MOST_PORTS: u64 = 65_536;
+
+/// Which rights for files are asked about.
+#[derive(Clone, Copy)]
+pub struct Asked {
+    /// In which regions these pass.
+    pub regions: Fs,
+    /// Which objects let these pass together under the new policy alone.
+    pub objects: Fs,
+    /// Which objects do so by themselves.
+    pub single: Fs,
+    /// What gains these under the new policy alone.
+    pub gains: Fs,
+}
 
 /// Two policies that are to be compared.
 #[derive(Drop)]
@@ -28,6 +42,8 @@ pub struct Comparison {
     pub parents: Vec<usize>,
     /// How many ports are numbered.
     pub ports: usize,
+    /// What is asked.
+    pub asked: Asked,
     /// The layers of the policy that is compared with.
     pub old: Vec<Layer>,
     /// The layers of the policy that may let more pass.
@@ -117,6 +133,23 @@ fn port_count_of(value: &Value) -> Result<usize, Cause>
     Ok(count as usize)
 }
 
+/// Which rights for files are asked about.
+#[tactic(auto, unfolding(crate::specs::Comparisons::asked_in))]
+fn asked_of(value: &Value) -> Result<Asked, Cause>
+    ensures { Reads (λ asked. asked) result (asked_in (view value.now)) }
+{
+    let regions = fs_of(value, "regions")?;
+    let objects = fs_of(value, "objects")?;
+    let single = fs_of(value, "single")?;
+    let gains = fs_of(value, "gains")?;
+    Ok(Asked {
+        regions,
+        objects,
+        single,
+        gains,
+    })
+}
+
 /// Which scopes a layer has: that of abstract UNIX sockets, and that of signals.
 #[tactic(auto, unfolding(crate::specs::Comparisons::scopes_in))]
 fn scopes_of(value: &Value) -> Result<(bool, bool), Cause>
@@ -132,7 +165,7 @@ fn scopes_of(value: &Value) -> Result<(bool, bool), Cause>
 fn layer_of(alloc: Global, objects: usize, ports: usize, value: &Value) -> Result<Layer, Cause>
     ensures { Gives seen result (layer_in objects ports (view value.now)) }
 {
-    let files = fs_of(value)?;
+    let files = fs_of(value, "fs")?;
     let network = net_of(value)?;
     let on_objects = granted_on_objects(alloc, objects, value)?;
     let on_ports = granted_on_ports(alloc, ports, value)?;
@@ -207,12 +240,14 @@ fn comparison_of(alloc: Global, value: &Value) -> Result<Comparison, Cause>
     let files = files_of(alloc, value)?;
     let parents = parents_of(alloc, value)?;
     let ports = port_count_of(value)?;
+    let asked = asked_of(value)?;
     let old = layers_of(alloc, "old", files.len(), ports, value)?;
     let new = layers_of(alloc, "new", files.len(), ports, value)?;
     Ok(Comparison {
         files,
         parents,
         ports,
+        asked,
         old,
         new,
     })

@@ -12,10 +12,10 @@ use ll_policy::{
 use std::alloc::{AllocError, Global};
 
 /// Where both policies of a comparison let what pass, and what the new one does and the old one doesn't wherever objects
-/// are moved. Layers are those of the old policy, by their indices.
+/// are moved. Layers are those of the old policy, by their indices; there are none for a right that isn't asked about.
 #[derive(Drop)]
 pub struct Found {
-    /// For each right for files, the regions in which it passes, by their objects.
+    /// For each right for files, the regions in which it passes, by their objects; none if it isn't asked about.
     pub regions: Vec<Passing>,
     /// For each right for files and each old layer, objects by which new layers let it pass, if there are such.
     pub objects: Vec<Vec<Option<Vec<usize>>>>,
@@ -60,13 +60,14 @@ pub fn compare(alloc: Global, comparison: &Comparison) -> Result<Found, AllocErr
         files,
         parents,
         ports,
+        asked,
         old,
         new,
     } = comparison;
-    let regions = passing_on_objects(alloc, parents, old, new)?;
-    let objects = more_on_objects(alloc, files, old, new)?;
-    let single = more_on_single_objects(alloc, files.len(), old, new)?;
-    let gains = more_gains(alloc, files, old, new)?;
+    let regions = passing_on_objects(alloc, asked.regions, parents, old, new)?;
+    let objects = more_on_objects(alloc, asked.objects, files, old, new)?;
+    let single = more_on_single_objects(alloc, asked.single, files.len(), old, new)?;
+    let gains = more_gains(alloc, asked.gains, files, old, new)?;
     let ports = passing_on_ports(alloc, *ports, old, new)?;
     Ok(Found {
         regions,

@@ -9,6 +9,6 @@ mod rules;
 mod told;
 
 pub use answers::compare_lines;
-pub use comparison::{Comparison, MOST_PORTS};
+pub use comparison::{Asked, Comparison, MOST_PORTS};
 pub use found::{Found, Lost, compare};
 pub use program::write_answers;

@@ -41,7 +41,7 @@ fn grant_on_objects(sets: &mut [Fs], rights: Fs, objects: &[Value]) -> Result<()
 fn take_object_rule(sets: &mut [Fs], rule: &Value) -> Result<(), Cause>
     ensures { Reads (λ _. sets.new) result (with_object_rule sets.old (view rule.now)) }
 {
-    let rights = fs_of(rule)?;
+    let rights = fs_of(rule, "fs")?;
     let objects = items_of(rule, "objects")?;
     grant_on_objects(sets, rights, objects)
 }

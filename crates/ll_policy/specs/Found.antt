@@ -1,16 +1,21 @@
 -- What is found of two policies, for each right and each old layer.
 -- Source: landlock(7), "Filesystem actions".
-use Rattle.std.specs.Prelude.{◌≡◌, ℕ, Bool, List, map, Option, Vec}
+use Rattle.std.specs.Prelude.{◌≡◌, ℕ, Bool, List, [], map, Option, Vec, if◌then◌else◌}
 use Rattle.std.specs.List.{AllZip, list_all}
 use Rattle.std.specs.Option.{is_none}
 use Rattle.std.specs.Global.{Global}
-use Rattle.ll_rights.specs.Rights.{FsRight}
+use Rattle.ll_rights.specs.declared.fs.Fs.{Fs}
+use Rattle.ll_rights.specs.Rights.{FsRight, has}
 use Rattle.ll_rules.specs.Layers.{RulesOn}
 use Rattle.ll_policy.specs.declared.gaining.Gain.{Gain}
 use Rattle.ll_policy.specs.Chains.{Granting, Tells}
 use Rattle.ll_policy.specs.Choices.{enough_of}
 use Rattle.ll_policy.specs.Gains.{TellsGain}
 use Rattle.ll_policy.specs.Granted.{granting, root}
+
+-- the layers that are asked about a right: all, if it is among the rights that are asked about
+abbrev pub asked_of : Fs → FsRight → List (RulesOn ℕ) → List (RulesOn ℕ)
+asked_of asked right layers = if has asked right then layers else []
 
 -- what is found of a right for files: for each old layer nothing, or a chain
 abbrev pub TellsObjects : (ℕ → Bool) → List (RulesOn ℕ) → List (RulesOn ℕ) → FsRight → Vec (Option (Vec ℕ Global)) Global → Type 0

@@ -1,8 +1,9 @@
 -- Regions: objects with rules and what each is in, and where a right passes under two policies.
 -- Source: landlock(7), "Landlock rules"; the kernel's userspace document on Landlock, "Layers of file path access rights".
-use Rattle.std.specs.Prelude.{◌≡◌, ℕ, ◌+◌, Bool, not, ◌&&◌, List, [], ◌∷◌, ◌++◌, length, map, filter, slice_index_or}
+use Rattle.std.specs.Prelude.{◌≡◌, ℕ, ◌+◌, Bool, not, ◌&&◌, List, [], ◌∷◌, ◌++◌, length, map, filter, slice_index_or, if◌then◌else◌}
 use Rattle.std.specs.List.{range_with_len}
-use Rattle.ll_rights.specs.Rights.{FsRight}
+use Rattle.ll_rights.specs.declared.fs.Fs.{Fs}
+use Rattle.ll_rights.specs.Rights.{FsRight, has}
 use Rattle.ll_rights.specs.NetRights.{NetRight}
 use Rattle.ll_rules.specs.Layers.{RulesOn}
 use Rattle.ll_policy.specs.declared.regions.Passing.{Passing}
@@ -53,10 +54,14 @@ pub record TellsPassing (chain_of : ℕ → List ℕ) (count : ℕ) (before afte
   pub new : found.new.items ≡ numbers_of chain_of count (passes_alone after before)
   pub old : found.old.items ≡ numbers_of chain_of count (passes_alone before after)
 
+-- in how many regions a right is looked for: in all, if it is among the rights that are asked about
+abbrev pub regions_asked : Fs → FsRight → List ℕ → ℕ
+regions_asked asked right parents = if has asked right then length parents + 1 else 0
+
 -- in which regions of objects a right for files passes
-abbrev pub TellsRegions : List ℕ → List (RulesOn ℕ) → List (RulesOn ℕ) → FsRight → Passing → Type 0
-TellsRegions parents old new right found =
-    TellsPassing (region parents) (length parents + 1) (map (granting right) old) (map (granting right) new) found
+abbrev pub TellsRegions : Fs → List ℕ → List (RulesOn ℕ) → List (RulesOn ℕ) → FsRight → Passing → Type 0
+TellsRegions asked parents old new right found =
+    TellsPassing (region parents) (regions_asked asked right parents) (map (granting right) old) (map (granting right) new) found
 
 -- on which of so many ports a right for ports passes
 abbrev pub TellsPorts : ℕ → List (RulesOn ℕ) → List (RulesOn ℕ) → NetRight → Passing → Type 0

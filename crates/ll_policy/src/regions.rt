@@ -1,6 +1,6 @@
 //! Where rights pass under two policies: in which regions of objects, and on which ports.
 
-ghost use Rattle.std.specs.Prelude.{◌≡◌, ℕ, List, [], filter, length, map, IfOk};
+ghost use Rattle.std.specs.Prelude.{◌≡◌, ◌+◌, ℕ, List, [], filter, length, map, IfOk};
 ghost use Rattle.std.specs.List.{AllZip, range_with_len};
 ghost use Rattle.ll_rights.specs.CodeRights.{fs_right, net_right};
 ghost use Rattle.ll_rights.specs.Rights as for_files;
@@ -13,7 +13,7 @@ ghost use Rattle.ll_policy.specs.Regions.{region, single, spread, passes_both, p
 use crate::deciding::passes;
 use crate::granting::{Granting, all_on_objects, all_on_ports};
 use crate::layer::Layer;
-use ll_rights::{FsRight, NetRight};
+use ll_rights::{Fs, FsRight, NetRight};
 use std::alloc::{AllocError, Global};
 
 /// Where a right passes under an old policy and a new one: regions of objects, or ports, by their numbers.
@@ -119,6 +119,19 @@ fn passing_of(
     })
 }
 
+/// None at all.
+fn nowhere(alloc: Global) -> Passing
+    ensures both { result.both.items ≡ [] }
+    ensures new { result.new.items ≡ [] }
+    ensures old { result.old.items ≡ [] }
+{
+    Passing {
+        both: Vec::new(alloc),
+        new: Vec::new(alloc),
+        old: Vec::new(alloc),
+    }
+}
+
 /// In which regions a right for files passes.
 fn regions_with(
     alloc: Global,
@@ -127,29 +140,50 @@ fn regions_with(
     new: &[Layer],
     right: FsRight,
 ) -> Result<Passing, AllocError>
-    ensures { IfOk result
-        (TellsRegions parents.now (map rules_of old.now) (map rules_of new.now) (fs_right right)) }
+    ensures { IfOk result (TellsPassing (region parents.now) (length parents.now + 1)
+        (map (granting (fs_right right)) (map rules_of old.now))
+        (map (granting (fs_right right)) (map rules_of new.now))) }
 {
     let old = all_spread(alloc, parents, &all_on_objects(alloc, old, right)?)?;
     let new = all_spread(alloc, parents, &all_on_objects(alloc, new, right)?)?;
     Ok(passing_of(alloc, parents.len() + 1, &old, &new)?)
 }
 
-/// In which regions of objects each right for files passes. The root is the first object; the parents say for each other
-/// one what it is in, which comes before it.
+/// The same of a right that is asked about, and nothing of others.
+#[tactic(auto, unfolding(crate::specs::Regions::numbers_of))]
+fn regions_asked(
+    alloc: Global,
+    asked: Fs,
+    parents: &[usize],
+    old: &[Layer],
+    new: &[Layer],
+    right: FsRight,
+) -> Result<Passing, AllocError>
+    ensures { IfOk result (TellsRegions asked parents.now
+        (map rules_of old.now) (map rules_of new.now) (fs_right right)) }
+{
+    if asked.has(right) {
+        return regions_with(alloc, parents, old, new, right);
+    }
+    Ok(nowhere(alloc))
+}
+
+/// In which regions of objects each right for files passes that is asked about. The root is the first object; the parents
+/// say for each other one what it is in, which comes before it.
 pub fn passing_on_objects(
     alloc: Global,
+    asked: Fs,
     parents: &[usize],
     old: &[Layer],
     new: &[Layer],
 ) -> Result<Vec<Passing>, AllocError>
     ensures { IfOk result (λ found. AllZip
-        (TellsRegions parents.now (map rules_of old.now) (map rules_of new.now))
+        (TellsRegions asked parents.now (map rules_of old.now) (map rules_of new.now))
         for_files.all_rights found.items) }
 {
     let mut found = Vec::new(alloc);
     for right in FsRight::all() {
-        found.push(regions_with(alloc, parents, old, new, *right)?)?;
+        found.push(regions_asked(alloc, asked, parents, old, new, *right)?)?;
     }
     Ok(found)
 }

@@ -4,7 +4,7 @@ ghost use Rattle.std.specs.Prelude.{◌≡◌, ◌<◌, IfOk, length};
 ghost use Rattle.serde_json.specs.View.{view, items_view};
 ghost use Rattle.ll_lines.specs.Readers.{Gives, Reads};
 ghost use Rattle.ll_lines.specs.Members.{value_at, text_at, number_at, flag_at, items_at, text_in, fold_texts};
-ghost use Rattle.ll_members.specs.Rights.{fs_at, net_at, with_fs, with_net};
+ghost use Rattle.ll_members.specs.Rights.{net_at, texts_at, with_fs, with_net};
 ghost use Rattle.ll_rights.specs.Rights as for_files;
 ghost use Rattle.ll_rights.specs.NetRights as for_ports;
 ghost use Rattle.ll_values.specs.Lists.{place_in, truth_in};
@@ -96,12 +96,12 @@ pub fn place_in_list(bound: usize, value: &Value) -> Result<usize, Cause>
     Ok(number as usize)
 }
 
-/// The rights for files of the member `fs`.
-#[tactic(auto, unfolding(ll_members::specs::Rights::fs_at))]
-pub fn fs_of(value: &Value) -> Result<Fs, Cause>
-    ensures { Reads (λ set. set) result (fs_at (view value.now)) }
+/// The rights for files of a member.
+pub fn fs_of(value: &Value, name: &str) -> Result<Fs, Cause>
+    ensures { Reads (λ set. set) result
+        (texts_at name.now with_fs for_files.no_right (view value.now)) }
 {
-    let names = items_of(value, "fs")?;
+    let names = items_of(value, name)?;
     fs_in_list(names)
 }
 

@@ -15,14 +15,12 @@ from pathlib import Path
 from ..common.rights import FILE_RIGHTS, FS, SCOPES, Rights
 from . import ruling
 from .differing_layers import Abis, MountChanges, Room, Unscoped
+from .moving import MAKING
 from .policies import Policy
 from .regions import Region
 from .ruling import Comparison, ComparisonAnswer, Layers, Numbers, Ruled, RuledObjects
 from .sides import OF_OPENED, REFER, Sides, united
 
-#: The rights to make objects of each kind, which a move to another directory asks for.
-MAKING = ("make_reg", "make_sym", "make_char", "make_block", "make_fifo", "make_sock", "make_dir")
-MAKING_DIRECTORIES = "make_dir"
 _NOTHING: Abis = frozenset()
 
 
@@ -91,7 +89,7 @@ def more(
 
     `sides` have the other policy as the old one, and `moved` are the paths under which moves differ as paths are named.
     """
-    telling = _Telling(objects.named())
+    telling = _Telling(objects.named)
     sides = [replace(of, named=_gone(objects, named, of.abi)) for of in sides]
     kinds = _movable(program, objects, sides)
     told_by_moves = frozenset[int]().union(*moved.values())
@@ -170,9 +168,9 @@ def _alone(single: Numbers) -> list[Numbers]:
 
 def _movable(program: Path, objects: RuledObjects, sides: Sequence[Sides]) -> dict[int, Collection[str]]:
     """The rights at each ABI to make objects of the kinds that the new policy lets be moved to other directories."""
-    asked = [of.moved(making) for of in sides for making in MAKING]
+    asked = [of.moved(making) for of in sides for making in MAKING.values()]
     found = iter(ruling.answers(program, objects, asked))
-    return {of.abi: [making for making in MAKING if next(found).chains[REFER][0] is not None] for of in sides}
+    return {of.abi: [making for making in MAKING.values() if next(found).chains[REFER][0] is not None] for of in sides}
 
 
 def _tell_gains(
@@ -186,7 +184,7 @@ def _tell_gains(
     """Tells what objects may gain by moves of the kinds that can be moved, of rights that pass nowhere else."""
     able = [of for of in sides if kinds[of.abi]]
     for of, answer in zip(able, ruling.answers(program, objects, [of.wholly() for of in able])):
-        rights = FS.since if MAKING_DIRECTORIES in kinds[of.abi] else FS.ordered(FILE_RIGHTS)
+        rights = FS.since if MAKING["dir"] in kinds[of.abi] else FS.ordered(FILE_RIGHTS)
         for right in rights:
             for layer, gain, chain in zip(of.old, answer.gains[right], answer.chains[right]):
                 if gain is not None and chain is None:

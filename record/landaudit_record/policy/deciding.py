@@ -70,7 +70,7 @@ def decisions(policy: Policy, questions: Sequence[SetQuestion]) -> list[Decision
     ruled = {abi: _on_objects(layers, objects) for abi, layers in by_abi.items()}
     comparisons = [_comparison(ruled[abi], rights) for abi, rights in asked]
     answers = ruling.answers(landaudit_rules.find(), objects, comparisons)
-    regions = objects.named()
+    regions = objects.named
     passing = {of: frozenset(regions[number].path for number in answer.single[of[1][0]][0])
                for of, answer in zip(asked, answers)}
     breaches = ({abi: _breaches(one, abi, by_abi[abi], places, passing) for abi in one.abis} for one in questions)
@@ -160,7 +160,7 @@ def _on_objects(layers: Sequence[_Granting], objects: RuledObjects) -> Layers:
 def _comparison(layers: Layers, rights: Together) -> Comparison:
     """What landaudit-rules is asked about a right, or about several together under the name of the first."""
     together = tuple(layer.only(right, rights[0]) for right in rights for layer in layers)
-    return Comparison((_EVERYTHING,), layers if len(rights) == 1 else together)
+    return Comparison((_EVERYTHING,), layers if len(rights) == 1 else together, single=frozenset(rights[:1]))
 
 
 # ---- what passes, in as few areas as there are

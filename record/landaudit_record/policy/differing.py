@@ -105,20 +105,20 @@ def _moved_to(differing: Mapping[Differing, Abis]) -> Mapping[str, Abis]:
 
 def _asked(of: Sides, objects: RuledObjects, regions: Regions) -> Comparison:
     """The policies, with the regions and a port of each group; one more port stands for those without a rule."""
-    return Comparison(of.old, of.new, objects.parents(), len(regions.numbered_ports))
+    return Comparison(of.old, of.new, objects.parents, len(regions.numbered_ports), regions=FS.groups["all"])
 
 
 def _tried(objects: RuledObjects, regions: Regions) -> int:
     """How many rights are asked about: each for files in each region, but REFER, and each for ports on each port."""
-    files = objects.files().count(True)
-    directories = objects.files().count(False)
+    files = objects.files.count(True)
+    directories = objects.files.count(False)
     of_files = (len(FS.since) - 1) * directories + len(FILE_RIGHTS) * files
     return of_files + len(NET.since) * len(regions.numbered_ports)
 
 
 def _rights(objects: RuledObjects, regions: Regions, answer: ComparisonAnswer) -> Iterator[tuple[RightAt, bool]]:
     """Each right in each region and on each port where one policy alone lets it pass, and whether the new one does."""
-    named, ports = objects.named(), regions.numbered_ports
+    named, ports = objects.named, regions.numbered_ports
     for right in FS.since:
         if right != REFER:
             for number, is_new in _alone(answer.regions[right]):
@@ -141,10 +141,10 @@ def _alone(passing: Passing) -> Iterator[tuple[int, bool]]:
 
 def _passing(objects: RuledObjects, answers: Sequence[ComparisonAnswer]) -> moving.Pass:
     """Under which paths each right passes, under each policy at each ABI."""
-    named = objects.named()
+    named = objects.named
 
     def paths(numbers: frozenset[int]) -> frozenset[str]:
         return frozenset(named[number].path for number in numbers if not named[number].as_file)
 
     return {right: [paths(where.both | alone) for answer in answers for where in (answer.regions[right],)
-                    for alone in (where.old, where.new)] for right in FS.since}
+                    for alone in (where.old, where.new)] for right in (REFER, *moving.MAKING.values())}

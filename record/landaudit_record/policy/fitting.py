@@ -114,6 +114,8 @@ def _note_rule(
     rule: PathRule | PortRule, family: Family, left: Sequence[str], layer: Layer, abi: int, notes: list[str]
 ) -> None:
     """Notes what is dropped of a rule, and whether all of it is."""
+    if left and rule.allowed_access.outright.issubset(left):
+        return
     where = f"layer {layer.number}, {rule.place}"
     _note_dropped(rule.allowed_access, family, left, where, abi, notes)
     if not left:

@@ -33,7 +33,8 @@ PROCESSES = 4
 FEW = 10_000
 """So many questions of a policy are for one process; more are for up to PROCESSES, so that several workers judge."""
 
-_MAKING = {"reg": "make_reg", "sym": "make_sym", "char": "make_char", "block": "make_block", "fifo": "make_fifo",
+#: The right to make an object of a kind, which a move to another directory asks for.
+MAKING = {"reg": "make_reg", "sym": "make_sym", "char": "make_char", "block": "make_block", "fifo": "make_fifo",
            "sock": "make_sock", "dir": "make_dir"}
 
 Pass = Mapping[str, Sequence[frozenset[str]]]
@@ -112,13 +113,14 @@ _Question = tuple[Move, tuple[str]]
 
 def _moves(regions: Regions, passing: Pass) -> Iterator[_Question]:
     """Links of files and renames of directories from each region to each other place where they may pass."""
-    for kind, making in _MAKING.items():
+    for kind, making in MAKING.items():
         op = "rename" if kind == "dir" else "link"
-        pairs = list(zip(passing[REFER], passing[making]))
-        for to in regions.paths:
-            leaving = frozenset[str]().union(*(refer for refer, make in pairs if to in refer and to in make))
+        pairs = [(refer, refer & make) for refer, make in zip(passing[REFER], passing[making])]
+        reached = frozenset[str]().union(*(coming for _, coming in pairs))
+        for to in (path for path in regions.paths if path in reached):
+            leaving = frozenset[str]().union(*(refer for refer, coming in pairs if to in coming))
             new = regions.child(regions.child(to, "to"), "new")
-            for move, moved in _moved(regions, kind, to, leaving) if leaving else ():
+            for move, moved in _moved(regions, kind, to, leaving):
                 yield move, (body(op, **{"from": moved, "to": new}),)
 
 

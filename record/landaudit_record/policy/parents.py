@@ -6,10 +6,10 @@ import os
 import stat
 from collections import Counter
 from collections.abc import Callable, Iterable, Iterator
-from dataclasses import dataclass, replace
+from dataclasses import dataclass, field, replace
 
 from ..common.problems import Problem
-from ..common.resolving import NOWHERE, ROOT, KnownObjects, LinkLoop, Walked, walked
+from ..common.resolving import NOWHERE, ROOT, KnownObjects, LinkLoop, Met, Walked, walked
 from .policies import PathRule, Policy
 
 
@@ -28,6 +28,20 @@ class Parent:
         return f"layer {self.layer}, {self.rule.place}, parent {self.written}"
 
 
+@dataclass(frozen=True)
+class Seen:
+    """Objects that are looked at once: at each path is what was there then."""
+
+    known: KnownObjects
+    _met: dict[str, Met | None] = field(default_factory=dict)
+
+    def at(self, path: str) -> Met | None:
+        """What was at a path whose directories are no links; None if that is not known."""
+        if path not in self._met:
+            self._met[path] = self.known.at(path)
+        return self._met[path]
+
+
 def each(policy: Policy, known: KnownObjects) -> Iterator[Parent]:
     """Each parent of a policy's rules, and where it leads; a loop of links is a Problem."""
     for layer in policy.layers:
@@ -41,19 +55,19 @@ def each(policy: Policy, known: KnownObjects) -> Iterator[Parent]:
                 yield Parent(layer.number, rule, written, led)
 
 
-def followed(policy: Policy, known: KnownObjects) -> Policy:
-    """The policy with what its parents lead to: a rule is on an object, and not on a link to it.
+def followed(policy: Policy, found: Iterable[Parent]) -> Policy:
+    """The policy with what its parents lead to, as `each` found: a rule is on an object, and not on a link to it.
 
     A parent that the kernel can't open is on no object. One that can only be a directory keeps a slash at its end.
     """
+    leads = {parent.written: _followed(parent.led) for parent in found}
+    return _with_parents(policy, lambda rule: tuple(leads[written] for written in rule.parents))
 
-    def led(written: str) -> str:
-        found = walked(written, known)
-        if found.blocked is not None:
-            return NOWHERE
-        return found.path + "/" if found.only_directory and found.path != ROOT else found.path
 
-    return _with_parents(policy, lambda rule: tuple(map(led, rule.parents)))
+def _followed(led: Walked) -> str:
+    if led.blocked is not None:
+        return NOWHERE
+    return led.path + "/" if led.only_directory and led.path != ROOT else led.path
 
 
 def under_all_names(policy: Policy, paths: Iterable[str]) -> Policy:
@@ -100,7 +114,9 @@ def _identity(path: str) -> tuple[int, int] | None:
 
 def _with_parents(policy: Policy, parents_of: Callable[[PathRule], tuple[str, ...]]) -> Policy:
     """The policy with other parents."""
+    def changed(rule: PathRule) -> PathRule:
+        parents = parents_of(rule)
+        return rule if parents == rule.parents else replace(rule, parents=parents)
+
     return replace(policy, layers=tuple(
-        replace(layer, path_beneath=tuple(replace(rule, parents=parents_of(rule)) for rule in layer.path_beneath))
-        for layer in policy.layers
-    ))
+        replace(layer, path_beneath=tuple(map(changed, layer.path_beneath))) for layer in policy.layers))

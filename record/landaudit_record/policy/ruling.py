@@ -6,18 +6,21 @@ A comparison has the layers of both policies with rules on objects by number (la
 from __future__ import annotations
 
 import json
+from collections import defaultdict
 from collections.abc import Iterable, Mapping, Sequence
-from dataclasses import dataclass
-from functools import cache
+from dataclasses import dataclass, field
+from functools import cache, cached_property
 from pathlib import Path
 from typing import Any
 
 from ..common.rights import FS, NET, NONE, Rights
 from ..common.trees import ROOT, upwards
 from ..engine import landaudit_rules
-from .regions import Region
+from .regions import Region, as_named
 
 Numbers = tuple[int, ...]
+Parents = tuple[str, ...]
+Files = tuple[tuple[str, int], ...]
 
 
 @dataclass(frozen=True)
@@ -25,6 +28,7 @@ class RuledObjects:
     """The objects that comparisons are about: the root, and each path with a rule as a directory and as a file."""
 
     paths: Mapping[str, int]
+    _beneath: dict[Parents, tuple[Numbers, Files]] = field(default_factory=dict, compare=False)
 
     @classmethod
     def of(cls, paths: Iterable[str]) -> RuledObjects:
@@ -39,15 +43,26 @@ class RuledObjects:
         """The number of a path as a file."""
         return 2 * self.paths[path] + 2
 
+    def beneath(self, parents: Parents) -> tuple[Numbers, Files]:
+        """The numbers of the parents of a rule as directories, and of those that may be files with their paths."""
+        if parents not in self._beneath:
+            named = [(parent, as_named(parent)) for parent in dict.fromkeys(parents)]
+            files = tuple((path, self.file(path)) for parent, path in named if not parent.endswith("/") and path != ROOT)
+            self._beneath[parents] = tuple(self.directory(path) for _, path in named), files
+        return self._beneath[parents]
+
+    @cached_property
     def files(self) -> list[bool]:
         """Which objects are files, by number."""
         return [False, *(as_file for _ in self.paths for as_file in (False, True))]
 
+    @cached_property
     def parents(self) -> Numbers:
         """The number of what each object after the root is in: the nearest path above it, as a directory."""
         over = (next((up for up in list(upwards(path))[1:] if up in self.paths), ROOT) for path in self.paths)
         return tuple(number for path in over for number in 2 * [self.directory(path)])
 
+    @cached_property
     def named(self) -> list[Region]:
         """The objects by number."""
         return [Region(ROOT), *(Region(path, as_file) for path in self.paths for as_file in (False, True))]
@@ -64,7 +79,10 @@ class RuleOnObjects:
         """The rule without some rights on some objects."""
         if gone.keys().isdisjoint(self.objects):
             return (self,)
-        return (RuleOnObjects(self.rights - gone.get(number, frozenset()), (number,)) for number in self.objects)
+        left: defaultdict[Rights, list[int]] = defaultdict(list)
+        for number in self.objects:
+            left[self.rights - gone.get(number, NONE)].append(number)
+        return (RuleOnObjects(rights, tuple(objects)) for rights, objects in left.items())
 
 
 @dataclass(frozen=True)
@@ -118,19 +136,26 @@ def _names(rights: Rights) -> list[str]:
 
 @dataclass(frozen=True)
 class Comparison:
-    """The layers of two policies, and what is asked of: regions by what each object is in, and so many ports."""
+    """The layers of two policies, and what is asked: in which regions rights pass, by what each object is in; which pass
+    on objects together and by themselves, and which are gained; and on which of so many ports rights do."""
 
     old: Layers
     new: Layers
     parents: Numbers = ()
     ports: int = 0
+    regions: Rights = NONE
+    objects: Rights = NONE
+    single: Rights = NONE
+    gains: Rights = NONE
 
     def line(self, objects: RuledObjects) -> str:
         """The comparison as a line of JSON."""
         sides = {name: [layer.record(of_ports=self.ports > 0) for layer in side]
                  for name, side in (("old", self.old), ("new", self.new))}
-        about = {"files": objects.files(), "parents": self.parents, "ports": self.ports}
-        return json.dumps({**about, **sides}, separators=(",", ":"))
+        about = {"files": objects.files, "parents": self.parents, "ports": self.ports}
+        asked = {"regions": self.regions, "objects": self.objects, "single": self.single, "gains": self.gains}
+        return json.dumps({**about, **{name: _names(of) for name, of in asked.items() if of}, **sides},
+                          separators=(",", ":"))
 
 
 @dataclass(frozen=True)
@@ -153,7 +178,7 @@ class Passing:
 @dataclass(frozen=True)
 class ComparisonAnswer:
     """What landaudit-rules found: where each right passes and, for each right for files and each old layer by its index,
-    what passes once objects are moved."""
+    what passes once objects are moved; of a right for files only what was asked."""
 
     regions: Mapping[str, Passing]
     ports: Mapping[str, Passing]

@@ -5,18 +5,21 @@ A path with a rule is two objects, a directory and a file. None is in force on a
 
 from __future__ import annotations
 
+from collections import defaultdict
 from collections.abc import Mapping, Sequence
 from dataclasses import dataclass, field, replace
 
-from ..common.rights import FILE_RIGHTS, Rights
-from ..common.trees import ROOT
+from ..common.rights import FILE_RIGHTS, FS, Rights
 from .fitting import FittedLayer
-from .regions import Regions, as_named
+from .regions import Regions
 from .ruling import Comparison, Layers, RuleOnObjects, RuleOnPorts, Ruled, RuledObjects
 
 #: A right that no call asks alone: the device must be opened first, for reading or for writing.
 OF_OPENED = "ioctl_dev"
 OPENING = ("read_file", "write_file")
+#: What is opened, and what is not.
+_OPENED = frozenset({OF_OPENED})
+_OTHERS = FS.groups["all"] - _OPENED
 #: What asks for a move to another directory: `refer`, and the right to make an object of the kind there.
 REFER = "refer"
 
@@ -41,13 +44,14 @@ class Sides:
 
     def beyond(self, gone: Mapping[int, Rights]) -> Comparison:
         """The policies without what differs as paths are named, nor some rights on some objects."""
-        return Comparison(self.old, self._less(self.new, gone))
+        return Comparison(self.old, self._less(self.new, gone), objects=_OTHERS, single=_OTHERS)
 
     def opened(self, opening: str, gone: Mapping[int, Rights]) -> Comparison:
         """The same of OF_OPENED where the new policy lets an object be opened."""
         new = [layer.only(OF_OPENED) for layer in self.new]
         new += [layer.only(opening, OF_OPENED) for layer in self.new]
-        return Comparison(tuple(layer.only(OF_OPENED) for layer in self.old), self._less(new, gone))
+        old = tuple(layer.only(OF_OPENED) for layer in self.old)
+        return Comparison(old, self._less(new, gone), objects=_OPENED, single=_OPENED)
 
     def moved(self, making: str) -> Comparison:
         """Whether the new policy lets some object be made by a move: the old layer refuses it everywhere.
@@ -56,11 +60,11 @@ class Sides:
         """
         new = [replace(layer.only(REFER), handled=frozenset({REFER})) for layer in self.new if layer.handled]
         new += [layer.only(making, REFER) for layer in self.new]
-        return Comparison((Ruled(1, frozenset({REFER}), ()),), tuple(new))
+        return Comparison((Ruled(1, frozenset({REFER}), ()),), tuple(new), objects=frozenset({REFER}))
 
     def wholly(self) -> Comparison:
-        """The policies as they are."""
-        return Comparison(self.old, self.new)
+        """The policies as they are, and what objects gain."""
+        return Comparison(self.old, self.new, objects=FS.groups["all"], gains=FS.groups["all"])
 
     def _less(self, layers: Sequence[Ruled], gone: Mapping[int, Rights]) -> Layers:
         both = united(self.named, gone)
@@ -83,14 +87,14 @@ def at(regions: Regions, objects: RuledObjects, abi: int) -> Sides:
 
 def _ruled(layer: FittedLayer, regions: Regions, objects: RuledObjects, ports: Mapping[int, int], abi: int) -> Ruled:
     """A layer with rules on objects, and on a port of each group."""
-    rules: list[RuleOnObjects] = []
+    on: defaultdict[Rights, list[int]] = defaultdict(list)
     for rule in layer.path_rules:
-        named = {parent: as_named(parent) for parent in rule.parents}
-        files = (path for parent, path in named.items()
-                 if not parent.endswith("/") and path != ROOT and not regions.is_directory(path, abi))
-        rules.append(RuleOnObjects(frozenset(rule.on_directory), tuple(map(objects.directory, named.values()))))
-        rules.append(RuleOnObjects(FILE_RIGHTS.intersection(rule.on("reg")), tuple(map(objects.file, files))))
+        directories, files = objects.beneath(rule.parents)
+        on[frozenset(rule.on_directory)] += directories
+        on[FILE_RIGHTS.intersection(rule.on("reg"))] += (
+            number for path, number in files if not regions.is_directory(path, abi))
+    rules = tuple(RuleOnObjects(rights, tuple(numbers)) for rights, numbers in on.items())
     port_rules = tuple(RuleOnPorts(frozenset(rule.on_port), tuple(ports[port] for port in rule.ports if port in ports))
                        for rule in layer.port_rules)
-    return Ruled(layer.number, frozenset(layer.handled_fs), tuple(rules), handled_net=frozenset(layer.handled_net),
+    return Ruled(layer.number, frozenset(layer.handled_fs), rules, handled_net=frozenset(layer.handled_net),
                  port_rules=port_rules)

@@ -80,7 +80,8 @@ def _print(checked: Checked) -> None:
 
 def _on_objects(policy: Policy) -> Policy:
     """The policy with what its parents lead to on this machine, with a note on each that leads nowhere."""
-    for parent in parents.each(policy, DISK):
+    found = list(parents.each(policy, DISK))
+    for parent in found:
         if parent.led.blocked is not None:
             note([f"{parent.place}: no rule, since {parent.led.blocked} is no directory on this machine"], POLICIES)
-    return parents.followed(policy, DISK)
+    return parents.followed(policy, found)

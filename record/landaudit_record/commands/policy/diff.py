@@ -13,7 +13,7 @@ from ...common import layout, variables
 from ...common.options import add_abis, add_landaudit, note
 from ...common.problems import NOT_ALL_JUDGED, USAGE, Problem
 from ...common.rights import judged
-from ...common.resolving import DISK
+from ...common.resolving import DISK, KnownObjects
 from ...common.wording import some_of
 from ...engine import landaudit
 from ...policy import differing_data, differing_text, parents, policies, reviewing, widenings
@@ -22,7 +22,6 @@ from ...policy.policies import Policy
 from ...policy.reviewing import EVERYTHING, NOTHING, Review
 from ...summaries import reporting
 from ...summaries.reporting import compared
-from ...summaries.page import differences
 
 NAME = "diff"
 HELP = "show what a new policy allows and an old one refuses, and the reverse, whatever files exist"
@@ -69,6 +68,8 @@ def run(arguments: argparse.Namespace) -> int:
         for line in differing_text.lines(review):
             print(layout.encodable(line, sys.stdout))
     if arguments.html is not None:
+        from ...summaries.page import differences  # a third of the time to start, which only a page needs
+
         differences.write(arguments.html, review)
     if unnamed:
         note([f"NOT ALL IS COMPARED: {some_of(unnamed)} has other names (hard links), on which the rule is too: name "
@@ -82,7 +83,8 @@ def _review(program: Path, arguments: argparse.Namespace) -> tuple[Review, Polic
         raise Problem("give the old policy or, if there is none, --old-allows", USAGE)
     given = variables.given(arguments)
     files = [file for file in (arguments.old, arguments.new) if file is not None]
-    read = [_on_objects(policies.read(path, given)) for path in files]
+    disk = parents.Seen(DISK)
+    read = [_on_objects(policies.read(path, given), disk) for path in files]
     accepted = widenings.read(arguments.accepted, given) if arguments.accepted else ()
     given.check_used()
     rules = [rule for policy in read for layer in policy.layers for rule in layer.path_beneath]
@@ -94,9 +96,9 @@ def _review(program: Path, arguments: argparse.Namespace) -> tuple[Review, Polic
     return review, read[-1], unnamed
 
 
-def _on_objects(policy: Policy) -> Policy:
+def _on_objects(policy: Policy, disk: KnownObjects) -> Policy:
     """The policy with what its parents lead to on this machine, with a note on each link that is followed."""
-    found = list(parents.each(policy, DISK))
+    found = list(parents.each(policy, disk))
     for parent in found:
         if parent.led.blocked is not None:
             raise Problem(f"{policy.path}: {parent.place}: {parent.led.blocked} is no directory on this machine, so "
@@ -104,7 +106,7 @@ def _on_objects(policy: Policy) -> Policy:
         if parent.led.unknown is not None and ".." in parent.written.split("/"):
             raise Problem(f"{policy.path}: {parent.place}: not known where it leads: write it without '..'")
     note(_links(policy, found), POLICIES)
-    return parents.followed(policy, DISK)
+    return parents.followed(policy, found)
 
 
 def _links(policy: Policy, parents: Sequence[Parent]) -> Iterator[str]:

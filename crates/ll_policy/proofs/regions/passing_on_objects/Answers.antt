@@ -10,14 +10,14 @@ use Rattle.ll_policy.proofs.regions.passing_on_objects.Goals as goal
 
 pub loop-right-preserved : goal.loop-right-preserved
 loop-right-preserved c =
-    let tells = λ (right : Code). TellsRegions c.args.parents.now (map rules_of c.args.old.now) (map rules_of c.args.new.now) (fs_right right) in
+    let tells = λ (right : Code). TellsRegions c.args.asked c.args.parents.now (map rules_of c.args.old.now) (map rules_of c.args.new.now) (fs_right right) in
     zip_more tells c.all-right-items.result.now c.loop-right.right-index _ c.loop-right.found.items c.push.new.self.items
-    c.in_ok-regions_with.field-0 c.loop-right-test.true c.loop-right.invariant
-    c.in_ok-regions_with.ensures c.in_ok-push.ensures.items
+    c.in_ok-regions_asked.field-0 c.loop-right-test.true c.loop-right.invariant
+    c.in_ok-regions_asked.ensures c.in_ok-push.ensures.items
 
 pub returns : goal.returns
 returns c =
-    let tells = TellsRegions c.args.parents.now (map rules_of c.args.old.now) (map rules_of c.args.new.now) in
+    let tells = TellsRegions c.args.asked c.args.parents.now (map rules_of c.args.old.now) (map rules_of c.args.new.now) in
     subst (λ (rights : List FsRight). AllZip tells rights c.loop-right.found.items) c.all-right-items.ensures
     (zip_map tells fs_right c.all-right-items.result.now c.loop-right.found.items
     (zip_all (λ (right : Code). tells (fs_right right)) c.all-right-items.result.now c.loop-right.right-index c.loop-right.found.items

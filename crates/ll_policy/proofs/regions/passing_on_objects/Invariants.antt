@@ -8,4 +8,4 @@ use Rattle.ll_policy.proofs.regions.passing_on_objects.Given as goal
 -- what is found of the rights so far
 abbrev pub invariant-loop-right : goal.invariant-loop-right
 invariant-loop-right l =
-    AllZip (λ right. TellsRegions l.parents (map rules_of l.old) (map rules_of l.new) (fs_right right)) (take l.right-index l.right-items) l.found.items
+    AllZip (λ right. TellsRegions l.asked l.parents (map rules_of l.old) (map rules_of l.new) (fs_right right)) (take l.right-index l.right-items) l.found.items
