@@ -76,7 +76,16 @@ class Finding(unittest.TestCase):
 
 @unittest.skipUnless(landaudit_rules.BUILT.exists(), f"{landaudit_rules.BUILT} is not built")
 class Asking(unittest.TestCase):
+    def line(self, root_is_file: str, *asked: str) -> str:
+        members = (f',"{name}":[]' for name in asked or ("regions", "objects", "single", "gains"))
+        return f'{{"files":[{root_is_file}],"ports":0{"".join(members)}}}'
+
+    def test_a_comparison_has_to_say_what_it_asks(self) -> None:
+        with self.assertRaises(Problem) as fault:
+            landaudit_rules.ask(landaudit_rules.BUILT, [self.line("false", "regions", "objects", "gains")])
+        self.assertEqual((fault.exception.status, str(fault.exception)), (UNREADABLE, "landaudit-rules: line 1: Field"))
+
     def test_an_input_that_does_not_read(self) -> None:
         with self.assertRaises(Problem) as fault:
-            landaudit_rules.ask(landaudit_rules.BUILT, ['{"files":[false],"ports":0}', '{"files":[true],"ports":0}'])
+            landaudit_rules.ask(landaudit_rules.BUILT, [self.line("false"), self.line("true")])
         self.assertEqual((fault.exception.status, str(fault.exception)), (UNREADABLE, "landaudit-rules: line 2: Field"))

@@ -1,8 +1,9 @@
 -- A comparison of two policies, as a line of JSON says it: which objects are files, what each is in, how many ports are
 -- numbered, what is asked, and the layers of both. Rules are on objects and ports by their numbers; what several rules grant on one number is granted there together.
 -- Source: landaudit-rules(1); landlock(7), "Landlock rules".
-use Rattle.std.specs.Prelude.{ℕ, ◌+◌, Bool, true, nat_le, List, [], ◌∷◌, ◌++◌, length, map, replicate, codes, Result, Ok, Err, slice_set, slice_index_or, if◌then◌else◌}
+use Rattle.std.specs.Prelude.{ℕ, ◌+◌, Bool, true, nat_le, List, [], ◌∷◌, ◌++◌, length, map, replicate, codes, Result, Ok, Err, slice_set, slice_index_or, ok_or, if◌then◌else◌}
 use Rattle.serde_json.specs.Data.{Data}
+use Rattle.serde_json.specs.Find.{get}
 use Rattle.ll_rights.specs.declared.fs.Fs.{Fs}
 use Rattle.ll_rights.specs.declared.net.Net.{Net}
 use Rattle.ll_rights.specs.Rights as files
@@ -133,13 +134,19 @@ port_count_at value = do
   count ← number_at (codes "ports") value
   if nat_le count MOST_PORTS then Ok count else Err Field
 
+-- the rights for files that a part of the answer is about; the member has to be there, so that none is forgotten
+unfoldable pub asked_at : List ℕ → Data → Result Fs Cause
+asked_at name value = do
+  said ← ok_or (get name value) Field
+  rights_at name value
+
 -- which rights for files are asked about
 unfoldable pub asked_in : Data → Result Asked Cause
 asked_in value = do
-  regions ← rights_at (codes "regions") value
-  objects ← rights_at (codes "objects") value
-  single ← rights_at (codes "single") value
-  gains ← rights_at (codes "gains") value
+  regions ← asked_at (codes "regions") value
+  objects ← asked_at (codes "objects") value
+  single ← asked_at (codes "single") value
+  gains ← asked_at (codes "gains") value
   Ok (record { regions = regions; objects = objects; single = single; gains = gains })
 
 unfoldable pub comparison_in : Data → Result Comparison Cause

@@ -5,7 +5,7 @@ ghost use Rattle.serde_json.specs.View.{view, items_view};
 ghost use Rattle.ll_lines.specs.Readers.{Gives, Reads};
 ghost use Rattle.ll_policy.specs.Places.{is_file_in};
 ghost use Rattle.ll_values.specs.Lists.{fold_items, one_more, truth_in};
-ghost use Rattle.ll_comparison.specs.Comparisons.{scopes_in, files_at, with_parent, parents_at, port_count_at, asked_in, layer_in, layers_at, comparison_in, comparison_on, seen, all_seen};
+ghost use Rattle.ll_comparison.specs.Comparisons.{scopes_in, files_at, with_parent, parents_at, port_count_at, asked_at, asked_in, layer_in, layers_at, comparison_in, comparison_on, seen, all_seen};
 
 use crate::rules::{granted_on_objects, granted_on_ports};
 use ll_lines::Cause;
@@ -133,15 +133,24 @@ fn port_count_of(value: &Value) -> Result<usize, Cause>
     Ok(count as usize)
 }
 
+/// The rights for files that a part of the answer is about; the member has to be there, so that none is forgotten.
+#[tactic(auto, unfolding(crate::specs::Comparisons::asked_at))]
+fn asked_about(value: &Value, name: &str) -> Result<Fs, Cause>
+    ensures { Reads (λ set. set) result (asked_at name.now (view value.now)) }
+{
+    value.get(name).ok_or(Cause::Field)?;
+    fs_of(value, name)
+}
+
 /// Which rights for files are asked about.
 #[tactic(auto, unfolding(crate::specs::Comparisons::asked_in))]
 fn asked_of(value: &Value) -> Result<Asked, Cause>
     ensures { Reads (λ asked. asked) result (asked_in (view value.now)) }
 {
-    let regions = fs_of(value, "regions")?;
-    let objects = fs_of(value, "objects")?;
-    let single = fs_of(value, "single")?;
-    let gains = fs_of(value, "gains")?;
+    let regions = asked_about(value, "regions")?;
+    let objects = asked_about(value, "objects")?;
+    let single = asked_about(value, "single")?;
+    let gains = asked_about(value, "gains")?;
     Ok(Asked {
         regions,
         objects,

@@ -154,7 +154,7 @@ class Comparison:
                  for name, side in (("old", self.old), ("new", self.new))}
         about = {"files": objects.files, "parents": self.parents, "ports": self.ports}
         asked = {"regions": self.regions, "objects": self.objects, "single": self.single, "gains": self.gains}
-        return json.dumps({**about, **{name: _names(of) for name, of in asked.items() if of}, **sides},
+        return json.dumps({**about, **{name: _names(of) for name, of in asked.items()}, **sides},
                           separators=(",", ":"))
 
 
