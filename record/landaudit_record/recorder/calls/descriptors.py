@@ -81,11 +81,7 @@ def _close_range(scene: Scene, thread: Thread, call: Call) -> None:
 
 
 def _dup(scene: Scene, thread: Thread, call: Call) -> None:
-    _duplicated(scene, thread, call, False)
-
-
-def _dup3(scene: Scene, thread: Thread, call: Call) -> None:
-    _duplicated(scene, thread, call, bool(arguments.number_at(call, 2) & opening.O_CLOEXEC))
+    _duplicated(scene, thread, call, call.name == "dup3" and bool(arguments.number_at(call, 2) & opening.O_CLOEXEC))
 
 
 def _duplicated(scene: Scene, thread: Thread, call: Call, close_on_exec: bool) -> None:
@@ -260,7 +256,7 @@ HANDLERS = {
     "close_range": _close_range,
     "dup": _dup,
     "dup2": _dup,
-    "dup3": _dup3,
+    "dup3": _dup,
     "fcntl": _fcntl,
     "fcntl64": _fcntl,
     "socket": _socket,

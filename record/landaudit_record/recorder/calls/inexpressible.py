@@ -83,16 +83,10 @@ def _opened_and_closed(scene: Scene, thread: Thread, call: Call, spot: Spot, mod
         scene.note_close(thread, call, number)
 
 
-def _swapon(scene: Scene, thread: Thread, call: Call) -> None:
-    """The kernel opens the file or device that it swaps to, for reading and writing."""
-    if call.error == "EPERM" or (call.error == "EINVAL" and arguments.number_at(call, 1) & ~SWAP_FLAGS):
-        raise NotAsked(f"{call.error} before Landlock is asked")
-    _opened_inside(scene, thread, call, "rw")
-
-
-def _swapoff(scene: Scene, thread: Thread, call: Call) -> None:
-    """The kernel opens the file or device that it stops to swap to."""
-    if call.error == "EPERM":
+def _swap(scene: Scene, thread: Thread, call: Call) -> None:
+    """The kernel opens the file or device that it swaps to, or that it stops to swap to, for reading and writing."""
+    has_flags = call.name == "swapon"
+    if call.error == "EPERM" or (has_flags and call.error == "EINVAL" and arguments.number_at(call, 1) & ~SWAP_FLAGS):
         raise NotAsked(f"{call.error} before Landlock is asked")
     _opened_inside(scene, thread, call, "rw")
 
@@ -142,22 +136,14 @@ def _seccomp(scene: Scene, thread: Thread, call: Call) -> None:
         raise CannotSay(BY_SUPERVISOR)
 
 
-def _sent(scene: Scene, thread: Thread, call: Call, flags: int) -> None:
+def _send(scene: Scene, thread: Thread, call: Call) -> None:
     handle = thread.process.table.get(arguments.number_at(call, 0))
     if handle is None or handle.letters or (handle.foreign and handle.path is None):
         scopes.sent(scene, thread, call)
-    if not arguments.number_at(call, flags) & MSG_FASTOPEN:
+    if not arguments.number_at(call, 2 if call.name == "sendmsg" else 3) & MSG_FASTOPEN:
         return
     if handle is None or handle.foreign or handle.tcp is not None:
         raise CannotSay(BY_SENDING)
-
-
-def _sendto(scene: Scene, thread: Thread, call: Call) -> None:
-    _sent(scene, thread, call, 3)
-
-
-def _sendmsg(scene: Scene, thread: Thread, call: Call) -> None:
-    _sent(scene, thread, call, 2)
 
 
 HANDLERS = {
@@ -165,15 +151,15 @@ HANDLERS = {
     "io_uring_enter": _io_uring_enter,
     "name_to_handle_at": _name_to_handle_at,
     "open_by_handle_at": _open_by_handle_at,
-    "swapon": _swapon,
-    "swapoff": _swapoff,
+    "swapon": _swap,
+    "swapoff": _swap,
     "acct": _acct,
     "fanotify_init": _fanotify_init,
     "mq_open": _mq_open,
     "seccomp": _seccomp,
     "bpf": _bpf,
     "uselib": _uselib,
-    "sendto": _sendto,
-    "sendmsg": _sendmsg,
-    "sendmmsg": _sendto,
+    "sendto": _send,
+    "sendmsg": _send,
+    "sendmmsg": _send,
 }
