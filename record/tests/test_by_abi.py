@@ -50,7 +50,9 @@ class Ranges(unittest.TestCase):
         self.assertEqual([one.abi for one in found], [4, 5, 6, 7])
         self.assertEqual([one.verdicts["refused"] for one in found], [0, 1, 1, 1])
         found[2].verdicts["refused"] += 1
+        found[2].refusals.clear()
         self.assertEqual([one.verdicts["refused"] for one in found], [0, 1, 2, 1])
+        self.assertEqual([len(one.refusals) for one in found], [0, 1, 0, 1])
         self.assertEqual([one.abi for one in by_abi.of_range([summary(5)], range(6, 7))], [6])
 
 

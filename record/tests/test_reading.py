@@ -6,6 +6,7 @@ import random
 import re
 from collections import Counter
 from collections.abc import Iterator, Sequence
+from dataclasses import replace
 from itertools import product
 from typing import Any
 from unittest import mock
@@ -16,7 +17,8 @@ from landaudit_record.common import jsonl
 from landaudit_record.common.jsonl import Record
 from landaudit_record.common.problems import Problem
 from landaudit_record.engine import reading
-from landaudit_record.engine.reading import Told, Walk
+from landaudit_record.engine.answers import Kept, Refusing
+from landaudit_record.engine.reading import Counted, Told, Walk
 
 from .calling import InFolder
 from .drawn import by_chance
@@ -71,10 +73,23 @@ class Written(InFolder):
         each = Counter((told.program or "-", bool(told.missed)) for told in self.walk(calls) if told.answered)
         for form in FORMS:
             kinds = [(told.line, told.program or "-", times, bool(told.missed))
-                     for told, times in self.walk(calls, form).kinds() if told.answered]
+                     for told, times in kinds_of(self.walk(calls, form)) if told.answered]
             self.assertEqual(each, _counted(kinds), form)
         return [(told.line, told.program or "-", times, bool(told.missed))
-                for told, times in self.walk(calls).kinds() if told.answered]
+                for told, times in kinds_of(self.walk(calls)) if told.answered]
+
+
+def made_at(line: int, objection: Object) -> Object:
+    """An answer by which the layer refuses that the `restrict` on a line made."""
+    answer = refused(objection)
+    answer["layers"][0]["line"] = line
+    return answer
+
+
+def kinds_of(walk: Walk) -> list[tuple[Told, int]]:
+    """What is told of each kind, and how many records it has."""
+    counted = walk.counted()
+    return [(kind.told(counted.trace, line), times) for kind, line, times in counted.kinds]
 
 
 def _counted(kinds: list[tuple[int, str, int, bool]]) -> Counter[tuple[str, bool]]:
@@ -114,16 +129,26 @@ class Kinds(Written):
         found = self.told(START, DIRECTORY, PIPE, DIRECTORY, PIPE, PIPE)
         self.assertEqual([(line, times) for line, _, times, _ in found], [(2, 2), (3, 3)])
 
-    def test_a_kind_is_told_again_behind_many_others(self) -> None:
-        with mock.patch.object(reading, "MOST_KINDS", 1):
-            found = self.told(START, PIPE, PIPE, DIRECTORY, PIPE)
-        self.assertEqual([(line, times) for line, _, times, _ in found], [(2, 2), (4, 1), (5, 1)])
+    def test_which_line_made_a_layer_and_which_one_opened_a_file_makes_no_kind(self) -> None:
+        """A layer is known by its number in the policy, and what was opened by its path as a person knows it."""
+        again = (op("restrict", 2, rs=3, policy={"layer": 1}), "allowed")
+        fork = (op("fork", child=2, call=2), "allowed")
+        opens = [(op("open", path="/a/g~new~", shown="/a/g", fd=fd, mode="r", call=fd), "allowed") for fd in (3, 4)]
+        kept = [(op("ioctl", pid, fd=7), made_at(restricted, kept_on("/a/g~new~", "ioctl_dev", line)))
+                for pid, restricted, line in ((1, 3, 5), (2, 4, 6))]
+        restrict = (op("restrict", rs=3, policy={"layer": 1}), "allowed")
+        found = kinds_of(self.walk([START, fork, restrict, again, *opens, *kept]))
+        ((told, times),) = [(told, times) for told, times in found if told.answered]
+        ((_, answer),) = told.answered
+        self.assertEqual((told.line, times), (7, 2))
+        self.assertEqual(answer.layers, (Refusing(1, None, (Kept(("ioctl_dev",), "/a/g", 5),), 1),))
+        self.assertEqual(answer.opened, (5,))
 
     def test_what_the_policy_does_is_told_and_what_the_program_is_allowed_is_not(self) -> None:
         rule = op("add_path", rs=3, path="/a", fs=["read_file"])
         own, of_policy = (rule, "allowed"), ({**rule, "policy": {"layer": 1, "rule": "path_beneath 1"}}, "allowed")
         for form in FORMS:
-            found = [(told.line, times) for told, times in self.walk([START, own, of_policy, own], form).kinds()]
+            found = [(told.line, times) for told, times in kinds_of(self.walk([START, own, of_policy, own], form))]
             self.assertEqual(found, [(3, 1)], form)
 
 
@@ -188,7 +213,7 @@ class Numbers(Written):
         later = over_range({abi: NOT_OPEN if abi > 3 else "allowed" for abi in ABIS})
         for form in FORMS:
             walk = self.walk([START, (OPEN[0], answer), (CLOSE[0], later)], form)
-            self.assertEqual([told.missed for told, _ in walk.kinds()], [frozenset(), {4, 5}], form)
+            self.assertEqual([told.missed for told, _ in kinds_of(walk)], [frozenset(), {4, 5}], form)
 
 
 class Places(Written):
@@ -227,8 +252,7 @@ class Faults(Written):
         for (why, said), form in product(others.items(), FORMS):
             trace, report = self.walk(calls, form).files[0], self.walk(said, number=1).files[1]
             with self.subTest(why, form=form), self.assertRaisesRegex(Problem, "is not a report on"):
-                for _ in Walk(trace, report, ABIS).kinds():
-                    pass
+                Walk(trace, report, ABIS).counted()
 
 
 class OnlyRefused(Written):
@@ -268,21 +292,49 @@ class AnyTrace(Written):
     @by_chance(examples=20)
     def test_a_summary_is_the_same_by_kinds_and_singly(self, chance: random.Random) -> None:
         calls = list(_random_calls(chance))
-        ways = [self.summed(calls, form, most) for form in FORMS for most in (1, 3, 1000)]
-        ways.append(self.summed(calls, singly=True))
+        each = [({**record, "own": number}, answer) for number, (record, answer) in enumerate(calls)]
+        ways = [self.summed(some, form) for form in FORMS for some in (calls, each)]
         for way in ways[1:]:
             self.assertEqual(way, ways[0])
         self.assertGreater(len(ways[0]), 0)
 
-    def summed(self, calls: list[Call], form: str = COMPACT, most: int = 1, *, singly: bool = False) -> str:
+    @by_chance(examples=10)
+    def test_what_one_part_has_and_what_several_have_is_the_same(self, chance: random.Random) -> None:
+        """A part that comes twice counts twice, and its kinds are decoded once."""
+        calls = list(_random_calls(chance))
+        parts = [self.walk(calls).counted() for _ in range(2)]
+        kinds = [(kind, line, 2 * times) for kind, line, times in parts[0].kinds]
+        doubled = replace(parts[0], kinds=kinds, records=2 * parts[0].records, path_calls=2 * parts[0].path_calls)
+        with mock.patch.object(reading, "_told", side_effect=reading._told) as told:
+            self.assertEqual(_said(parts), _said([doubled]))
+        self.assertEqual(told.call_count, 2 * len(kinds))
+
+    def test_each_abi_has_its_own_order_and_numbers(self) -> None:
+        """A call that only ABI 1 refuses at first, and all later on, comes first at ABI 1 alone."""
+        one, other = refused(missing_on("/a", "make_fifo")), refused(missing_on("/a", "make_dir"))
+        first = over_range({abi: one if abi == 1 else "allowed" for abi in ABIS})
+        sh = (op("exec", path="/sh", call=9, kernel="ok"), "allowed")
+        calls: list[Call] = [START, RUN, (PIPE[0], first), (DIRECTORY[0], other), sh, PIPE, RUN, PIPE]
+        found = Summaries(ABIS)
+        found.take([self.walk(calls).counted()], ABIS)
+        each = found.done(Counter())
+        told = [[(kind.call.split()[0], dict(programs)) for kind, programs in at.refusals.items()] for at in each]
+        self.assertEqual(told[0], [("mknod", {"/bin": 2, "/sh": 1}), ("mkdir", {"/bin": 1})])
+        self.assertEqual(told[1:], [[("mkdir", {"/bin": 1}), ("mknod", {"/sh": 1, "/bin": 1})]] * 4)
+        self.assertEqual([list(programs) for programs in each[-1].refusals.values()], [["/bin"], ["/sh", "/bin"]])
+        self.assertEqual([one.verdicts["refused"] for one in each], [4, 3, 3, 3, 3])
+        self.assertEqual([one.not_allowed["refused"][("/a/p",)] for one in each], [3, 2, 2, 2, 2])
+
+    def summed(self, calls: list[Call], form: str = COMPACT) -> str:
         """All that a summary says, with the order of what it says."""
-        walk, found = self.walk(calls, form), Summaries(ABIS)
-        each: Iterator[tuple[Told, int]] = ((told, 1) for told in walk)
-        kinds = mock.patch.object(Walk, "kinds", lambda _: each) if singly else mock.MagicMock()
-        with mock.patch.object(reading, "MOST_KINDS", most), kinds:
-            found.take(walk, ABIS)
-        done = found.done(Counter())
-        return repr([(summary.as_data(one), one.not_allowed, one.warnings) for one in done])
+        return _said([self.walk(calls, form).counted()])
+
+
+def _said(parts: list[Counted]) -> str:
+    found = Summaries(ABIS)
+    found.take(parts, ABIS)
+    done = found.done(Counter())
+    return repr([(summary.as_data(one), one.not_allowed, one.warnings) for one in done])
 
 
 def _random_calls(chance: random.Random) -> Iterator[Call]:

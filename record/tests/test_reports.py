@@ -12,7 +12,7 @@ from landaudit_record.common.problems import Problem
 from landaudit_record.common.rights import alone
 from landaudit_record.common.wording import span
 from landaudit_record.engine import reports
-from landaudit_record.engine.answers import Answer, Condition, Missing, Reason, Refusing
+from landaudit_record.engine.answers import Answer, Condition, Kept, Missing, Reason, Refusing
 from landaudit_record.engine.reports import Row
 
 #: By docs/FORMATS.md, "The report as JSON", and its example.
@@ -91,9 +91,11 @@ class Bytes(unittest.TestCase):
         self.assertTrue(LINES[0].startswith(reports.head(6, 300)))
         self.assertFalse(LINES[0].startswith(reports.head(6, 30)))
         self.assertTrue(LINES[-1].startswith(reports.LAST))
-        ends = reports.allowed_by_all(range(1, 6))
-        self.assertEqual([line.endswith(ends) for line in LINES], [True, False, False, False])
-        self.assertFalse(LINES[0].endswith(reports.allowed_by_all(range(2, 6))))
+        for abis, differing in ((range(1, 6), [False, True, True]), (range(2, 6), [True, True, True])):
+            self.assertEqual(list(map(reports.differing(abis, only_refused=False), LINES[:3])), differing)
+        self.assertEqual(list(map(reports.differing(range(1, 6), only_refused=True), (b"", LINES[1]))), [False, True])
+        alike = [reports.split(line)[3].startswith(reports.by_all(range(1, 6))) for line in LINES[:3]]
+        self.assertEqual(alike, [True, False, False])
 
     def test_the_abis_that_do_not_allow(self) -> None:
         self.assertEqual([reports.abis_of_others(reports.split(line)[3]) for line in LINES[:3]],
@@ -105,7 +107,7 @@ class Bytes(unittest.TestCase):
 
     def test_of_one_abi(self) -> None:
         line = b'{"line":6,"pid":300,"op":"close","answers":[{"abi":[3,3],"answer":"%b"}]}\n'
-        self.assertTrue((line % b"allowed").endswith(reports.allowed_by_all(alone(3))))
+        self.assertFalse(reports.differing(alone(3), only_refused=False)(line % b"allowed"))
         self.assertTrue((line % b"allowed").endswith(reports.ENDS_ALLOWED))
         self.assertFalse((line % b"moot").endswith(reports.ENDS_ALLOWED))
         self.assertIn(reports.HAS_REFUSED, line % b"refused")
@@ -116,6 +118,19 @@ class Bytes(unittest.TestCase):
         closed = Answer("refused", "EBADF", why=Condition("unheld", rs=3))
         self.assertEqual(reports.not_allowed(answers), (((1, 2, 3, 4), ABSENT), ((5,), closed)))
         self.assertEqual(reports.not_allowed(reports.split(LINES[0])[3]), ())
+
+    def test_a_layer_in_place_of_its_line_and_a_path_as_it_is_shown(self) -> None:
+        """As a walk that counts hands answers over."""
+        said = (b'"answers":[{"abi":[1,5],"answer":"refused","error":"EACCES","layers":[{"layer":2,"policy":1,'
+                b'"objections":[{"missing":["truncate"],"on":"/a~2~","opened":7,"shown":"/a"}]}]}]}')
+        layer = Refusing(2, None, (Kept(("truncate",), "/a", 7),), 1)
+        self.assertEqual(reports.not_allowed(said), (((1, 2, 3, 4, 5), Answer("refused", "EACCES", (layer,))),))
+
+    def test_a_cut_line_has_no_answers(self) -> None:
+        whole = reports.split(LINES[2])[3]
+        for cut in (whole[: len(whole) // 2], whole[:-2], b'"others":[]}', b""):
+            with self.subTest(cut), self.assertRaisesRegex(Problem, "use programs of one version"):
+                reports.not_allowed(cut)
 
     def test_the_abis_of_each_answer(self) -> None:
         found = reports.abis_by_verdict(reports.split(LINES[2])[3])

@@ -74,7 +74,8 @@ def summed(
         said: list[Said | list[Object]] = ["allowed", *(answer for _, answer in calls)]
         report = write_report(folder / "report.jsonl", trace, said, alone(abi))
         found = summary.Summaries(alone(abi), tried=tried)
-        found.take(Walk(write_lines(folder / "trace.jsonl", trace), report, alone(abi)), alone(abi))
+        walk = Walk(write_lines(folder / "trace.jsonl", trace), report, alone(abi))
+        found.take([walk.counted()], alone(abi))
         (one,) = found.done(unsaid or Counter(), [])
         return one
 

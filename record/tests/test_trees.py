@@ -38,6 +38,22 @@ class Trees(unittest.TestCase):
     def test_the_root_is_there_without_a_line(self) -> None:
         self.assertEqual(listed([]).kind("/"), "dir")
 
+    def test_however_a_line_is_written_the_first_on_a_path_counts(self) -> None:
+        lines = [b'{"path":"/a b","kind":"dir"}\n', b'{"path":"/\xc3\xa9","kind":"reg"}\n',
+                 b'{"path":"/a\\"b","kind":"reg"}\n', b"  \n", b'{"kind":"reg", "path":"/a b"}\n',
+                 b'{"path":"/x","kind":"sym","target":"/a b"}\n', b'{"path":"/x","kind":"reg"}\n',
+                 b'{"path":"/last","kind":"fifo"}']
+        with tempfile.TemporaryDirectory() as folder:
+            file = Path(folder, "tree.jsonl")
+            file.write_bytes(b"".join(lines))
+            tree = trees.read(file)
+            self.assertEqual(tree.kinds, {"/": "dir", "/a b": "dir", "/\xe9": "reg", '/a"b': "reg", "/x": "sym",
+                                          "/last": "fifo"})
+            self.assertEqual(tree.targets, {"/x": "/a b"})
+            file.write_bytes(lines[0] + b'{"path":"/\xff","kind":"dir"}\n')
+            with self.assertRaisesRegex(Problem, "line 2 is not JSON"):
+                trees.read(file)
+
     def test_what_the_run_makes_moves_and_replaces(self) -> None:
         tree = listed([
             *LINES,

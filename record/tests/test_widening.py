@@ -5,6 +5,7 @@ from __future__ import annotations
 import os
 import tempfile
 import unittest
+from collections import Counter
 from dataclasses import replace
 from pathlib import Path
 from unittest import mock
@@ -131,6 +132,17 @@ class Widening(Disk):
         (rule,) = self.rules(1, {"few/d/e": asked("read_dir"), "few/f0": asked("read_file", call=2)})
         self.assertEqual(said(rule), (f"also 1 file under {self.path('few')} (read_file)",
                                         f"also 2 directories under {self.path('few')} (read_dir)"))
+
+    def test_a_directory_is_looked_at_again_only_after_a_join_beneath_it(self) -> None:
+        """Ten directories are joined one after another: each join changes one, and the two above it."""
+        paths = {f"/t/d{number}/f{name}": asked("read_file", call=10 * number + name)
+                 for number in range(10) for name in range(3)}
+        with mock.patch.object(widening._Joining, "_of", autospec=True, side_effect=widening._Joining._of) as of:
+            found = widening.rules(Wanted(paths, [], {}), CountedObjects([]), 10)
+        self.assertEqual({rule.place for rule in found}, {f"/t/d{number}" for number in range(10)})
+        looked = Counter(call.args[1] for call in of.call_args_list)
+        self.assertEqual(max(times for path, times in looked.items() if path.startswith("/t/d") and "f" not in path), 2)
+        self.assertEqual((looked["/t"], looked["/"]), (10, 10))
 
     def test_the_root_comes_last_and_is_warned_of(self) -> None:
         wanted = Wanted({"/usr/x": asked("read_file"), "/proc/x": asked("read_file", call=2)}, [], {})

@@ -4,8 +4,7 @@ from __future__ import annotations
 
 from collections import Counter
 from collections.abc import Sequence
-from copy import deepcopy
-from dataclasses import dataclass, replace
+from dataclasses import dataclass
 from typing import Any, NamedTuple
 
 from ..engine.answers import UNSURE
@@ -40,7 +39,7 @@ class AbiStep:
 
 def of_range(judged: Sequence[Summary], abis: range) -> list[Summary]:
     """The summaries of a range by those that landaudit was asked for: a later ABI has the rights of the newest."""
-    later = (replace(deepcopy(judged[-1]), abi=abi) for abi in abis if abi > judged[-1].abi)
+    later = (judged[-1].at(abi) for abi in abis if abi > judged[-1].abi)
     return [*(summary for summary in judged if summary.abi in abis), *later]
 
 
@@ -48,30 +47,29 @@ def steps(summaries: Sequence[Summary]) -> list[AbiStep]:
     """The ABIs of a range, by the summary of each, the oldest first."""
     newest = summaries[-1].warnings
     found: list[AbiStep] = []
+    refusals: list[tuple[Refusal, Counter[str]]] = []
     before: dict[VisibleRefusal, int] = {}
-    known: dict[Refusal, VisibleRefusal] = {}
     for summary in summaries:
-        kinds = _kinds(summary, known)
-        new = [item for item in kinds.items() if item[0] not in before]
-        breaks = [kind for kind, _ in [*new[:1], *sorted(new[1:], key=lambda item: -item[1])]]
-        gone = Counter({kind: times for kind, times in before.items() if kind not in kinds})
-        refused = {kind[:2] for kind in kinds} if gone else set()
-        no_more = [kind for kind, _ in gone.most_common() if kind[:2] not in refused]
+        breaks: list[VisibleRefusal] = []
+        no_more: list[VisibleRefusal] = []
+        if refusals != (refusals := list(summary.refusals.items())):
+            kinds = _kinds(summary)
+            new = [item for item in kinds.items() if item[0] not in before]
+            breaks = [kind for kind, _ in [*new[:1], *sorted(new[1:], key=lambda item: -item[1])]]
+            gone = Counter({kind: times for kind, times in before.items() if kind not in kinds})
+            refused = {kind[:2] for kind in kinds} if gone else set()
+            no_more = [kind for kind, _ in gone.most_common() if kind[:2] not in refused]
+            before = kinds
         warnings = tuple(warning for warning in summary.warnings if warning not in newest)
         found.append(AbiStep(summary.abi, summary.verdicts, tuple(breaks), tuple(no_more), warnings))
-        before = kinds
     return found
 
 
-def _kinds(summary: Summary, known: dict[Refusal, VisibleRefusal]) -> dict[VisibleRefusal, int]:
-    """The kinds of an audit's refused calls, in the order of the trace, with how many there are of each; `known` has
-    the kinds of refusals that were met before.
-    """
+def _kinds(summary: Summary) -> dict[VisibleRefusal, int]:
+    """The kinds of an audit's refused calls, in the order of the trace, with how many there are of each."""
     found: dict[VisibleRefusal, int] = {}
     for refusal, programs in summary.refusals.items():
-        kind = known.get(refusal)
-        if kind is None:
-            kind = known[refusal] = VisibleRefusal(refusal.call, refusal.subject, refusal.error)
+        kind = VisibleRefusal(refusal.call, refusal.subject, refusal.error)
         found[kind] = found.get(kind, 0) + sum(programs.values())
     return found
 

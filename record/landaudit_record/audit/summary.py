@@ -3,9 +3,8 @@
 from __future__ import annotations
 
 from collections import Counter
-from collections.abc import Hashable, Iterable, Sequence
+from collections.abc import Iterable, Iterator, Sequence
 from dataclasses import dataclass, field, replace
-from functools import cached_property
 from typing import Any
 
 from ..common.jsonl import Record
@@ -13,13 +12,17 @@ from ..common.operations import call_text
 from ..engine import answers
 from ..engine.answers import UNOPENED, UNSURE, Answer, Condition, Kept, Missing, Objection
 from ..engine.processes import of_policy, shown_path
-from ..engine.reading import ASKED_LANDLOCK, NamedSubject, Told, Walk, place_of, subject_of
+from ..engine.reading import ASKED_LANDLOCK, Alike, Counted, NamedSubject, Told, place_of, subject_of
 from ..engine.subjects import Number, Subject
 from .moot import FAILED_TOO, MISSED, Unasked
 from .warnings import MadeByRun, ManyMoot, NoLayer, OfPolicy, ReplacedByRun, RuleRefused, RulesetRefused, RuleUnused, Warned
 
-#: The members of a record in which refused calls of one kind agree, besides their explanation.
-_TELLS = ("op", "path", "shown", "from", "to", "shown_to", "mode", "create", "trunc", "kind", "exchange", "port", "rs")
+#: What is counted besides verdicts: records of the policy that are left out, and moot calls on paths.
+_LEFT_OUT, _MOOT_CALL = "left out", "moot call"
+#: The ABIs that give one answer.
+_Abis = tuple[int, ...]
+#: Something that is counted, in the counts that it is in.
+_Entry = tuple[dict[Any, int], Any]
 
 
 @dataclass(frozen=True)
@@ -52,9 +55,11 @@ class Refusal:
     condition: Condition | None
     unknown: str | None = None
 
-    @cached_property
-    def _hash(self) -> int:
-        return hash((self.call, self.subject, self.error, self.layers, self.condition, self.unknown))
+    _hash: int = field(init=False, compare=False, repr=False)
+
+    def __post_init__(self) -> None:
+        parts = self.call, self.subject, self.error, self.layers, self.condition, self.unknown
+        object.__setattr__(self, "_hash", hash(parts))
 
     def __hash__(self) -> int:
         """The hash, which is made once: audits over several ABIs look up each refusal many times."""
@@ -126,12 +131,25 @@ class Summary:
         for verdict, places in other.not_allowed.items():
             self.not_allowed[verdict].update(places)
         for warning, times in other.warnings.items():
-            _warn(self, warning, times)
+            self.warn(warning, times)
         self.unsaid.update(other.unsaid)
         self.accepted.update(other.accepted)
         self.seen += other.seen
         self.path_calls += other.path_calls
         self.moot_path_calls += other.moot_path_calls
+
+    def at(self, abi: int) -> Summary:
+        """The same at another ABI; what is found later may be added to it."""
+        own = {name: getattr(self, name).copy() for name in ("verdicts", "refusals", "unsure", "accepted")}
+        return replace(self, abi=abi, **own)
+
+    def warn(self, warning: Warned, times: int = 1) -> None:
+        """Adds a warning that is due to so many records."""
+        self.warnings[warning] = self.warnings.get(warning, 0) + times
+
+    def kinds(self, *, unsure: bool) -> dict[Refusal, Counter[str]]:
+        """The kinds of calls that may be refused, or of those that are."""
+        return self.unsure if unsure else self.refusals
 
     def by_frequency(self) -> list[tuple[Refusal, Counter[str]]]:
         """The refusals, the most frequent first; those that are as frequent, in the order of the trace."""
@@ -141,104 +159,72 @@ class Summary:
 class Summaries:
     """The summaries of an audit at some ABIs, which take one part of the recording after another.
 
-    Only the newest ABI's summary says what was moot and why. `tried` says whether a policy was tried.
+    What ABIs answer alike is counted once for all of them. Only the newest ABI's summary says what was moot and why.
+    `tried` says whether a policy was tried.
     """
 
     def __init__(self, abis: range, *, tried: bool = False) -> None:
         self._by_abi = {abi: Summary(abi) for abi in abis}
         self._newest = abis[-1]
         self._confines = tried
+        self._verdicts: dict[tuple[_Abis, str], int] = {}
+        self._refused: dict[tuple[_Abis, Refusal, str], int] = {}
+        self._places: dict[str, dict[_Abis, Counter[NamedSubject]]] = {"refused": {}, "moot": {}}
 
-    def take(self, walk: Walk, abis: range) -> None:
-        """Counts the answers of some ABIs to a part of the recording."""
-        left_out: Counter[int] = Counter()
-        refusals: dict[Hashable, Refusal] = {}
-        for told, times in walk.kinds():
-            for abi in abis if "policy" in told.record else ():
-                _told_of_rule(self._by_abi[abi], told.record, times)
-            self._count_place(told, times)
-            for some, answer in told.answered:
-                if _is_left_out(told.record, answer):
-                    left_out.update(dict.fromkeys(some, times))
-                elif answer.refused or answer.verdict == UNSURE:
-                    self._refused(walk, told, answer, some, times, refusals)
-                else:
-                    self._moot(told, answer, some, times)
-        self._confines |= walk.confines
-        for abi, calls in walk.unsure.items():
-            self._by_abi[abi].verdicts[UNSURE] += calls
-        for abi in abis:
-            summary = self._by_abi[abi]
-            summary.path_calls += walk.path_calls
-            # What is neither refused nor moot was allowed.
-            summary.seen += walk.records - left_out[abi]
+    def take(self, parts: Iterable[Counted], abis: range) -> None:
+        """Counts the answers of some ABIs to all parts of the recording; what several parts have is decoded once."""
+        known: dict[Alike, list[_Entry]] = {}
+        for part in parts:
+            for kind, line, times in part.kinds:
+                entries = known.get(kind)
+                if entries is None:
+                    entries = known[kind] = list(self._entries(kind.told(part.trace, line), abis))
+                for counts, entry in entries:
+                    counts[entry] = counts.get(entry, 0) + times
+            self._confines |= part.confines
+            for abi in abis:
+                summary = self._by_abi[abi]
+                summary.verdicts[UNSURE] += part.unsure[abi]
+                summary.path_calls += part.path_calls
+                summary.seen += part.records
 
-    def add(self, others: Summaries) -> None:
-        """Adds what was counted of parts that come later."""
-        self._confines |= others._confines
-        for abi, summary in others._by_abi.items():
-            self._by_abi[abi].add(summary)
-
-    def _count_place(self, told: Told, times: int) -> None:
-        """Counts what is not allowed at the path or port that records are about."""
+    def _entries(self, told: Told, abis: range) -> Iterator[_Entry]:
+        """Where a record counts."""
+        for abi in abis if "policy" in told.record else ():
+            yield from ((self._by_abi[abi].warnings, warning) for warning in _told_of_rule(told.record))
         place = place_of(told.record) if told.answered else None
-        if place is not None:
-            for some, answer in told.answered:
-                for abi in some if answer.verdict != UNSURE else ():
-                    calls = self._by_abi[abi].not_allowed[answer.verdict]
-                    calls[place] = calls.get(place, 0) + times
+        for some, answer in told.answered:
+            if place is not None and answer.verdict != UNSURE:
+                yield self._places[answer.verdict].setdefault(some, Counter()), place
+        for some, answer in told.answered:
+            if _is_left_out(told.record, answer):
+                yield self._verdicts, (some, _LEFT_OUT)
+            elif answer.refused or answer.verdict == UNSURE:
+                yield from self._refusal_entries(told, answer, some)
+            else:
+                yield from self._moot_entries(told, answer, some)
 
-    def _refused(
-        self,
-        walk: Walk,
-        told: Told,
-        answer: Answer,
-        abis: Iterable[int],
-        times: int,
-        known: dict[Hashable, Refusal],
-    ) -> None:
-        """Counts refused records under the ABIs that refuse them alike."""
-        record = told.record
-        for abi in abis if answer.refused else ():
-            self._by_abi[abi].verdicts["refused"] += times
-        if not answer.layers and self._warned(record, answer, abis, times):
-            return
-        about = (*map(record.get, _TELLS), answer, answer.opened)
-        refusal = known.get(about)
-        if refusal is None:
-            known[about] = refusal = _refusal(walk, record, answer)
-        program = told.program or "-"
-        for abi in abis:
-            summary = self._by_abi[abi]
-            kinds = summary.refusals if answer.refused else summary.unsure
-            programs = kinds.get(refusal)
-            if programs is None:
-                programs = kinds[refusal] = Counter()
-            programs[program] = programs.get(program, 0) + times
+    def _refusal_entries(self, told: Told, answer: Answer, abis: _Abis) -> Iterator[_Entry]:
+        """Where a refused record counts under the ABIs that refuse it alike."""
+        if answer.refused:
+            yield self._verdicts, (abis, "refused")
+        for abi in abis if not answer.layers else ():
+            yield from ((self._by_abi[abi].warnings, warning) for warning in _told_of_ruleset(told.record, answer, abi))
+        if answer.layers or of_policy(told.record) is None:
+            yield self._refused, (abis, _refusal(told.record, answer), told.program or "-")
 
-    def _warned(self, record: Record, answer: Answer, abis: Iterable[int], times: int) -> bool:
-        """Warns of a ruleset that is not made or not filled; tells whether the record needs no other entry."""
-        condition, origin = answer.condition, of_policy(record)
-        for abi in abis:
-            if origin is not None:
-                _warn(self._by_abi[abi], RuleRefused(OfPolicy.of(origin, record), answer.error, condition), times)
-            elif record["op"] == "create":
-                _warn(self._by_abi[abi], RulesetRefused(abi, answer.error, condition), times)
-        return origin is not None
-
-    def _moot(self, told: Told, answer: Answer, abis: Iterable[int], times: int) -> None:
-        """Counts moot records under the ABIs that find them moot alike."""
+    def _moot_entries(self, told: Told, answer: Answer, abis: _Abis) -> Iterator[_Entry]:
+        """Where a moot record counts under the ABIs that find it moot alike."""
+        yield self._verdicts, (abis, "moot")
+        if told.asked:
+            yield self._verdicts, (abis, _MOOT_CALL)
         origin = of_policy(told.record)
-        for abi in abis:
+        for abi in abis if origin is not None else (self._newest,) if self._newest in abis else ():
             summary = self._by_abi[abi]
-            summary.verdicts["moot"] += times
-            summary.moot_path_calls += told.asked * times
-            if origin is None and abi != self._newest:
-                continue
             why, at = _because(told.record, answer, abi in told.missed)
-            summary.moot.setdefault(why, Counter())[at] += times
+            yield summary.moot.setdefault(why, Counter()), at
             if origin is not None:
-                _warn(summary, RuleUnused(OfPolicy.of(origin, told.record), at, why), times)
+                yield summary.warnings, RuleUnused(OfPolicy.of(origin, told.record), at, why)
 
     def done(
         self, unsaid: Counter[str], missing: Sequence[str] = (), untraced: Sequence[str] = ()
@@ -246,26 +232,74 @@ class Summaries:
         """The summaries, the oldest ABI first; `missing` is what no audit of the recording can judge, `untraced` what
         was not traced.
         """
+        self._spread()
         for abi, summary in self._by_abi.items():
+            # What is neither refused nor moot was allowed.
             others = sum(summary.verdicts[verdict] for verdict in ("refused", "moot", UNSURE))
             summary.verdicts["allowed"] = summary.seen - others
             if not self._confines:
-                _warn(summary, NoLayer(), 1)
+                summary.warn(NoLayer())
             if 10 * summary.moot_path_calls > summary.path_calls:
-                _warn(summary, ManyMoot(summary.moot_path_calls, summary.path_calls), 1)
+                summary.warn(ManyMoot(summary.moot_path_calls, summary.path_calls))
             summary.unsaid = unsaid
             summary.missing = tuple(missing)
             summary.untraced = tuple(untraced)
         return list(self._by_abi.values())
 
+    def _spread(self) -> None:
+        """Gives each ABI what was counted; ABIs with the same counts share them."""
+        for (abis, what), times in self._verdicts.items():
+            for summary in map(self._by_abi.__getitem__, abis):
+                if what == _LEFT_OUT:
+                    summary.seen -= times
+                elif what == _MOOT_CALL:
+                    summary.moot_path_calls += times
+                else:
+                    summary.verdicts[what] += times
+        for verdict, counted in self._places.items():
+            united: dict[tuple[_Abis, ...], Counter[NamedSubject]] = {}
+            for abi, summary in self._by_abi.items():
+                mine = tuple(abis for abis in counted if abi in abis)
+                if mine not in united:
+                    each = [counted[abis] for abis in mine]
+                    united[mine] = each[0] if len(each) == 1 else sum(each, Counter())
+                summary.not_allowed[verdict] = united[mine]
+        self._spread_refusals()
 
-def _told_of_rule(summary: Summary, record: Record, times: int) -> None:
-    """Warns of a rule of the policy on what the run makes, or puts something else in the place of."""
+    def _spread_refusals(self) -> None:
+        """Gives each ABI its kinds of refused calls, in the order of the trace."""
+        alike: dict[Refusal, _Abis | None] = {}
+        for abis, refusal, _ in self._refused:
+            if alike.setdefault(refusal, abis) != abis:
+                alike[refusal] = None
+        for (abis, refusal, program), times in self._refused.items():
+            for some in [abis] if alike[refusal] else [(abi,) for abi in abis]:
+                each = [self._by_abi[abi].kinds(unsure=refusal.unknown is not None) for abi in some]
+                programs = each[0].get(refusal)
+                if programs is None:
+                    programs = Counter()
+                    for kinds in each:
+                        kinds[refusal] = programs
+                programs[program] += times
+        self._refused.clear()
+
+
+def _told_of_rule(record: Record) -> Iterator[Warned]:
+    """Warnings of a rule of the policy on what the run makes, or puts something else in the place of."""
     origin = of_policy(record) or {}
     if "made" in origin:
-        _warn(summary, MadeByRun(OfPolicy.of(origin, record), origin["made"]), times)
+        yield MadeByRun(OfPolicy.of(origin, record), origin["made"])
     if "replaced" in origin:
-        _warn(summary, ReplacedByRun(OfPolicy.of(origin, record), origin["replaced"]), times)
+        yield ReplacedByRun(OfPolicy.of(origin, record), origin["replaced"])
+
+
+def _told_of_ruleset(record: Record, answer: Answer, abi: int) -> Iterator[Warned]:
+    """Warnings of a ruleset that is not made or not filled."""
+    origin = of_policy(record)
+    if origin is not None:
+        yield RuleRefused(OfPolicy.of(origin, record), answer.error, answer.condition)
+    elif record["op"] == "create":
+        yield RulesetRefused(abi, answer.error, answer.condition)
 
 
 def _is_left_out(record: Record, answer: Answer) -> bool:
@@ -274,30 +308,23 @@ def _is_left_out(record: Record, answer: Answer) -> bool:
     return origin is not None and ("made" in origin or answer.left_out)
 
 
-def _refusal(walk: Walk, record: Record, answer: Answer) -> Refusal:
+def _refusal(record: Record, answer: Answer) -> Refusal:
     """The kind that a refused call is counted as."""
-    told = tuple(
-        RefusingLayer(
-            layer.layer,
-            walk.policy_of(layer),
-            tuple(_as_shown(objection, record, walk) for objection in layer.objections),
-        )
+    layers = tuple([
+        RefusingLayer(layer.layer, layer.policy, tuple([_as_shown(one, record) for one in layer.objections]))
         for layer in answer.layers
-    )
-    kept = next((one for layer in told for one in layer.objections if isinstance(one, Kept)), None)
-    condition = None if answer.layers else answer.condition
-    subject = subject_of(record, None if kept is None else kept.path)
+    ])
+    kept = next((one.path for layer in layers for one in layer.objections if isinstance(one, Kept)), None)
+    condition = None if layers else answer.condition
     unknown = str(record["unknown"]) if answer.verdict == UNSURE else None
-    return Refusal(call_text(record), subject, answer.error or "-", told, condition, unknown)
+    return Refusal(call_text(record), subject_of(record, kept), answer.error or "-", layers, condition, unknown)
 
 
-def _as_shown(objection: Objection, record: Record, walk: Walk) -> Objection:
+def _as_shown(objection: Objection, record: Record) -> Objection:
     """An objection with its path as a person knows it."""
-    match objection:
-        case Missing(path=path):
-            return replace(objection, path=shown_path(record, path))
-        case Kept(path=path, opened=line):
-            return replace(objection, path=walk.opened(line) or path)
+    if isinstance(objection, Missing):
+        path = shown_path(record, objection.path)
+        return objection if path == objection.path else replace(objection, path=path)
     return objection
 
 
@@ -317,10 +344,6 @@ def _because(record: Record, answer: Answer, missed: bool) -> tuple[Unasked, Sub
 def _left_out(record: Record) -> Subject:
     """What a rule that is left out is on, or the ruleset of a restriction that is left out."""
     return Subject(number=Number("ruleset", record["rs"])) if record["op"] == "restrict" else subject_of(record)
-
-
-def _warn(summary: Summary, warning: Warned, times: int) -> None:
-    summary.warnings[warning] = summary.warnings.get(warning, 0) + times
 
 
 def as_data(summary: Summary) -> dict[str, Any]:

@@ -1,13 +1,13 @@
 """JSON for people: each member and each value on a line of its own, as `json.dumps` with `indent=2` writes it.
 
 That function is written in Python where it indents, and makes a list of all pieces of a text: a page of 20 MB takes
-seconds and 150 MB. Here the text of each value is put together by itself.
+seconds and 150 MB. Here the text of each value is put together by itself, and that of a large one comes in pieces.
 """
 
 from __future__ import annotations
 
 import json
-from collections.abc import Callable
+from collections.abc import Callable, Iterator
 from typing import Any
 
 _encode: Callable[[Any], str] = json.JSONEncoder().encode
@@ -26,3 +26,18 @@ def indented(value: Any, end: str = "\n") -> str:
     if value and isinstance(value, (list, tuple)):
         return f"[{inner}{f',{inner}'.join([indented(of, inner) for of in value])}{end}]"
     return _encode(value)
+
+
+def pieces(value: Any, end: str = "\n", *, deep: int = 2) -> Iterator[str]:
+    """The same text in pieces: the members of an object, and the values in the lists that it has."""
+    if not deep or not value or not isinstance(value, (dict, list)):
+        yield indented(value, end)
+        return
+    inner = end + "  "
+    before = inner
+    yield "{" if isinstance(value, dict) else "["
+    for name, of in value.items() if isinstance(value, dict) else (("", of) for of in value):
+        yield before + (f"{_encode(name)}: " if isinstance(value, dict) else "")
+        yield from pieces(of, inner, deep=deep - 1)
+        before = f",{inner}"
+    yield end + ("}" if isinstance(value, dict) else "]")

@@ -22,11 +22,16 @@ text = lru_cache(16_384)(_encode)
 
 def numbered(path: Path) -> Iterator[tuple[int, Record]]:
     """The objects of a file with the numbers of their lines, from 1. Blank lines count and are skipped."""
+    for number, line in lines(path):
+        if line.strip(BLANKS):
+            yield number, read(path, number, line)
+
+
+def lines(path: Path) -> Iterator[tuple[int, bytes]]:
+    """The lines of a file with their numbers, from 1."""
     try:
-        with open(path, "rb") as lines:
-            for number, line in enumerate(lines, start=1):
-                if line.strip(BLANKS):
-                    yield number, read(path, number, line)
+        with open(path, "rb") as file:
+            yield from enumerate(file, start=1)
     except OSError as error:
         raise Problem(f"cannot read {path}: {error.strerror}") from error
 

@@ -35,9 +35,11 @@ CHANGES = re.compile(
 )
 #: How a line begins that landaudit-record writes, with its process.
 OF_PROCESS = re.compile(rb'\{"op":"[a-z_]+","pid":([0-9]+),')
-#: Members in which records may differ that a summary counts as one: for an opening, its number too.
-OWN = re.compile(rb'"(?:pid|call)":[0-9]+,?')
-OWN_OF_OPENING = re.compile(rb'"(?:pid|call|fd)":[0-9]+,?')
+#: Members in which records may differ that a summary counts as one: for an opening, its number too. If they are taken
+#: out, a comma may be left before the end of the line (`ENDS`).
+OWN = re.compile(rb'"(?:pid|call)":[0-9]+(?:,|(?=\}\s*\Z))')
+OWN_OF_OPENING = re.compile(rb'"(?:pid|call|fd)":[0-9]+(?:,|(?=\}\s*\Z))')
+ENDS = re.compile(rb",\s*\}\s*\Z")
 #: How many records a line of a distilled recording stands for.
 STANDS_FOR = re.compile(rb'"stands_for":([0-9]+)')
 FD = re.compile(rb'"fd":([0-9]+)')

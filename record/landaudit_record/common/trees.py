@@ -3,6 +3,7 @@
 from __future__ import annotations
 
 import re
+import sys
 from collections.abc import Iterable, Iterator, Sequence
 from dataclasses import dataclass, field
 from functools import cached_property
@@ -16,8 +17,10 @@ from .resolving import ROOT as ROOT
 from .resolving import directory_of as directory_of
 from .resolving import joined as joined
 
-#: How a line of a tree begins that landaudit-record writes, if nothing in the path is escaped.
+#: How a line of a tree begins that landaudit-record writes, if nothing in the path is escaped; and the whole line of
+#: most objects, which have one name of ASCII and no target.
 _PATH = re.compile(rb'\{"path":"([^"\\]*)",')
+_MOST = re.compile(rb'\{"path":"([ !#-\[\]-~]*)","kind":"([a-z]+)"\}\n')
 
 
 def upwards(path: str) -> Iterator[str]:
@@ -134,17 +137,25 @@ def read(*paths: Path, beside: KnownObjects = NothingElse()) -> Tree:
     """
     tree = Tree(beside=beside)
     for path in paths:
-        for number, entry in jsonl.numbered(path):
-            listed, kind, target = entry.get("path"), entry.get("kind"), entry.get("target")
-            if not isinstance(listed, str) or not isinstance(kind, str):
-                raise Problem(f"{path} line {number} lists no object: it needs a path and a kind")
-            if listed in tree.kinds:
-                continue
-            tree.kinds[listed] = kind
-            if kind == "sym" and isinstance(target, str):
-                tree.targets[listed] = target
-            _note_names(tree, listed, entry)
+        for number, line in jsonl.lines(path):
+            most = _MOST.fullmatch(line)
+            if most is not None:
+                tree.kinds.setdefault(most[1].decode(), sys.intern(most[2].decode()))
+            elif line.strip(jsonl.BLANKS):
+                _list(tree, path, number, jsonl.read(path, number, line))
     return tree
+
+
+def _list(tree: Tree, path: Path, number: int, entry: jsonl.Record) -> None:
+    """Adds the object on a line."""
+    listed, kind, target = entry.get("path"), entry.get("kind"), entry.get("target")
+    if not isinstance(listed, str) or not isinstance(kind, str):
+        raise Problem(f"{path} line {number} lists no object: it needs a path and a kind")
+    if listed not in tree.kinds:
+        tree.kinds[listed] = kind
+        if kind == "sym" and isinstance(target, str):
+            tree.targets[listed] = target
+        _note_names(tree, listed, entry)
 
 
 def path_on(file: Path, number: int, line: bytes) -> str:

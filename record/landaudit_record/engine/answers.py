@@ -123,12 +123,14 @@ def as_data(objection: Objection) -> dict[str, Any]:
 @dataclass(frozen=True)
 class Refusing:
     """A layer that refuses a record. If landaudit was asked why, `line` is the line of the `restrict` that made it, and
-    `objections` are all that it has.
+    `objections` are all that it has. Of counted records, `policy` is its number in the tried policy in place of the
+    line, None if it is no policy's.
     """
 
     layer: int
     line: int | None = None
     objections: tuple[Objection, ...] = ()
+    policy: int | None = None
 
 
 #: The text of a condition by its word, with the members that the word has.

@@ -42,6 +42,8 @@ def shown(record: Record, member: str) -> str | None:
 
 def shown_path(record: Record, path: str) -> str:
     """A path that landaudit names for a record (its own, or that of a directory above it), as a person knows it."""
+    if "shown" not in record and "shown_to" not in record:
+        return path
     for member in ("path", "from", "to"):
         text, real = record.get(member), shown(record, member)
         if isinstance(text, str) and real is not None and (text == path or text.startswith(path.rstrip("/") + "/")):

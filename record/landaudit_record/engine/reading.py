@@ -1,19 +1,22 @@
 """Reads a trace together with its report: each record with its answer, or only those that an audit shows.
 
 Most records are allowed and change nothing that a summary needs. `Walk` goes over a trace and its report once, for all
-ABIs of the report, and decodes only the lines of the other records; of those that a summary counts as one, it decodes
-the first (`Walk.kinds`). The first bytes of a line show what to do with it. The members of the most frequent records
-are read without decoding, if they are written as landaudit-record writes them.
+ABIs of the report, and decodes only the lines of the other records. Those that a summary counts as one are counted by
+their bytes (`Walk.counted`), and each kind is decoded once. The first bytes of a line show what to do with it. The
+members of the most frequent records are read without decoding, if they are written as landaudit-record writes them.
 """
 
 from __future__ import annotations
 
+import json
+import re
 from array import array
 from collections import Counter
 from collections.abc import Iterator
 from dataclasses import dataclass
 from itertools import accumulate, count, islice, zip_longest
 from pathlib import Path
+from typing import NamedTuple
 
 from ..common import jsonl
 from ..common.jsonl import Record
@@ -24,6 +27,7 @@ from ..common.trace_lines import (
     AGAIN,
     CHANGES,
     COPIES,
+    ENDS,
     FD,
     HEAD,
     KERNEL,
@@ -51,7 +55,7 @@ ASKED_LANDLOCK = (None, "ok", "EACCES", "EPERM", "EXDEV")
 _STATES = frozenset({"create", "restrict", "start", "fork", "exit", "exec"})
 _RULES = frozenset({"add_path", "add_port"})
 _OPENS = frozenset({"open", "adopt", "dup"})
-#: The number of kinds of records that are counted before they are yielded.
+#: The number of kinds of calls that `places` counts before it decodes them.
 MOST_KINDS = 32_768
 #: Files are read in blocks of lines of about this many bytes.
 BLOCK = 1 << 18
@@ -76,6 +80,9 @@ _OPEN, _CLOSE, _ADOPT, _DUP = (b'"op":"%b"' % op for op in (b"open", b"close", b
 _ON_NUMBERS = frozenset(b'"op":"%b"' % op.encode() for op, of in OPERATIONS.items() if "fd" in of.numbers)
 #: Where the number of the process begins in its member.
 _PID = len('"pid":')
+#: In answers, the line of the `restrict` that made a layer, and that of the record that opened a file.
+_OF_LAYER, _OPENED = re.compile(rb'"line":([0-9]+)'), re.compile(rb'"opened":([0-9]+)')
+_WHERE_OPENED = b'"opened":'
 
 
 def judged(trace: Path, report: Path, abi: int) -> Iterator[Judged]:
@@ -123,8 +130,44 @@ class Told:
 _Said = tuple[int, bytes, int, bytes, bool]
 #: The state of the process of a record before it: see Told.program, Told.missed and Told.confined.
 _Standing = tuple[str | None, frozenset[int], bool]
-#: What records have in common that a summary counts as one: state, members and answers.
-_Kind = tuple[_Standing, bytes, bytes]
+
+
+class Alike(NamedTuple):
+    """What records have in common that a summary counts as one: the state of their process, and their members and
+    answers as trace and report have them, without what is their own.
+
+    In the answers, a layer has the number in the tried policy (`policy`) in place of a line, and what was opened has
+    its path as a person knows it (`shown`). There are no answers if all ABIs allow the records.
+    """
+
+    standing: _Standing
+    members: bytes
+    answers: bytes
+
+    def told(self, trace: Path, line: int) -> Told:
+        """The record on a line of a trace, which is one of these, as far as all of them agree."""
+        return _told(line, jsonl.read(trace, line, ENDS.sub(b"}", self.members)), self.answers, self.standing)
+
+
+@dataclass(frozen=True, slots=True)
+class Counted:
+    """The kinds of a trace's records that some ABI does not allow, or that are of the tried policy: each with the line
+    of the first and how many there are, in the order of these first ones. The other members are those of the walk.
+    """
+
+    trace: Path
+    kinds: list[tuple[Alike, int, int]]
+    records: int
+    path_calls: int
+    unsure: Counter[int]
+    confines: bool
+
+
+def _told(line: int, record: Record, answers: bytes, standing: _Standing) -> Told:
+    """A record with the answers to it that are not `allowed`."""
+    asked = record["op"] in PATH_CALLS and record.get("kernel") in ASKED_LANDLOCK
+    program, missed, confined = standing
+    return Told(line, record, reports.not_allowed(answers) if answers else (), program, asked, missed, confined)
 
 
 class Walk:
@@ -145,7 +188,8 @@ class Walk:
         self._weighted = weighted
         self._progress = progress
         self._abis = abis
-        self._allowed = reports.allowed_by_all(abis)
+        self._differs = reports.differing(abis, only_refused=only_refused)
+        self._all, self._by_all = frozenset(abis), reports.by_all(abis)
         self._offsets = array("Q", [0])
         self._processes = Followed()
         self.records = 0
@@ -153,6 +197,7 @@ class Walk:
         self.unsure: Counter[int] = Counter()
         self._again = self._careful = True
         self._together: list[_Said] = []
+        self._paths: dict[int, bytes] = {}
 
     @property
     def confines(self) -> bool:
@@ -162,12 +207,6 @@ class Walk:
     def policy_of(self, layer: Refusing) -> int | None:
         """The number in the tried policy of a layer that refuses a record; None if it is no policy's."""
         return None if layer.line is None else self._processes.policy_of(layer.line)
-
-    def opened(self, line: int) -> str | None:
-        """The path to show for what the record on a line opened."""
-        with open(self.files[0], "rb") as trace:
-            trace.seek(self._offsets[line - 1])
-            return shown(jsonl.read(self.files[0], line, trace.readline()), "path")
 
     def __iter__(self) -> Iterator[Told]:
         """Each record that some ABI does not allow, or that changes what is kept."""
@@ -180,59 +219,59 @@ class Walk:
             elif self._whole:
                 self._follow_opening(said, self._members(said))
 
-    def kinds(self) -> Iterator[tuple[Told, int]]:
-        """Records that are not allowed under all ABIs, and those of the tried policy: of those that a summary counts as
-        one, the first, and how many there are. They are in the order of these first ones.
-
-        A kind is yielded again if many others came after it.
-        """
-        kinds: dict[_Kind, tuple[_Said, list[int]]] = {}
+    def counted(self) -> Counted:
+        """The kinds of records that are not allowed under all ABIs, and of those of the tried policy."""
+        first: dict[Alike, tuple[Alike, int]] = {}
+        found: dict[Alike, int] = {}
         for said in self._lines():
             kind = self._kind(said)
-            times = self._times(said[1])
-            if kind is None or not times:
-                continue
-            known = kinds.get(kind)
-            if known is not None:
-                known[1][0] += times
-                continue
-            if len(kinds) == MOST_KINDS:
-                yield from self._counted(kinds)
-                kinds.clear()
-            kinds[kind] = said, [times]
-        yield from self._counted(kinds)
-
-    def _counted(self, kinds: dict[_Kind, tuple[_Said, list[int]]]) -> Iterator[tuple[Told, int]]:
-        for (standing, *_), (said, (times,)) in kinds.items():
-            yield self._told(said, self._record(said), standing), times
+            if kind is not None:
+                opens = _WHERE_OPENED in kind.answers
+                alike = kind._replace(answers=_OPENED.sub(b"", kind.answers)) if opens else kind
+                first.setdefault(alike, (kind, said[0]))
+                found[alike] = found.get(alike, 0) + self._times(said[1])
+        kinds = [(*first[alike], times) for alike, times in found.items() if times]
+        return Counted(self.files[0], kinds, self.records, self.path_calls, self.unsure, self.confines)
 
     def _lines(self) -> Iterator[_Said]:
         """Reads both files, and yields the lines to decode. A long recording spends most of the time here."""
-        allowed, whole, processes, progress = self._allowed, self._whole, self._processes, self._progress
         for first, lines, to_dos, answers in self._blocks():
-            records = path_calls = 0
-            for number, line, to_do, answer in zip(count(first), lines, to_dos, answers):
-                differs = not answer.endswith(allowed) if whole else answer != b""
-                if to_do == _ODD or self._careful:
-                    yield from self._with_care(number, line, to_do, answer, differs)
-                    continue
-                records += 1
-                if to_do & _ON_PATH and (line.endswith(LET_THROUGH) or _asked(line)):
-                    path_calls += 1
-                if differs or to_do >= _RULE or (to_do & _OPENS_NUMBER and processes.watched):
-                    yield number, line, to_do, answer, differs
-            self.records += records
-            self.path_calls += path_calls
-            if progress is not None:
-                progress.show(first, "answers read")
+            begin, many = 0, len(lines)
+            to_dos.append(_ODD)
+            while begin < many:
+                end = begin + 1 if self._careful else max(begin + 1, to_dos.index(_ODD, begin))
+                if self._careful or to_dos[begin] == _ODD:
+                    yield from self._with_care(first + begin, lines[begin], to_dos[begin], answers[begin])
+                else:
+                    yield from self._plain(first + begin, lines[begin:end], to_dos[begin:end], answers[begin:end])
+                begin = end
+            if self._progress is not None:
+                self._progress.show(first, "answers read")
         yield from self._united()
 
-    def _with_care(self, number: int, line: bytes, to_do: int, answer: bytes, differs: bool) -> Iterator[_Said]:
+    def _plain(self, first: int, lines: list[bytes], to_dos: list[int], answers: list[bytes]) -> Iterator[_Said]:
+        """Does as `_lines` with lines that each stand for one record, as nearly all do."""
+        self.records += len(lines)
+        on_paths = [line for line, to_do in zip(lines, to_dos) if to_do & _ON_PATH]
+        others = [line for line in on_paths if not line.endswith(LET_THROUGH)]
+        self.path_calls += len(on_paths) - len(others) + sum(map(_asked, others))
+        differ, processes, behind = list(map(self._differs, answers)), self._processes, 0
+        told = [index for index, to_do in enumerate(to_dos) if differ[index] or to_do >= _RULE]
+        for index in (*told, len(lines)):
+            for between in range(behind, index) if processes.watched else ():
+                if to_dos[between] & _OPENS_NUMBER and processes.watched:
+                    yield first + between, lines[between], to_dos[between], answers[between], False
+            if index < len(lines):
+                yield first + index, lines[index], to_dos[index], answers[index], differ[index]
+            behind = index + 1
+
+    def _with_care(self, number: int, line: bytes, to_do: int, answer: bytes) -> Iterator[_Said]:
         """Does as `_lines` with a line that may be blank, written again, in doubt, or stand for several records."""
         if to_do == _ODD:
             if not line.strip(jsonl.BLANKS):
                 return
             to_do = _OTHERWISE if OTHERWISE in line and UNKNOWN in line else _READ
+        differs = self._differs(answer)
         said = number, line, to_do, answer, differs
         if to_do != _OTHERWISE:
             yield from self._united()
@@ -305,24 +344,18 @@ class Walk:
         """Whether the report leaves a record out."""
         return not self._whole and not answer
 
-    def _told(self, said: _Said, record: Record, standing: _Standing) -> Told:
-        number, _, _, _, differs = said
-        found = reports.not_allowed(self._members(said)[3]) if differs else ()
-        asked = record["op"] in PATH_CALLS and record.get("kernel") in ASKED_LANDLOCK
-        program, missed, confined = standing
-        return Told(number, record, found, program, asked, missed, confined)
-
     def _taken_apart(self, said: _Said) -> Told:
         """Decodes a record and its answer, and follows what they change."""
         record, processes = self._record(said), self._processes
         pid, fd = record["pid"], record.get("fd")
         missed = processes.missed(pid, fd) if isinstance(fd, int) else NOWHERE
-        told = self._told(said, record, (processes.program(pid), missed, processes.confined(pid)))
+        answers = self._members(said)[3] if said[-1] else b""
+        told = _told(said[0], record, answers, (processes.program(pid), missed, processes.confined(pid)))
         not_allowed = frozenset(abi for abis, _ in told.answered for abi in abis) if self._whole else NOWHERE
         processes.follow(told.line, record, not_allowed)
         return told
 
-    def _kind(self, said: _Said) -> _Kind | None:
+    def _kind(self, said: _Said) -> Alike | None:
         """Follows what a record changes, and gives its kind if a summary counts it."""
         _, line, to_do, _, differs = said
         members = self._members(said)
@@ -336,8 +369,30 @@ class Walk:
             self.path_calls += told.times if told.asked and to_do == _READ else 0
             counts = counts or "policy" in told.record
             standing = told.program, told.missed, told.confined
+        if not counts:
+            return None
         own = OWN_OF_OPENING if members[2] == _OPEN else OWN
-        return (standing, own.sub(b"", line), members[3]) if counts else None
+        return Alike(standing, own.sub(b"", line), self._without_lines(members[3]) if differs else b"")
+
+    def _without_lines(self, answers: bytes) -> bytes:
+        """Answers that say the same without the trace: see `Alike`."""
+        if _WHERE_OPENED in answers:
+            answers = _OPENED.sub(self._with_path, answers)
+        return _OF_LAYER.sub(self._of_policy, answers)
+
+    def _of_policy(self, line: re.Match[bytes]) -> bytes:
+        number = self._processes.policy_of(int(line[1]))
+        return b'"policy":null' if number is None else b'"policy":%d' % number
+
+    def _with_path(self, opened: re.Match[bytes]) -> bytes:
+        """The line of the record that opened a file, with the path to show for the file."""
+        line = int(opened[1])
+        if line not in self._paths:
+            with open(self.files[0], "rb") as trace:
+                trace.seek(self._offsets[line - 1])
+                path = shown(jsonl.read(self.files[0], line, trace.readline()), "path")
+            self._paths[line] = b"" if path is None else b',"shown":' + json.dumps(path).encode()
+        return opened[0] + self._paths[line]
 
     def _follow_opening(self, said: _Said, members: list[bytes]) -> None:
         """Follows the opening of a number that may have been missed."""
@@ -365,12 +420,16 @@ class Walk:
                 return None
             missed = processes.missed(pid, int(found[1]))
             if op == _OPEN:
-                processes.miss(pid, int(found[1]), reports.abis_of_others(answers) if differs else NOWHERE)
+                processes.miss(pid, int(found[1]), self._abis_of_others(answers) if differs else NOWHERE)
             elif op == _DUP:
                 processes.miss(pid, int(found[2]), missed)
             elif op == _CLOSE or op == _ADOPT:
                 processes.miss(pid, int(found[1]), NOWHERE)
         return processes.program(pid), missed, processes.confined(pid)
+
+    def _abis_of_others(self, answers: bytes) -> frozenset[int]:
+        """The ABIs that do not allow a record; most records get one answer by all ABIs."""
+        return self._all if answers.startswith(self._by_all) else reports.abis_of_others(answers)
 
     def _changes(self, line: bytes, pid: int) -> bool:
         """Follows what a record changes, if it is a frequent one and is written as landaudit-record writes it."""

@@ -8,10 +8,11 @@ from __future__ import annotations
 
 import json
 import re
-from collections.abc import Iterator, Mapping, Sequence
-from contextlib import contextmanager
+from collections.abc import Callable, Iterator, Mapping, Sequence
+from dataclasses import dataclass
 from functools import lru_cache
 from pathlib import Path
+from types import TracebackType
 from typing import Any, BinaryIO, NamedTuple
 
 from ..common.problems import Problem
@@ -38,13 +39,16 @@ from .answers import (
 
 #: How the last line begins.
 LAST = b'{"totals":'
-_BEGINS = b'{"line":'
+_BEGINS, _PID = b'{"line":', b'"pid":'
 _VERDICT = b'"answer":"%b"'
 #: How the line of a record ends that a single ABI allows, and what is in the line of one that it refuses.
 ENDS_ALLOWED, HAS_REFUSED = _VERDICT % ALLOWED.encode() + b"}]}\n", _VERDICT % REFUSED.encode()
 _ANSWER = re.compile(rb'"abi":\[([0-9]+),([0-9]+)\],"answer":"([a-z]+)"')
 _ALLOWED = ALLOWED.encode()
 _PLAIN = Answer(ALLOWED)
+#: How the rest of a line begins that has the answers.
+_ANSWERS = '"answers":'
+_decoded = json.JSONDecoder().raw_decode
 
 
 class Row(NamedTuple):
@@ -60,9 +64,17 @@ def head(line: int, pid: int) -> bytes:
     return b'{"line":%d,"pid":%d,' % (line, pid)
 
 
-def allowed_by_all(abis: range) -> bytes:
-    """How the line of a record ends that all ABIs of a range allow."""
-    return b'"answers":[{"abi":[%d,%d],' % (abis[0], abis[-1]) + ENDS_ALLOWED
+def by_all(abis: range) -> bytes:
+    """How the answers to a record begin that all ABIs of a range answer alike."""
+    return b'"answers":[{"abi":[%d,%d],' % (abis[0], abis[-1])
+
+
+def differing(abis: range, *, only_refused: bool) -> Callable[[bytes], bool]:
+    """Whether the line of a record says that some ABI of a range does not allow it; a report of refused records alone
+    has no other lines.
+    """
+    allowed = by_all(abis) + ENDS_ALLOWED
+    return (lambda line: line != b"") if only_refused else (lambda line: not line.endswith(allowed))
 
 
 def split(line: bytes) -> list[bytes]:
@@ -97,9 +109,9 @@ def rows(report: Path, abi: int) -> Iterator[Row]:
         for line in lines:
             if line.startswith(LAST):
                 return
-            with _reading(line):
-                said = json.loads(line)
-                yield Row(said["line"], said["pid"], _at(abi, said["answers"]))
+            with _Reading(line):
+                number, pid, _, answers = split(line)
+                yield Row(int(number.removeprefix(_BEGINS)), int(pid.removeprefix(_PID)), _at(abi, answers))
 
 
 def united(lines: Sequence[bytes], abis: range) -> tuple[list[bytes], frozenset[int]]:
@@ -109,7 +121,7 @@ def united(lines: Sequence[bytes], abis: range) -> tuple[list[bytes], frozenset[
     If all of them are refused at an ABI, so is the record. If only some are, these are `unsure` there, and the others
     say nothing. A line that the report leaves out is empty.
     """
-    with _reading(b"".join(lines)):
+    with _Reading(b"".join(lines)):
         read = [json.loads(line) if line else None for line in lines]
         by_abi = [{abi: said for said in one["answers"] for abi in _abis(said)} if one else {} for one in read]
     unsure: set[int] = set()
@@ -142,14 +154,14 @@ def numbers(report: Path) -> Iterator[int]:
     with open(report, "rb") as lines:
         for line in lines:
             if not line.startswith(LAST):
-                with _reading(line):
+                with _Reading(line):
                     yield int(json.loads(line)["line"])
 
 
 def not_allowed(answers: bytes) -> tuple[Answered, ...]:
     """The answers that are not `allowed`, each with the ABIs that give it; from the rest of a line that has them."""
-    with _reading(answers):
-        return tuple((tuple(_abis(said)), _answer(said)) for said in _members(answers) if said["answer"] != ALLOWED)
+    with _Reading(answers):
+        return tuple([(_each(*said["abi"]), _answer(said)) for said in _members(answers) if said["answer"] != ALLOWED])
 
 
 def abis_of_others(answers: bytes) -> frozenset[int]:
@@ -178,25 +190,33 @@ def verdicts(report: Path) -> Iterator[Mapping[str, frozenset[int]]]:
 def abis_by_verdict(answers: bytes) -> Mapping[str, frozenset[int]]:
     """The ABIs that give each answer, whatever their reasons are; from the rest of a line that has the answers."""
     found: dict[str, frozenset[int]] = {verdict: frozenset() for verdict in (ALLOWED, MOOT, REFUSED)}
-    with _reading(answers):
+    with _Reading(answers):
         for said in _members(answers):
             found[said["answer"]] = found.get(said["answer"], frozenset()) | frozenset(_abis(said))
     return found
 
 
-@contextmanager
-def _reading(line: bytes) -> Iterator[None]:
+@dataclass(slots=True)
+class _Reading:
     """What landaudit does not write is a Problem."""
-    try:
-        yield
-    except (ValueError, LookupError, TypeError) as error:
-        shown = repr(line.decode(errors="replace").strip())
-        raise Problem(f"landaudit's report can't be read at {shown}: use programs of one version") from error
+
+    line: bytes
+
+    def __enter__(self) -> None:
+        """Nothing is to be done before a line is read."""
+
+    def __exit__(self, kind: type[BaseException] | None, error: BaseException | None, at: TracebackType | None) -> None:
+        if isinstance(error, (ValueError, LookupError, TypeError)):
+            shown = repr(self.line.decode(errors="replace").strip())
+            raise Problem(f"landaudit's report can't be read at {shown}: use programs of one version") from error
 
 
 def _members(answers: bytes) -> list[Any]:
     """The objects of the answers, from the rest of a line, which also ends the line's object."""
-    found: list[Any] = json.loads(b"{" + answers)["answers"]
+    text = answers.decode(errors="surrogatepass")
+    found, end = _decoded(text, len(_ANSWERS))
+    if not text.startswith(_ANSWERS) or text[end:].rstrip() != "}" or not isinstance(found, list):
+        raise ValueError("no answers")
     return found
 
 
@@ -205,9 +225,16 @@ def _abis(said: Mapping[str, Any]) -> range:
     return range(oldest, newest + 1)
 
 
-def _at(abi: int, answers: list[Any]) -> Answer:
-    """What an ABI answers."""
-    for said in answers:
+@lru_cache(256)
+def _each(oldest: int, newest: int) -> tuple[int, ...]:
+    """All ABIs from one to another, as one value however many answers have them."""
+    return tuple(range(oldest, newest + 1))
+
+
+@lru_cache(1_024)
+def _at(abi: int, answers: bytes) -> Answer:
+    """What an ABI answers, from the rest of a line that has the answers."""
+    for said in _members(answers):
         if abi in _abis(said):
             return _answer(said)
     raise LookupError(abi)
@@ -215,27 +242,28 @@ def _at(abi: int, answers: list[Any]) -> Answer:
 
 def _answer(said: Mapping[str, Any]) -> Answer:
     """An answer, from its object."""
-    match said:
-        case {"answer": "allowed"}:
-            return _PLAIN
-        case {"answer": "moot"}:
-            return Answer(MOOT, why=_reason(said["why"]) if "why" in said else None)
-        case {"answer": "refused" | "unsure" as verdict, "error": str(error), "layers": [*layers]}:
-            why = _condition(said["why"]) if "why" in said else None
-            return Answer(verdict, error, tuple(map(_layer, layers)), why)
-    raise ValueError("no answer")
+    verdict = said["answer"]
+    if verdict == ALLOWED:
+        return _PLAIN
+    if verdict == MOOT:
+        return Answer(MOOT, why=_reason(said["why"]) if "why" in said else None)
+    if verdict not in (REFUSED, UNSURE) or type(said["error"]) is not str:
+        raise ValueError("no answer")
+    why = _condition(said["why"]) if "why" in said else None
+    return Answer(verdict, said["error"], tuple(map(_layer, said["layers"])), why)
 
 
 def _layer(said: Mapping[str, Any]) -> Refusing:
     """A layer that refuses, with all that it objects to if landaudit was asked why."""
-    return Refusing(said["layer"], said.get("line"), tuple(map(_objection, said.get("objections", ()))))
+    objections = tuple(map(_objection, said.get("objections", ())))
+    return Refusing(said["layer"], said.get("line"), objections, said.get("policy"))
 
 
 def _objection(said: Mapping[str, Any]) -> Objection:
     """What a layer objects to, from its object."""
     match said:
         case {"missing": [str(right)], "on": str(path), "opened": int(line)}:
-            return Kept((right,), path, line)
+            return Kept((right,), str(said.get("shown", path)), line)
         case {"missing": [*rights], "on": str(path)}:
             return Missing(tuple(rights), path)
         case {"closed": [*rights], "port": int(port)}:

@@ -6,17 +6,18 @@ into one that reaches what `sensitive` warns of only where no other rules can be
 
 from __future__ import annotations
 
+from bisect import bisect_left, insort
 from collections import Counter, defaultdict
-from collections.abc import Iterator, Mapping
-from dataclasses import dataclass
+from collections.abc import Iterator
+from dataclasses import dataclass, field
 from itertools import combinations_with_replacement
 
 from ..common.rights import FS, NET, NONE, Rights
-from ..common.trees import directory_of, upwards
+from ..common.trees import upwards
 from ..common.wording import counted, some_of
 from ..policy import sensitive
 from . import missing_rights
-from .missing_rights import OnPaths, SuggestedRule, Wanted
+from .missing_rights import CallsByRight, OnPaths, SuggestedRule, Wanted
 from .objects import UNCOUNTED, CountedObjects, kind_of
 from .remarks import Remark, RemarkKind
 
@@ -26,89 +27,136 @@ _CALLED = {"files": "file", "directories": "directory", "devices": "device"}
 
 @dataclass(frozen=True)
 class _Merger:
-    """Rights on a directory instead of rules under it: how many rules fewer, and what more is granted.
-
-    `replaced` are the rules that have some of the rights, with their own.
-    """
+    """Rights on a directory instead of rules under it: how many rules fewer, and what more is granted."""
 
     directory: str
     rights: Rights
     fewer: int
     cost: int
-    replaced: Mapping[str, Rights]
 
-    def reaches_secrets(self) -> bool:
-        """Whether there is a warning on it that is on none of the rules that it replaces."""
-        before = {text for place, rights in self.replaced.items() for text in sensitive.warnings(place, rights)}
-        return bool(set(sensitive.warnings(self.directory, self.rights)) - before)
+
+@dataclass(slots=True)
+class _Beneath:
+    """The rules on a directory and beneath it: their places by their rights, in order; on how many objects each right
+    is granted; and how many rules are beneath each name in the directory.
+    """
+
+    places: dict[Rights, list[str]] = field(default_factory=dict)
+    covered: Counter[str] = field(default_factory=Counter)
+    branches: Counter[str] = field(default_factory=Counter)
 
 
 def rules(wanted: Wanted, objects: CountedObjects, most: int) -> list[SuggestedRule]:
     """At most a number of rules that grant what is lacking, or as few as there can be."""
     exact = missing_rights.narrowed(wanted.paths)
     ports = _port_rules(wanted, most - len(exact))
-    paths, room = exact, max(most - len(ports), 1)
-    while len(paths) > room:
-        paths = _merged(paths, _cheapest(paths, objects, len(paths) - room))
+    joining, room = _Joining(exact, objects), max(most - len(ports), 1)
+    while len(joining.paths) > room:
+        joining.join(joining.cheapest(len(joining.paths) - room))
     found = [
         SuggestedRule(place, rights, missing_rights.asking(lacking), more(place, rights, exact, objects))
-        for place, lacking in paths.items()
+        for place, lacking in sorted(joining.paths.items())
         for rights in (frozenset(lacking),)
     ]
     return missing_rights.remarked([*found, *ports], wanted.spots)
 
 
-def _merged(paths: OnPaths, merger: _Merger) -> OnPaths:
-    """The rules, with some of their rights moved to a directory."""
-    found: OnPaths = {}
-    for place, rights in paths.items():
-        beneath = merger.directory in upwards(place)
-        for right, calls in rights.items():
-            there = merger.directory if beneath and right in merger.rights else place
-            missing_rights.unite(found, {there: {right: calls}})
-    return missing_rights.narrowed(found)
+class _Joining:
+    """Rules, of which no two grant a right on paths above one another; some are joined into one, again and again.
 
-
-def _cheapest(paths: OnPaths, objects: CountedObjects, excess: int) -> _Merger:
-    """The merger that grants least for each rule that it saves; rules saved beyond the excess do not count.
-
-    One that reaches secrets is taken only if all do.
+    What is known of each directory is kept, and computed again when rules beneath it have changed.
     """
-    under: dict[str, list[str]] = defaultdict(list)
-    for place in paths:
+
+    def __init__(self, exact: OnPaths, objects: CountedObjects) -> None:
+        self._objects = objects
+        self.paths: OnPaths = {}
+        self._beneath: defaultdict[str, _Beneath] = defaultdict(_Beneath)
+        self._mergers: dict[str, list[_Merger]] = {}
+        self._changed: set[str] = set()
+        for place, rights in exact.items():
+            self._put(place, rights)
+
+    def join(self, merger: _Merger) -> None:
+        """Moves rights of the rules beneath a directory to a rule on it."""
+        moved: CallsByRight = {}
+        for place in self._replaced(merger):
+            rights = self._take(place)
+            for right in merger.rights & rights.keys():
+                moved.setdefault(right, set()).update(rights[right])
+            self._put(place, {right: calls for right, calls in rights.items() if right not in merger.rights})
+        self._put(merger.directory, {**self._take(merger.directory), **moved})
+
+    def cheapest(self, excess: int) -> _Merger:
+        """The merger that grants least for each rule that it saves; rules saved beyond the excess do not count.
+
+        One that reaches secrets is taken only if all do.
+        """
+        self._mergers.update((directory, list(self._of(directory))) for directory in self._changed)
+        self._changed.clear()
+        ordered = sorted(
+            (it for some in self._mergers.values() for it in some),
+            key=lambda it: (it.cost / min(it.fewer, excess), -len(it.directory), it.directory, it.cost),
+        )
+        return next((it for it in ordered if not self._reaches_secrets(it)), ordered[0])
+
+    def _of(self, directory: str) -> Iterator[_Merger]:
+        """The rights that can move to a directory: those that two of the rules under it have in common."""
+        beneath = self._beneath[directory]
+        if directory not in self.paths and len(beneath.branches) < 2:
+            return
+        above: Rights = NONE.union(*(self.paths.get(over, ()) for over in list(upwards(directory))[1:]))
+        new = self._objects.under(directory)
+        in_order = sorted(beneath.places, key=lambda rights: beneath.places[rights][0])
+        for one, other in combinations_with_replacement(in_order, 2):
+            rights = one | other
+            fewer = sum(len(places) for some, places in beneath.places.items() if some <= rights) - 1
+            if fewer > 0:
+                cost = sum(max(new.of(right) - beneath.covered[right], 0) for right in rights - above)
+                yield _Merger(directory, rights, fewer, cost)
+
+    def _replaced(self, merger: _Merger) -> list[str]:
+        """The places of the rules beneath a directory that have some of the rights."""
+        beneath = self._beneath[merger.directory].places
+        return [place for rights, places in beneath.items() if rights & merger.rights for place in places]
+
+    def _reaches_secrets(self, merger: _Merger) -> bool:
+        """Whether there is a warning on a merger that is on none of the rules that it replaces."""
+        found = set(sensitive.warnings(merger.directory, merger.rights))
+        for place in self._replaced(merger) if found else ():
+            found.difference_update(sensitive.warnings(place, frozenset(self.paths[place])))
+        return bool(found)
+
+    def _put(self, place: str, rights: CallsByRight) -> None:
+        """Adds a rule, unless it has no rights."""
+        if rights:
+            self.paths[place] = rights
+            for beneath, name in self._above(place):
+                insort(beneath.places.setdefault(frozenset(rights), []), place)
+                beneath.covered.update({right: self._objects.under(place).of(right) for right in rights})
+                beneath.branches.update([name] if name else [])
+
+    def _take(self, place: str) -> CallsByRight:
+        """Takes a rule away, if there is one."""
+        rights = self.paths.pop(place, {})
+        for beneath, name in self._above(place) if rights else ():
+            places = beneath.places[frozenset(rights)]
+            del places[bisect_left(places, place)]
+            if not places:
+                del beneath.places[frozenset(rights)]
+            beneath.covered.subtract({right: self._objects.under(place).of(right) for right in rights})
+            beneath.branches.subtract([name] if name else [])
+            if not beneath.branches[name]:
+                del beneath.branches[name]
+        return rights
+
+    def _above(self, place: str) -> Iterator[tuple[_Beneath, str]]:
+        """What is known of a place and of each directory above it, which changes, with the name there that leads to it.
+        """
+        name = ""
         for over in upwards(place):
-            under[over].append(place)
-    mergers = (it for directory, places in under.items() if len(places) > 1
-               for it in _mergers(directory, places, paths, objects))
-    ordered = sorted(
-        mergers, key=lambda it: (it.cost / min(it.fewer, excess), -len(it.directory), it.directory, it.cost)
-    )
-    return next((it for it in ordered if not it.reaches_secrets()), ordered[0])
-
-
-def _mergers(directory: str, places: list[str], paths: OnPaths, objects: CountedObjects) -> Iterator[_Merger]:
-    """The rights that can move to a directory: those that two of the rules under it have in common."""
-    if directory not in paths and len({_branch(directory, place) for place in places}) == 1:
-        return
-    sets = Counter(frozenset(paths[place]) for place in places)
-    covered: Counter[str] = Counter()
-    for place in places:
-        for right in paths[place]:
-            covered[right] += objects.under(place).of(right)
-    above: Rights = NONE.union(*(paths.get(over, ()) for over in list(upwards(directory))[1:]))
-    for one, other in combinations_with_replacement(sets, 2):
-        rights = one | other
-        fewer = sum(times for some, times in sets.items() if some <= rights) - 1
-        if fewer > 0:
-            new = objects.under(directory)
-            cost = sum(max(new.of(right) - covered[right], 0) for right in rights - above)
-            replaced = {place: frozenset(paths[place]) for place in places if rights & paths[place].keys()}
-            yield _Merger(directory, rights, fewer, cost, replaced)
-
-
-def _branch(directory: str, place: str) -> str:
-    """The path directly beneath a directory on the way to a place."""
-    return next(over for over in upwards(place) if directory_of(over) == directory)
+            self._changed.add(over)
+            yield self._beneath[over], name
+            name = over
 
 
 def more(place: str, rights: Rights, exact: OnPaths, objects: CountedObjects) -> tuple[Remark, ...]:

@@ -11,9 +11,11 @@ granted: nothing that follows depends on such a call.
 
 from __future__ import annotations
 
+import json
 from collections import Counter
 from collections.abc import Iterator, Mapping
 from dataclasses import dataclass, field
+from functools import lru_cache
 from pathlib import Path
 from typing import Any, NamedTuple
 
@@ -21,7 +23,7 @@ from ..common import jsonl
 from ..common.jsonl import Record
 from ..common.operations import DESCRIPTOR_CALLS, JUDGED, OPERATIONS
 from ..common.problems import Problem
-from ..common.trace_lines import OF_PROCESS, OWN, body
+from ..common.trace_lines import ENDS, OF_PROCESS, OWN, body
 from ..engine import reports
 from ..engine.processes import of_policy
 
@@ -80,7 +82,6 @@ class Distilling:
     def __init__(self) -> None:
         self.questions: Counter[LayeredCall] = Counter()
         self._by_pid: dict[int, _AskingProcess] = {}
-        self._decoded: dict[bytes, Record] = {}
 
     def follow(self, trace: Path, report: Path) -> None:
         """Reads a trace with a report on one ABI without explanations. What is refused or moot changes nothing."""
@@ -106,13 +107,10 @@ class Distilling:
         if pid is None:
             record = jsonl.read(trace, number, line)
             return record["pid"], record
-        kind = OWN.sub(b"", line)
-        known = self._decoded.get(kind)
-        if known is None:
-            if len(self._decoded) == MOST_DECODED:
-                self._decoded.clear()
-            known = self._decoded[kind] = jsonl.read(trace, number, line)
-        return int(pid[1]), known
+        try:
+            return int(pid[1]), _decoded(OWN.sub(b"", line))
+        except ValueError:
+            return int(pid[1]), jsonl.read(trace, number, line)
 
     def _take(self, pid: int, record: Record) -> None:
         """Reads a record of a process that is allowed."""
@@ -164,6 +162,13 @@ class Distilling:
                 process.domain = (*process.domain, process.rulesets[record["rs"]].layer)
             case "close_rs":
                 process.rulesets.pop(record["rs"], None)
+
+
+@lru_cache(MOST_DECODED)
+def _decoded(members: bytes) -> Record:
+    """A record without its process and the number of its call. It is not changed."""
+    found: Record = json.loads(ENDS.sub(b"}", members).decode())
+    return found
 
 
 def _refused(record: Record, origin: Mapping[str, Any]) -> Problem:

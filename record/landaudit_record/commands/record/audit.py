@@ -5,7 +5,6 @@ from __future__ import annotations
 import argparse
 import sys
 from collections.abc import Iterator, Sequence
-from functools import partial
 from pathlib import Path
 from typing import Any
 
@@ -19,7 +18,7 @@ from ...common.problems import NOT_ALL_JUDGED, USAGE, Problem
 from ...common.rights import ABI_OF_SCOPES, LATEST_ABI, NEWEST_ABI, OLDEST_ABI, judged
 from ...engine import landaudit
 from ...engine.answers import Scoped, Tracing
-from ...engine.reading import Walk
+from ...engine.reading import Counted
 from ...policy import policies
 from ...summaries import page, reporting, summary_text, tree_text
 from ...summaries.reporting import JSON, TEXT
@@ -142,29 +141,23 @@ def _summaries(member: Member, auditing: Auditing, abis: range) -> list[Summary]
     """Audits one recording. landaudit runs once for all ABIs that are judged with one trace; the newest comes last."""
     tried, asked = member.tried, judged(abis)
     steps = [asked] if tried is None else tried.steps(asked, best_effort=auditing.best_effort)
-    by_part = (part for step in steps for part in _by_part(auditing, tried, step, asked))
-    found = next(by_part)
-    for part in by_part:
-        found.add(part)
+    found = Summaries(asked, tried=tried is not None)
+    for step in steps:
+        found.take(_by_part(auditing, tried, step), step)
     done = found.done(member.recording.unsaid, member.recording.missing, list(member.recording.notes))
     summaries = by_abi.of_range(done, abis)
     reaching.tell(summaries, member.recording, tried, best_effort=auditing.best_effort)
     return summaries
 
 
-def _by_part(auditing: Auditing, tried: TriedPolicy | None, step: range, abis: range) -> Iterator[Summaries]:
+def _by_part(auditing: Auditing, tried: TriedPolicy | None, step: range) -> Iterator[Counted]:
     """What some of the ABIs answer to each part. Parts are counted by processes of their own, while landaudit judges
     the next ones.
     """
-    def counted(walk: Walk) -> Summaries:
-        found = Summaries(abis, tried=tried is not None)
-        found.take(walk, step)
-        return found
-
     walks = auditing.walks(step, tried)
     if len(auditing.recording.parts) > 1 and landaudit.workers() > 1:
-        return apart.each((partial(counted, walk) for walk in walks), landaudit.workers())
-    return map(counted, walks)
+        return apart.each((walk.counted for walk in walks), landaudit.workers())
+    return (walk.counted() for walk in walks)
 
 
 def _print(
@@ -177,7 +170,8 @@ def _print(
         return
     note(notes)
     if arguments.format == JSON:
-        print(json_text.indented(_data(each, summaries, arguments)))
+        sys.stdout.writelines(json_text.pieces(_data(each, summaries, arguments)))
+        print()
         return
     suggesting = _suggesting(arguments, summaries[-1].abi) if arguments.policy else []
     tried = together.tried_of([member for member, _ in each])

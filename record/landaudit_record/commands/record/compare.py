@@ -76,7 +76,8 @@ def _differences(
     for part in recording.parts:
         landaudit.audit(program, alone(abi), part.tree, part.trace, report, best_effort=False, explain=False)
         calls = judged_calls(judged(part.trace, report, abi), abi)
-        yield from comparing.compare((replace(call, own=own.get(call.number)) for call in calls), classes, tally)
+        known = (replace(call, own=own[call.number]) if call.number in own else call for call in calls)
+        yield from comparing.compare(known, classes, tally)
 
 
 def _keep(differences: Iterable[Difference], file: Path | None) -> None:
