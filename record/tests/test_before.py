@@ -101,7 +101,7 @@ class Gone(WrittenLogs):
 class Mounts(WrittenLogs):
     mounts = TWICE
     disk = [*DISK, {"path": "/b", "kind": "dir"}, {"path": "/b/in", "kind": "reg"}, {"path": "/w/d/in", "kind": "reg"},
-            {"path": "/m", "kind": "dir"}]
+            {"path": "/m", "kind": "dir"}, {"path": "/proc", "kind": "dir"}, {"path": "/proc/self/fd", "kind": "dir"}]
 
     def test_a_move_within_a_mount_is_asked_about_before_the_file_system_can_say_that_it_can_not(self) -> None:
         moves = f'rename("f", "d/f") = {EXDEV}', f'rename("d", "e") = {EXDEV}'
@@ -118,6 +118,36 @@ class Mounts(WrittenLogs):
         tree = (self.out / "tree.jsonl").read_text()
         for line in ('"path":"/w/d/in","kind":"reg","same":"/b/in"', '"path":"/w/d","kind":"dir","same":"/b"'):
             self.assertIn(f"{{{line}}}", tree)
+
+
+    def test_a_descriptor_leads_to_the_mount_by_which_it_was_opened(self) -> None:
+        trace = self.convert(
+            f'openat({CWD}, "/b", 0x200000 /* O_RDONLY|O_PATH */) = 3</b>',
+            f'openat({CWD}, "/w/d/in", 0 /* O_RDONLY */) = 4</w/d/in>',
+            'mkdir("/proc/self/fd/3/new", 0755) = 0',
+            'truncate("/proc/self/fd/3/in", 0) = 0',
+        )
+        self.assertEqual([path for (path,) in told(trace, "path") if path][-2:], ["/b/new~new~", "/b/in"])
+
+
+class SplitLinks(WrittenLogs):
+    """Two names of one inode's number, where a rule on the one is not on the other: so Linux 6.18 answered."""
+
+    disk = [*DISK, {"path": "/m", "kind": "dir"},
+            *({"path": f"/m/{name}", "kind": "reg", "inode": "0:9:7"} for name in ("a", "b"))]
+
+    def same(self, kind: str) -> str | None:
+        """The name of what the second name is another name of, on a file system of a type."""
+        self.mounts = [["/", "8:1", "/", "ext4"], ["/m", "0:9", "/", kind]]
+        self.convert(*(f'openat({CWD}, "{path}", 0 /* O_RDONLY */) = 3<{path}>' for path in ("/m/a", "/m/b")))
+        return next(line.get("same") for _, line in numbered(self.out / "tree.jsonl") if line["path"] == "/m/b")
+
+    def test_names_of_one_object(self) -> None:
+        self.assertEqual(self.same("ext4"), "/m/a")
+
+    def test_names_of_objects_apart(self) -> None:
+        for kind in ("overlay", "fuse", "fuse.bindfs"):
+            self.assertIsNone(self.same(kind))
 
 
 class OtherProc(WrittenLogs):
@@ -150,6 +180,7 @@ class SeveralPaths(unittest.TestCase):
     def test_a_directory_with_a_mount_below_it_is_not_the_same_everywhere(self) -> None:
         places = MountPlaces([*TWICE, ["/w/d/in", "8:3", "/", "xfs"]])
         self.assertEqual((places.others("/b"), places.others("/b/in"), places.others("/b/x")), ([], [], ["/w/d/x"]))
+        self.assertEqual((places.shown_at("/b"), places.shown_at("/b/in"), places.shown_at("/")), (["/w/d"], [], []))
 
     def test_a_directory_that_is_mounted_in_itself(self) -> None:
         places = MountPlaces([["/", "8:1", "/", "ext4"], ["/w/d", "8:1", "/w", "ext4"]])

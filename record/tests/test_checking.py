@@ -9,11 +9,14 @@ import sys
 import tempfile
 import unittest
 from pathlib import Path
+from unittest import mock
 
 from landaudit_record import cli
 from landaudit_record.common import tap
 from landaudit_record.common.problems import NOT_ALL_JUDGED
 from landaudit_record.engine.landaudit import BUILT
+from landaudit_record.policy import parents
+from landaudit_record.recorder.mounted import MountPlaces
 
 from . import random_checks, random_questions
 from .calling import called
@@ -288,6 +291,20 @@ class Checking(unittest.TestCase):
         status, _, said = self.checked(nothing.format(""), policy)
         self.assertEqual(status, NOT_ALL_JUDGED)
         self.assertIn("NOT ALL IS ASKED: @/open/file has other names (hard links)", said)
+
+    def test_a_rule_on_what_is_mounted_elsewhere_too(self) -> None:
+        """A directory and a file in it have other paths by a bind mount, and the rule is on them there (Linux 6.18)."""
+        top = self.folder.resolve()
+        twice = [["/", "8:1", "/", "ext4"], [f"{top}/closed", "8:1", f"{top}/open", "ext4"]]
+        nothing, only = (f'[[{kind}]]\nrights = ["read_file"]\nunder = "@/{under}"\n'
+                         for kind, under in (("nothing", "closed"), ("only", "open")))
+        here = POLICY.replace('["@/open", "/nowhere"]', '"@/open"')
+        on_file = here.replace('"@/open"', '"@/open/file"').replace('["read"]', '["read_file"]')
+        with mock.patch.object(parents, "_places", lambda: MountPlaces(twice)):
+            status, lines = self.question(nothing, on_file)
+            self.assertEqual((status, lines[2]), (1, '- "read_file on @/closed/file as a file"'))
+            self.assertEqual(self.question(only, here)[1][2], '- "read_file under @/closed"')
+        self.assertEqual((self.question(nothing, on_file)[0], self.question(only, here)[0]), (0, 0))
 
     def test_cases_and_questions(self) -> None:
         status, lines, _ = self.checked('[[never]]\nboth = ["truncate", "execute"]\nabi = 5\n[[refused]]\ncall = "mount"\n')

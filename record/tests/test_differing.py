@@ -11,8 +11,9 @@ from unittest import mock
 from landaudit_record import cli
 from landaudit_record.engine import asking
 from landaudit_record.engine.landaudit import BUILT
-from landaudit_record.policy import moving, policies
+from landaudit_record.policy import moving, parents, policies
 from landaudit_record.policy.regions import RULED_KINDS, Region, Regions, areas, as_named
+from landaudit_record.recorder.mounted import MountPlaces
 
 from . import brute, covering
 from .calling import InFolder, called
@@ -257,6 +258,14 @@ class Differing(InFolder):
         self.assertEqual(self.said(self.linked("f"), self.linked("f"))[::2], (5, told))
         self.assertEqual(self.said(self.linked("f"), self.linked("folder"))[::2], (1, told))
         self.assertEqual(self.said(self.linked("folder"), self.linked("folder"))[::2], (0, ""))
+
+    def test_a_file_whose_names_may_be_objects_apart(self) -> None:
+        """On an overlayfs without an index (Linux 6.18), a rule on one hard link is not on the other."""
+        (self.folder / "f").write_text("")
+        (self.folder / "g").hardlink_to(self.folder / "f")
+        for kind, status in (("ext4", 0), ("overlay", 1), ("fuse.bindfs", 1)):
+            with mock.patch.object(parents, "_places", lambda: MountPlaces([["/", "0:9", "/", kind]])):
+                self.assertEqual(self.said(self.linked("f"), self.linked("g"))[0], status, kind)
 
     def test_a_link_across_layers(self) -> None:
         """What the first layer grants, the second does by a link alone."""

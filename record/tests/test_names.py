@@ -36,14 +36,17 @@ def some_path(chance: random.Random) -> str:
 
 
 def change(chance: random.Random) -> Callable[[Names], None]:
-    """Something that a run does to names."""
+    """Something that a run does to names; it moves no directory that is on the disk, where its contents would be looked
+    up at another path then.
+    """
     one, other = (chance.choice(["/w/", "/w/a/", "/usr/", "/usr/lib/"]) + chance.choice(NAMES) for _ in range(2))
     made, target = chance.choice(["dir", "dir", "reg", "sym"]), some_path(chance)
     match chance.randrange(4):
         case 0:
             return lambda names: names.put(one, None)
         case 1:
-            return lambda names: names.exchange(one, other) if not (one + other).count("/w/a") else None
+            stays = (one + other).count("/w/a") or {one, other} & DISK.keys()
+            return lambda names: None if stays else names.exchange(one, other)
         case 2:
             return lambda names: names.move(one, other) if one == "/w/a" and "/w/a/" not in other else None
     return lambda names: names.put(one, Node(made, target if made == "sym" else None))

@@ -148,6 +148,44 @@ class Objects(StraceLines):
         )
         self.assertEqual(found, ["/w/f", "/w/f~new~", "/w/f", "/w/f~2~"])
 
+    def test_a_descriptor_leads_to_the_name_by_which_it_was_opened(self) -> None:
+        """And not to the name that was met last."""
+        by_name = f'openat({CWD}, "hard-1", 0x200000 /* O_RDONLY|O_PATH */) = 3</w/hard-1>'
+        found = self.convert(by_name, reads("hard-2").replace("= 3", "= 4"), 'truncate("/proc/self/fd/3", 0) = 0')
+        self.assertEqual(found[-1]["path"], "/w/hard-1")
+
+    def test_a_descriptor_goes_with_its_name(self) -> None:
+        by_name = f'openat({CWD}, "%s", 0x200000 /* O_RDONLY|O_PATH */) = %d</w/%s>'
+        opened = by_name % ("hard-1", 3, "hard-1"), by_name % ("hard-2", 4, "hard-2"), by_name % ("f", 5, "f")
+        cut = [f'truncate("/proc/self/fd/{number}", 0) = 0' for number in (3, 4, 5)]
+        self.assertEqual(
+            self.paths(*opened, 'rename("hard-1", "d/x") = 0', *cut, op="truncate"), ["/w/d/x", "/w/hard-2", "/w/f"]
+        )
+        exchanged = f'renameat2({CWD}, "hard-2", {CWD}, "f", 0x2 /* RENAME_EXCHANGE */) = 0'
+        found = self.convert(*opened, exchanged, *cut)[-3:]
+        self.assertEqual([one.get("shown", one["path"]) for one in found], ["/w/hard-1", "/w/f", "/w/hard-2"])
+
+    def test_a_descriptor_that_came_from_elsewhere_goes_with_its_name(self) -> None:
+        found = self.paths(
+            "fcntl(5</w/f>, 0 /* F_DUPFD */, 20) = 20</w/f>", 'rename("f", "d/f") = 0',
+            *(f'truncate("/proc/self/fd/{number}", 0) = 0' for number in (5, 20)), op="truncate",
+        )
+        self.assertEqual(found, ["/w/d/f"] * 2)
+
+    def test_a_program_goes_with_its_name(self) -> None:
+        cut = 'truncate("/proc/self/exe", 0) = 0'
+        self.assertEqual(self.paths('rename("p", "d/p") = 0', cut, 'rename("d", "g") = 0', cut, op="truncate"),
+                         ["/w/d/p", "/w/g/p"])
+        self.assertEqual(self.paths('rename("text", "p") = 0', 'rename("p", "q") = 0', cut, op="truncate"), ["/w/p"])
+
+    def test_a_descriptor_of_what_was_replaced_stays(self) -> None:
+        """It leads to the object that has no name any more, also when what replaced it is renamed."""
+        found = self.convert(
+            f'openat({CWD}, "f", 0x200000 /* O_RDONLY|O_PATH */) = 3</w/f>', 'rename("text", "f") = 0',
+            'rename("f", "g") = 0', 'truncate("/proc/self/fd/3", 0) = 0',
+        )
+        self.assertEqual(found[-1]["path"], "/w/f")
+
     def test_a_rule_of_the_program_is_on_all_names_of_its_object(self) -> None:
         rule = "{allowed_access=0x4 /* LANDLOCK_ACCESS_FS_READ_FILE */, parent_fd=4</w/f>}"
         trace = self.convert(

@@ -196,6 +196,26 @@ port = 443
         (layer,) = policies.read(self.policy).layers
         return [(*FS.ordered(rule.allowed_access.rights), *rule.parents) for rule in layer.path_beneath]
 
+    def test_a_file_that_the_run_may_have_used_by_another_name(self) -> None:
+        """The rule is on the file, of which the recording has the other hard link alone."""
+        used, named = (self.folder.resolve() / name for name in ("used", "named"))
+        used.touch()
+        named.hardlink_to(used)
+        folders = [{"path": str(path), "kind": "dir"} for path in [*reversed(used.parents)][1:]]
+        tree = [TREE[0], *folders, {"path": str(used), "kind": "reg"}]
+        one = self.recording("one", tree, [CALLS[0], {"op": "open", "path": str(used), "fd": 3, "mode": "r"}])
+        both = self.recording("both", [*tree, {"path": str(named), "kind": "reg", "same": str(used)}], CALLS[:1])
+        self.policy.write_text(self.rules(('["read_file"]', f'"{named}"')))
+        status, out, errors = self.said(one)
+        self.assertEqual(status, 0, errors)
+        self.assertIn(f'# kept: it is not known whether it is needed\n[[layer.path_beneath]]\nallowed_access = '
+                      f'["read_file"]\nparent = "{named}"', out)
+        self.assertIn(f"{named} has other names (hard links)", errors)
+        self.assertNotIn(str(named), self.said(both)[1])
+        named.unlink()
+        named.touch()
+        self.assertNotIn(str(named), self.said(one)[1])
+
     def test_each_right_on_each_path_is_tried_by_itself(self) -> None:
         """`sort` uses the rights on the first of three directories, fewer on the second, and none on the third."""
         tree = [{"path": path, "kind": "dir"} for path in ("/usr", "/etc", "/home")]

@@ -11,7 +11,7 @@ from landaudit_record.audit.kernel_calls import judged_calls
 from landaudit_record.common import jsonl
 from landaudit_record.common.finished import Finished
 from landaudit_record.engine import reports
-from landaudit_record.engine.answers import ALLOWED, REFUSED, Answer, Refusing
+from landaudit_record.engine.answers import ALLOWED, MOOT, REFUSED, Answer, Refusing
 from landaudit_record.engine.processes import ProcessState
 from landaudit_record.recorder.calls import programs
 from landaudit_record.recorder.names import MADE_OR_THERE, OF_KIND, REPLACED_OR_NOT, UNKNOWN_WAY
@@ -134,6 +134,62 @@ class Others(Unknown):
         kinds = {tree[record["from"]] for record in moves}
         self.assertEqual(kinds, {"reg", "sym", "fifo", "sock", "char", "block"})
 
+    def test_what_was_seen_later_at_the_new_name_tells_the_kind(self) -> None:
+        """That one is what was renamed: so a folder needs `make_dir`, whatever else was there."""
+        for kind in ("dir", "reg", "sym"):
+            disk = [seen("/s/x", None), seen("/s/y", kind)]
+            found = self.run_over(disk, 'rename("/s/x", "/s/y") = 0')
+            self.assertEqual([line.get("unknown") for line in found], [REPLACED_OR_NOT] * 2)
+            kinds = {line["path"]: line["kind"] for _, line in jsonl.numbered(self.out / "tree.jsonl")}
+            self.assertEqual([kinds[line["from"]] for line in found], [kind] * 2)
+        exchanged = f'renameat2({CWD}, "/s/x", {CWD}, "/s/y", 0x2 /* RENAME_EXCHANGE */) = 0'
+        self.run_over([seen("/s/x", "dir"), seen("/s/y", "sym")], exchanged)
+        kinds = {line["path"]: line["kind"] for _, line in jsonl.numbered(self.out / "tree.jsonl")}
+        self.assertEqual((kinds["/s/x"], kinds["/s/y"]), ("sym", "dir"))
+
+    def test_what_was_seen_later_at_the_new_name_may_be_another_object(self) -> None:
+        """Each kind that was renamed, and whether it replaced something: a folder that did not is among them."""
+        disk = [seen("/s/x", None), seen("/s/y", "reg")]
+        found = self.run_over(disk, 'rename("/s/x", "/s/y") = 0', 'unlink("/s/y") = 0', opens("/s/y", MAKES))
+        kinds = {line["path"]: line["kind"] for _, line in jsonl.numbered(self.out / "tree.jsonl")}
+        moves = {(kinds[line["from"]], kinds.get(line["to"])) for line in found if line["op"] == "rename"}
+        self.assertGreaterEqual(moves, {("reg", None), ("sym", None), ("reg", "reg")})
+        found = self.run_over(disk, 'rename("/s/x", "/s/y") = 0', 'rename("/s/y", "/w/d/y") = 0',
+                              'rename("/w/p", "/s/y") = 0', 'rename("/w/d/y", "/w/gone") = 0')
+        kinds = {line["path"]: line["kind"] for _, line in jsonl.numbered(self.out / "tree.jsonl")}
+        moves = {(kinds[line["from"]], kinds.get(line["to"])) for line in found if line["call"] == FIRST}
+        self.assertGreaterEqual(moves, {("dir", None), ("dir", "dir"), ("reg", None), ("reg", "reg")})
+
+    def test_a_folder_by_what_is_in_it_later(self) -> None:
+        """So a rule on it stays with it."""
+        disk = [seen("/s/x", "dir", None, new=True), seen("/s/y", None)]
+        calls = ('rename("/s/x", "/s/y") = 0', 'mkdir("/s/x", 0755) = 0', opens("/s/y/f", "0x1 /* O_WRONLY */"))
+        found = self.run_over(disk, *calls)
+        self.assertNotIn(OF_KIND, {line.get("unknown") for line in found})
+        (line,) = (one for _, one in jsonl.numbered(self.out / "tree.jsonl") if one["path"] == "/s/y")
+        self.assertEqual((line["kind"], line["same"]), ("dir", "/s/x"))
+
+    def test_a_file_is_what_is_cut(self) -> None:
+        disk = [seen("/s/x", None), seen("/proc", "dir"), seen("/proc/self/fd", "dir")]
+        opened = f'openat({CWD}, "/s/x", 0x200000 /* O_RDONLY|O_PATH */) = 3</s/x>'
+        found = self.run_over(disk, opened, 'rename("/s/x", "/s/y") = 0', 'truncate("/proc/self/fd/3", 0) = 0')
+        self.assertNotIn(OF_KIND, {line.get("unknown") for line in found})
+        self.assertEqual(found[-1]["path"], "/s/y")
+
+    def test_a_rule_of_the_program_is_on_all_names_whatever_the_kind(self) -> None:
+        rule = "{allowed_access=0x4 /* LANDLOCK_ACCESS_FS_READ_FILE */, parent_fd=4</s/x>}"
+        found = self.run_over(
+            [seen("/s/x", None), seen("/s/y", None, 0)],
+            f'openat({CWD}, "/s/x", 0x200000 /* O_RDONLY|O_PATH */) = 4</s/x>',
+            f"landlock_add_rule(3, 0x1 /* LANDLOCK_RULE_PATH_BENEATH */, {rule}, 0) = 0",
+            'rename("/s/x", "/s/y") = 0', opens("/s/y"),
+        )
+        ruled = {line["path"] for line in found if line["op"] == "add_path"}
+        opened = {line["path"] for line in found if line["op"] == "open"}
+        tree = {line["path"]: line["kind"] for _, line in jsonl.numbered(self.out / "tree.jsonl")}
+        self.assertEqual({tree[path] for path in opened}, {"reg", "dir", "fifo", "sock", "char", "block"})
+        self.assertEqual(opened - ruled, set())
+
     def test_a_later_call_tells_the_kind(self) -> None:
         disk = [seen("/s/x", None, FIRST + 1), seen("/s/y", None, 0)]
         moved, removed = self.run_over(disk, 'rename("/s/x", "/s/y") = 0', 'rmdir("/s/y") = 0')
@@ -172,6 +228,42 @@ class Others(Unknown):
         self.run_over(disk, opens("/s/f", "0x1 /* O_WRONLY */"), opens("/s/g", fd=4))
         same = {line["path"]: line.get("same") for _, line in jsonl.numbered(self.out / "tree.jsonl")}
         self.assertEqual((same["/s/f"], same["/s/g"]), (None, "/s/f"))
+
+    def test_links_that_are_exchanged_before_they_are_seen(self) -> None:
+        exchanged = f'renameat2({CWD}, "/s/one", {CWD}, "/s/two", 0x2 /* RENAME_EXCHANGE */) = 0'
+        calls = (exchanged, 'mkdir("/s/one/sub", 0755) = 0')
+        links = [(path, target) for path, target in (("/s/one", "v2"), ("/s/two", "v1"))]
+        _, made = self.run_over([seen(path, "sym", target=target) for path, target in links], *calls)
+        self.assertEqual(made["path"], "/s/v2/sub~new~")
+        self.run_over([seen(path, "sym", FIRST, target=target) for path, target in links], *calls)
+        self.assertEqual(self.unsaid(), [(UNKNOWN_WAY, True)])
+
+    def test_what_was_seen_in_a_folder_that_is_moved(self) -> None:
+        """It is not in the one that takes its place; what was seen there after that is."""
+        folders = [seen(f"/s/{name}", "dir", 0) for name in ("a", "b", "c")]
+        link = ("/s/a/l", "sym")
+        moves = {
+            "moved": ('rename("/s/a", "/s/d/a") = 0', 'rename("/s/b", "/s/a") = 0'),
+            "exchanged": (f'renameat2({CWD}, "/s/a", {CWD}, "/s/b", 0x2 /* RENAME_EXCHANGE */) = 0',),
+        }
+        last = 'mkdir("/s/a/l/y", 0755) = 0'
+        for how, moved in moves.items():
+            calls = ('mkdir("/s/a/l/x", 0755) = 0', *moved, last)
+            with self.subTest(how):
+                early = seen(*link, FIRST, target="../v1")
+                found = self.run_over([*folders, early, seen("/s/d/a", None, 0)], *calls)
+                self.assertEqual([line["path"] for line in found if line["op"] == "mkdir"][-1:], ["/s/v1/x~new~"])
+                self.assertEqual(self.unsaid(), [(UNKNOWN_WAY, True)])
+                late = seen(*link, target="../v2")
+                found = self.run_over([*folders, late, seen("/s/d/a", None, 0)], *calls[1:])
+                self.assertEqual(found[-1]["path"], "/s/v2/y~new~")
+
+    def test_what_is_in_a_folder_below_one_that_is_moved(self) -> None:
+        disk = [seen("/s/a", "dir", 0), seen("/s/a/in", "dir", 0), seen("/s/c", None, 0),
+                seen("/s/c/in/l", "sym", target="../../v2"), seen("/s/a/in/l", "sym", target="../../v1")]
+        listed = opens("/s/a/in", "0x10000 /* O_RDONLY|O_DIRECTORY */")
+        found = self.run_over(disk, listed, 'rename("/s/a", "/s/c") = 0', 'mkdir("/s/c/in/l/y", 0755) = 0')
+        self.assertEqual(found[-1]["path"], "/s/v2/y~new~")
 
     def test_a_path_that_leads_nowhere_is_no_question(self) -> None:
         calls = ('mkdir("/s/no/sub", 0755) = -1 ENOENT (No such file or directory)', 'mkdir("/s/no", 0755) = 0')
@@ -270,3 +362,14 @@ class United(unittest.TestCase):
                         ({**record, "kernel": kernel, "otherwise": True}, other, process)]
                 (call,) = judged_calls(both, 5)
                 self.assertTrue(agree(call))
+
+    def test_the_kernel_agrees_with_one_of_several_cases(self) -> None:
+        record = {"op": "unlink", "pid": 1, "path": "/f", "call": 1, "unknown": OF_KIND, "kernel": "ok"}
+        others = [Answer(MOOT), Answer(ALLOWED)]
+        for cases in (others, others[::-1]):
+            answers = [Answer(REFUSED, "EACCES", (Refusing(1),)), *cases]
+            process = ProcessState(domain=(object(),))  # type: ignore[arg-type]
+            told = [({**record, **({"otherwise": True} if number else {})}, answer, process)
+                    for number, answer in enumerate(answers)]
+            (call,) = judged_calls(told, 5)
+            self.assertTrue(agree(call))

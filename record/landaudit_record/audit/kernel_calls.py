@@ -149,6 +149,14 @@ def judged_calls(judged: Iterable[Judged], abi: int) -> Iterator[JudgedCall]:
 
 
 def _note_other(otherwise: dict[int, Answer], number: int, answer: Answer, other: Answer) -> None:
-    """Keeps of the answers to what a record would be otherwise one that differs from the answer to the record."""
-    if number not in otherwise or (other.refused != answer.refused and otherwise[number].refused == answer.refused):
+    """Keeps of the answers to what a record would be otherwise one that differs from the answer to the record.
+
+    One by which the call is allowed comes before one by which it is moot.
+    """
+    kept = otherwise.get(number)
+    if kept is None or _difference(answer, other) > _difference(answer, kept):
         otherwise[number] = other
+
+
+def _difference(answer: Answer, other: Answer) -> tuple[bool, bool]:
+    return other.refused != answer.refused, other.allowed

@@ -25,7 +25,7 @@ UNKNOWN, OTHERWISE = (f'"{name}":'.encode() for name in IN_DOUBT)
 #: The end of a call that the kernel allowed, and the kernel's answer to another one.
 LET_THROUGH, KERNEL = b'"kernel":"ok"}\n', b'"kernel":"'
 #: A rule on a path.
-ADDS = b'{"op":"add_path"'
+ADDS = b'"op":"add_path"'
 #: An open that makes a file, or that cuts it.
 CREATES = (b'"create":true', b'"cuts":true')
 #: The most frequent records that change what is kept.

@@ -60,6 +60,7 @@ def decisions(policy: Policy, questions: Sequence[SetQuestion]) -> list[Decision
     """The decisions on questions. The policy's parents are what they lead to on this machine."""
     if not questions:
         return []
+    policy = parents.by_all_mounts(policy)
     rules = [rule for layer in policy.layers for rule in layer.path_beneath]
     named = {as_named(parent) for rule in rules for parent in rule.parents}.union(*(one.under for one in questions))
     places = _Places.of(sorted((named | {ROOT}) - {NOWHERE}))

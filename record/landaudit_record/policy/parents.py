@@ -7,9 +7,11 @@ import stat
 from collections import Counter
 from collections.abc import Callable, Iterable, Iterator
 from dataclasses import dataclass, field, replace
+from functools import cache
 
 from ..common.problems import Problem
 from ..common.resolving import NOWHERE, ROOT, KnownObjects, LinkLoop, Met, Walked, walked
+from ..recorder import mounted
 from .policies import PathRule, Policy
 
 
@@ -76,7 +78,7 @@ def under_all_names(policy: Policy, paths: Iterable[str]) -> Policy:
     A file has several names by hard links, and a directory by bind mounts. The policy's parents are as `followed` has
     them, and there is no link on the way of a path.
     """
-    names: dict[tuple[int, int], list[str]] = {}
+    names: dict[_Identity, list[str]] = {}
     for path in dict.fromkeys(paths):
         if (of := _identity(path)) is not None:
             names.setdefault(of, []).append(path)
@@ -89,6 +91,16 @@ def under_all_names(policy: Policy, paths: Iterable[str]) -> Policy:
     return _with_parents(policy, all_names)
 
 
+def by_all_mounts(policy: Policy) -> Policy:
+    """The policy with each rule under all names that its object has by mounts of this machine (bind mounts)."""
+    def all_names(rule: PathRule) -> tuple[str, ...]:
+        there = (parent for parent in rule.parents if _identity(parent) is not None)
+        others = (name for parent in there for name in _places().shown_at(parent.rstrip("/") or ROOT))
+        return (*rule.parents, *dict.fromkeys(name for name in others if name not in rule.parents))
+
+    return _with_parents(policy, all_names)
+
+
 def with_other_names(policy: Policy, paths: Iterable[str]) -> list[str]:
     """The parents that are files of this disk with names (hard links) beside those of the policy and some paths."""
     written = dict.fromkeys(it.rstrip("/") or ROOT for layer in policy.layers for rule in layer.path_beneath
@@ -97,19 +109,38 @@ def with_other_names(policy: Policy, paths: Iterable[str]) -> list[str]:
     return [path for path in written if (of := _identity(path)) is not None and _links(path) > known[of]]
 
 
+def has_other_names(path: str) -> bool:
+    """Whether a path leads to a file of this disk that has further names (hard links)."""
+    try:
+        return _links(os.path.realpath(path)) > 1
+    except (OSError, ValueError):
+        return False
+
+
 def _links(path: str) -> int:
     """How many names an object has; a directory has one."""
     status = os.lstat(path)
     return 1 if stat.S_ISDIR(status.st_mode) else status.st_nlink
 
 
-def _identity(path: str) -> tuple[int, int] | None:
+#: Device and inode of an object, and its path if another name of that inode may be another object.
+_Identity = tuple[int, int, str | None]
+
+
+def _identity(path: str) -> _Identity | None:
     """What tells an object from all others of this disk."""
+    place = path.rstrip("/") or ROOT
     try:
-        status = os.lstat(path.rstrip("/") or ROOT)
+        status = os.lstat(place)
     except (OSError, ValueError):
         return None
-    return status.st_dev, status.st_ino
+    return status.st_dev, status.st_ino, place if _links(place) > 1 and _places().splits_links(place) else None
+
+
+@cache
+def _places() -> mounted.MountPlaces:
+    """What is mounted on this machine."""
+    return mounted.MountPlaces((it.place, it.device, it.root, it.kind) for it in mounted.mounts())
 
 
 def _with_parents(policy: Policy, parents_of: Callable[[PathRule], tuple[str, ...]]) -> Policy:

@@ -125,6 +125,7 @@ def _started(scene: Scene, about: About, call: Call) -> Thread:
     scene.start(thread, call, nnp=about.nnp, admin=about.admin)
     for number, known in about.descriptors.items():
         handle = Handle(known["path"], adopted=known["kind"], tcp=known.get("tcp"), foreign=is_unknown(known))
+        handle.node = scene.names.at(handle.path) if handle.path is not None else None
         process.table[int(number)] = handle
         scene.adopt(thread, call, int(number), handle)
     return thread

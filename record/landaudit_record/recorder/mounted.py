@@ -18,6 +18,8 @@ OF_KERNEL = frozenset(
     rpc_pipefs securityfs selinuxfs sysfs tracefs
     """.split()
 )
+#: The file system that shows several directories as one.
+MERGED = "overlay"
 #: File systems that a process serves; the type may say which (`fuse.sshfs`).
 SERVED = ("fuse", "fuseblk")
 
@@ -58,7 +60,11 @@ def of_kernel(among: Iterable[Mount]) -> list[str]:
 
 def served(among: Iterable[Mount]) -> set[Mount]:
     """The mounts of file systems that a process serves."""
-    return {mount for mount in among if mount.kind.partition(".")[0] in SERVED}
+    return {mount for mount in among if _is_served(mount.kind)}
+
+
+def _is_served(kind: str) -> bool:
+    return kind.partition(".")[0] in SERVED
 
 
 class MountPlaces:
@@ -70,9 +76,17 @@ class MountPlaces:
     def __init__(self, mounts: Iterable[Sequence[str]] = ()) -> None:
         of_type = {place: (device, root, kind) for place, device, root, kind in mounts}
         self._at = {place: (device, root) for place, (device, root, _) in of_type.items()}
+        self._split = {place for place, (_, _, kind) in of_type.items() if kind == MERGED or _is_served(kind)}
         self.procs = tuple(place for place, (_, _, kind) in of_type.items() if kind == "proc" and place != PROC)
         several = Counter(device for device, _ in self._at.values())
         self._several = {device for device, number in several.items() if number > 1}
+
+    def splits_links(self, path: str) -> bool:
+        """Whether the names of a file are, for all that is known, objects apart though they have one inode's number.
+
+        So they are on an overlayfs without an index, and on one that a process serves by paths (seen on Linux 6.18).
+        """
+        return bool(self._split) and self._of(path) in self._split
 
     def _of(self, path: str) -> str:
         """The place of the mount that a path is in."""
@@ -94,6 +108,12 @@ class MountPlaces:
 
         A directory that does not show the same at all of them, because something is mounted below it, has none.
         """
+        found = self.shown_at(path)
+        below = tuple(f"{one.rstrip('/')}/" for one in (path, *found))
+        return [] if found and any(place.startswith(below) for place in self._at if place != "/") else found
+
+    def shown_at(self, path: str) -> list[str]:
+        """All other paths of an object by mounts, whatever is mounted below it there: a rule on it is on each."""
         if not self._several:
             return []
         here = self._of(path)
@@ -101,13 +121,12 @@ class MountPlaces:
         if device not in self._several:
             return []
         inner = _beneath(root, _inside(here, path) or "")
-        found = [path]
+        found: list[str] = []
         for place, (on, shown) in self._at.items():
             rest = _inside(shown, inner) if on == device and place != here else None
             if rest is not None and self._of(_beneath(place, rest)) == place:
                 found.append(_beneath(place, rest))
-        below = tuple(f"{one.rstrip('/')}/" for one in found)
-        return [] if any(place.startswith(below) for place in self._at if place != "/") else found[1:]
+        return found
 
 
 def _inside(top: str, path: str) -> str | None:

@@ -78,6 +78,7 @@ class _Late:
 class Node:
     """An object: its kind, a link's target, the path at which further children are looked up, and the known children.
 
+    `arrived` is the line of the call that moved a directory to its path, so that what was seen there before is not in it.
     `start` is its path when the run begins ("" for the root), None if it does not exist then; `first` is the name under
     which the tree lists it first; `ruled` says that the program puts a rule on it; `over` and `name` are the directory
     that it is in, or was in last, and its name there. `others` are the objects that may be there in its place, if
@@ -95,21 +96,21 @@ class Node:
     name: str = ""
     others: tuple["Node", ...] = ()
     doubt: str = ""
+    arrived: int = 0
 
     @property
     def shares(self) -> bool:
         """Whether the run makes it and no rule is on it: then Landlock treats all such objects of its kind alike."""
         return self.start is None and not self.ruled
 
-    @property
-    def path(self) -> str:
-        """Its path, or its last path; for an object with several names, by the latest name."""
+    def looked_up(self) -> tuple[str | None, int]:
+        """Where children of a directory are looked up, and since which line of the log the directory is there."""
         names: list[str] = []
-        node: Node | None = self
+        arrived, node = 0, self if self.origin is not None else None
         while node is not None and node.name:
             names.append(node.name)
-            node = node.over
-        return join(names[::-1])
+            arrived, node = max(arrived, node.arrived), node.over
+        return (join(names[::-1]), arrived) if arrived else (self.origin, 0)
 
 
 @dataclass(slots=True)
@@ -187,6 +188,7 @@ class Names:
         self.line = 0
         self._late: dict[str, _Late] = {}
         self._unknown: set[str] = set()
+        self._asked_later: set[str] = set()
         self._read_late: dict[str, list[tuple[int, int]]] = {}
         self._disk = disk
         self._before = before
@@ -216,7 +218,9 @@ class Names:
         seen = self._seen(node, name, start)
         found = None
         if seen is not None:
-            inode = seen.inode or self._first_of(start or _beneath(node, name))
+            path = start or _beneath(node, name)
+            inode = None if path is None or self.places.splits_links(path) else seen.inode
+            inode = inode or self._first_of(path)
             found = self._linked.get(inode) if inode is not None else None
             if found is None:
                 origin = _beneath(node, name) if seen.kind == "dir" else None
@@ -242,15 +246,16 @@ class Names:
         """What a listing says about a name, or the disk as it was seen later."""
         if start is not None and self._is_watched(start):
             return self._before.get(start)
-        if node.origin is None:
+        origin, arrived = node.looked_up()
+        if origin is None:
             return None
-        path = f"{node.origin}/{name}"
-        if path in self.doubts.objects:
+        path = f"{origin}/{name}"
+        observed = self._disk.observed(path)
+        if path in self.doubts.objects or observed.until < arrived:
             self._unknown.add(path)
             return None
-        observed = self._disk.observed(path)
         seen = observed.seen
-        if observed.until < self.line or node.origin.startswith(_IN_PROC):
+        if observed.until < self.line or origin.startswith(_IN_PROC):
             return seen
         self._late[path] = _Late(self.line, observed.until, seen)
         return None if seen is None or seen.new else seen
@@ -281,6 +286,19 @@ class Names:
         if late is None or late.is_there or late.until < self.line:
             return self.is_unknown(path)
         return late.seen is not None
+
+    def seen_later(self, path: str) -> Seen | None:
+        """What was seen at a path after the current call, unless it is known that another call changed it meanwhile."""
+        observed = self._disk.observed(path)
+        self._asked_later.add(path)
+        return None if path in self.doubts.objects or observed.until < self.line else observed.seen
+
+    def stays(self, path: str) -> None:
+        """Notes that what was seen later at a path, if it was asked for, is what the current call put there."""
+        if path in self._asked_later:
+            if (seen := self.seen_later(path)) is not None:
+                self._late[path] = _Late(self.line, self._disk.observed(path).until, seen, is_there=True)
+            self._asked_later.discard(path)
 
     def is_there(self, path: str) -> None:
         """Notes that a call has shown that an object was at a path before."""
@@ -387,6 +405,8 @@ class Names:
         for count, name in enumerate(names, start=1):
             wanted = kind if count == len(names) else "dir"
             child = self.child(node, name)
+            if wanted == "dir" and child is not None and not (among and count == len(names)):
+                self._is_directory(child)
             if child is None or (child.kind != wanted and (wanted == "dir" or child.kind in ("dir", "sym"))):
                 child = self._met(node, name, Node(wanted, origin=join(names[:count]) if wanted == "dir" else None))
                 self._doubt_kind(child, path, among if count == len(names) else ())
@@ -410,6 +430,13 @@ class Names:
         if node.doubt == OF_KIND and node.start is not None:
             may_be = self.doubts.kinds.get(node.start, KINDS)
             self.doubts.kinds[node.start] = tuple(kind for kind in may_be if kind in kinds)
+
+    def _is_directory(self, node: Node) -> None:
+        """Notes that an object is a directory, if nobody knew of which kind it is."""
+        if node.doubt == OF_KIND and any(other.kind == "dir" for other in node.others):
+            self.is_of(node, "dir")
+            node.kind, node.others, node.doubt = "dir", (), ""
+            self.turns += 1
 
     def _met(self, directory: Node, name: str, node: Node) -> Node:
         """An object whose existence a call shows, though no listing does.
@@ -490,20 +517,42 @@ class Names:
         self.put(path, None)
 
     def move(self, start: str, end: str) -> None:
-        """Renames an object; the contents of a directory are then looked up at its new path."""
+        """Renames an object."""
         node = self.at(start)
-        if node is not None and node.origin is not None:
-            node.origin = end
-            for path in [path for path in self._late if path.startswith(f"{start}/")]:
-                self.changed(path)
+        self._arrives(node, start, end)
         self.put(start, None)
         self.put(end, node)
 
     def exchange(self, one: str, other: str) -> None:
         """Exchanges two objects."""
         first, second = self.at(one), self.at(other)
+        self._arrives(first, one, other)
+        self._arrives(second, other, one)
         self.put(one, second)
         self.put(other, first)
+
+    def _arrives(self, node: Node | None, start: str, end: str) -> None:
+        """Notes that the contents of a directory are looked up at its new path from now on."""
+        if node is not None and node.origin is not None:
+            node.origin, node.arrived = end, self.line
+            for path in [path for path in self._late if path.startswith(f"{start}/")]:
+                self.changed(path)
+
+    def seen_exchanged(self, one: str, other: str, end: int) -> None:
+        """Corrects what two names were that a call exchanges which ends on a line, if they were seen only after it.
+
+        Each of the objects is then what was seen at the other name, if that was after the end of the call.
+        """
+        for path, now in ((one, other), (other, one)):
+            late = self._late.get(path)
+            if late is None or late.line < self.line:
+                continue
+            node, seen = self.at(path), self.seen_later(now)
+            if node is None or seen is None or self._disk.observed(now).until <= end:
+                self.doubts.objects.add(path)
+            else:
+                node.kind, node.target = self.kind(seen.kind), seen.target
+                node.origin = path if node.kind == "dir" else None
 
     def find(self, root: str, directory: str, path: str, follow: bool, links: Links) -> Found:
         """Resolves a path as the kernel does (path_resolution(7)).

@@ -77,11 +77,12 @@ class Process:
     `confined` says whether it has a layer, or may have one; `restricted` are the rulesets of its restrictions; `maker`
     is the process that forked it; `threaded` says whether it has or had several threads, `looks` whether it is
     counted as one that looks at others in /proc; `unseen_layer` says that it has a layer of which nothing is known,
-    `user` as whom it asks for files.
+    `user` as whom it asks for files; `image` is the object that `program` was when it was run.
     """
 
     pid: int
     program: str = ""
+    image: Node | None = None
     confined: bool = False
     table: dict[int, Handle] = field(default_factory=dict)
     threads: set[int] = field(default_factory=set)

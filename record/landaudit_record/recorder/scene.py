@@ -148,8 +148,8 @@ class Scene:
             raise CannotSay(BY_UNSEEN_LAYER)
         if error == "EXDEV" and self._between_mounts(process, members):
             raise NotAsked("EXDEV before Landlock is asked")
-        others = self._others(members) if self.tree.doubted else []
-        if others:
+        members, *others = self.each(members)
+        if others and "unknown" not in members:
             members = {**members, "unknown": others[0]["unknown"]}
         self.recording.add(op, process.pid, call.line, error or "ok", members)
         self.say_instead(thread, call, op, *others)
@@ -166,9 +166,11 @@ class Scene:
         for number in opened:
             self.note_close(thread, call, number)
 
-    def _others(self, members: Members) -> list[dict[str, Any]]:
-        """What a record would be with the other objects that may be at its paths."""
-        found: list[dict[str, Any]] = [dict(members)]
+    def each(self, members: Members) -> list[Members]:
+        """A record, and what it would be with the other objects that may be at its paths."""
+        if not self.tree.doubted:
+            return [members]
+        found: list[Members] = [members]
         for member, shown in (("path", "shown"), ("from", "shown"), ("to", "shown_to")):
             doubted = self.tree.doubted.get(members.get(member, ""))
             if doubted is None:
@@ -178,7 +180,7 @@ class Scene:
             found += [
                 {**one, member: spot.path, shown: spot.shown, "unknown": node.doubt} for one in found for spot in spots
             ]
-        return found[1:]
+        return found
 
     def _between_mounts(self, process: Process, members: Members) -> bool:
         """Whether the kernel said EXDEV since a move or link leaves its mount, before it asked Landlock.
@@ -208,7 +210,8 @@ class Scene:
 
     def further_names(self) -> dict[str, list[str]]:
         """The further names of each object on which the program puts a rule, by the one on which the record puts it."""
-        return {name: [other for other in self.tree.names_of(node) if other != name] for name, node in self.ruled}
+        return {name: [other for one in (node, *node.others) for other in self.tree.names_of(one) if other != name]
+                for name, node in self.ruled}
 
     # Paths
 
@@ -320,8 +323,18 @@ class Scene:
             old = (directories.directory, directories.root)
             directories.directory, directories.root = (_went(path, moves) for path in old)
         for process in self.processes.values():
+            process.program = _went(process.program, moves)
             for handle in process.table.values():
                 handle.path = _went(handle.path, moves) if handle.path is not None else None
+
+    def renamed(self, node: Node, start: str, end: str) -> None:
+        """A file got another name: what is open on it by the old one, not by a further name of it, is so by the new."""
+        for process in self.processes.values():
+            if process.image is node and process.program == start:
+                process.program = end
+            for handle in process.table.values():
+                if handle.node is node and handle.path == start:
+                    handle.path = end
 
     # Descriptors
 
@@ -339,6 +352,7 @@ class Scene:
     def receive(self, thread: Thread, call: Call, of: Descriptor, *, close_on_exec: bool) -> Handle:
         """Puts a descriptor that came from elsewhere under its number, of the kind that it has."""
         handle = Handle(of.path, adopted=self._kind(of), close_on_exec=close_on_exec, foreign=_is_foreign(of))
+        handle.node = self.names.at(of.path) if of.path is not None and not of.deleted and not of.in_memory else None
         self.put(thread, call, of.number, handle)
         return handle
 
@@ -430,6 +444,7 @@ class Scene:
         process = Process(
             tid,
             maker.process.program,
+            maker.process.image,
             confined=maker.process.confined,
             restricted=list(maker.process.restricted),
             maker=maker.process,
@@ -534,7 +549,7 @@ class ThreadLinks:
         """Where a link of a thread leads: what is its own is not its reader's."""
         match name:
             case "exe":
-                return (named.process.program, None) if named.process.program else None
+                return (named.process.program, named.process.image) if named.process.program else None
             case "cwd":
                 return named.directories.directory, None
             case "root":
@@ -546,7 +561,7 @@ class ThreadLinks:
             raise CannotSay("a file by a descriptor of which nothing is known")
         if handle.path is None:
             raise NotAsked(NO_PATH)
-        return (handle.path, None) if handle.node is None else (handle.node.path, handle.node)
+        return handle.path, handle.node
 
 
 #: What a call of a thread becomes.

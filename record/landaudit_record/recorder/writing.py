@@ -503,11 +503,13 @@ class _PartInMaking:
         with open(self.part.trace, "rb") as lines, open(beside, "wb") as out:
             for line in lines:
                 out.write(line)
-                for name in further.get(json.loads(line)["path"], ()) if line.startswith(trace_lines.ADDS) else ():
+                rule = json.loads(line) if trace_lines.ADDS in line else {}
+                rule.pop("unknown", None)
+                for name in further.get(rule.get("path", ""), ()) if "otherwise" not in rule else ():
                     self.records += 1
                     self.again += trace_lines.AGAIN in line
                     self.objects.update(over for over in upwards(name) if over != ROOT)
-                    out.write(jsonl.line({**json.loads(line), "path": name}).encode())
+                    out.write(jsonl.line({**rule, "path": name}).encode())
         beside.replace(self.part.trace)
 
     def finish(self, tree: ListedTree) -> Size:

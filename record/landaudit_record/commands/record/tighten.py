@@ -15,9 +15,10 @@ from ...common.comments import Comments
 from ...common.options import add_judging, add_of_program, add_recordings, note
 from ...common.problems import WANTING, Problem
 from ...common.rights import alone
-from ...common.wording import counted, plain
+from ...common.trees import Tree
+from ...common.wording import counted, plain, some_of
 from ...engine import landaudit
-from ...policy import policy_text
+from ...policy import parents, policy_text
 from ...policy.policies import PathRule, Policy, PortRule
 from ...tighten.distilling import Distilling, LayeredCall
 from ...tighten.tightening import AskedOnTree, Refused, RuledObject, Tightened, Tightening, places, units
@@ -57,7 +58,8 @@ def run(arguments: argparse.Namespace) -> int:
         of_run = [one.tree for one in tried]
         whole = policy_text.apart(policy, of_run)
         done = tightening.tightened(whole)
-        tight = policy_text.joined(_with_unknown(done.policy, whole, together.unknown(members)), of_run)
+        linked = _of_other_names(whole, of_run)
+        tight = policy_text.joined(_with_unknown(done.policy, whole, together.unknown(members) | linked), of_run)
         after = [_questions(audit, one, tight, arguments.abi) for audit, one in zip(audits, tried)]
         if _more(before, after):
             raise Problem("without the rights that no call needs, more calls of the recordings are refused: this is a "
@@ -65,12 +67,24 @@ def run(arguments: argparse.Namespace) -> int:
     if passing := _more(after, before):
         note([f"the printed policy allows {counted(passing, 'call')} of these recordings that the policy refuses: "
               "Landlock refuses a move or link by which an object would gain rights, and such rights are removed"])
+    if linked:
+        note([f"kept as it is: {some_of(sorted(linked))} has other names (hard links), by which a recording may have used "
+              "it: name these in the policy"])
     note(given.unseen)
     together.note_missing(members)
     for line in (_table(whole, done, tightening, arguments.abi) if arguments.list
                  else _toml(replace(done, policy=tight), tightening, given.comments)):
         print(line)
     return given.status
+
+
+def _of_other_names(policy: Policy, trees: Sequence[Tree]) -> frozenset[str]:
+    """The parents that are files with several names, of which a recording does not have the one in the policy: it can't
+    tell whether what the run used by another one is the same file.
+    """
+    written = {parent for layer in policy.layers for rule in layer.path_beneath for parent in rule.parents}
+    return frozenset(path for path in written if parents.has_other_names(path)
+                     and any(tree.kind(tree.walked(path).path) is None for tree in trees))
 
 
 def _with_unknown(tight: Policy, whole: Policy, unknown: frozenset[str]) -> Policy:
@@ -109,7 +123,7 @@ def _toml(done: Tightened, tightening: Tightening, written: Comments) -> Iterato
 
     def remark(layer: int, rule: PathRule | PortRule) -> str:
         calls = tightening.calls(one for on in places(rule) for one in by_place[layer, rule.place, on])
-        return f"needed by {counted(calls, 'call')}" if calls else "kept: it is not known where its parent led"
+        return f"needed by {counted(calls, 'call')}" if calls else "kept: it is not known whether it is needed"
 
     yield f"# {counted(done.taken, 'right')} removed that these recordings don't need ({done.audits} audits)"
     yield from policy_text.lines(done.policy, written, remark)

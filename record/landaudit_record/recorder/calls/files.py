@@ -82,6 +82,8 @@ def _truncate(scene: Scene, thread: Thread, call: Call) -> None:
         raise NotAsked(f"{call.error} before Landlock is asked")
     spot = arguments.object_at(scene, call, arguments.spot_at(scene, thread, call, None, 0, True), "reg")
     scene.say(thread, call, "truncate", path=spot.path, **arguments.shown(spot))
+    if call.ok and spot.node is not None:
+        scene.names.is_of(spot.node, "reg")
     scene.names.rewritten(spot.real)
 
 

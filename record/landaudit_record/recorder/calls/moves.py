@@ -5,7 +5,7 @@ from __future__ import annotations
 from typing import Any
 
 from ..unwritten import CannotSay, NotAsked
-from ..names import KINDS, NO_DIRECTORIES, REPLACED_OR_NOT, Node
+from ..names import KINDS, NO_DIRECTORIES, OF_KIND, REPLACED_OR_NOT, Node
 from ..processes import Thread
 from ..scene import Scene, Spot
 from ..strace_log import Call
@@ -36,8 +36,11 @@ def _rename(scene: Scene, thread: Thread, call: Call) -> None:
     if call.error == "EEXIST" and flags & RENAME_NOREPLACE:
         raise NotAsked("EEXIST before Landlock is asked")
     moved, target = (arguments.name_at(scene, thread, call, *end) for end in _ends(call))
+    if call.ok and exchange:
+        scene.names.seen_exchanged(moved.real, target.real, call.end)
     moved = _source(scene, call, moved, target, exchange)
     if exchange and call.error != "ENOENT":
+        target = _as_seen_later(scene, call, target, moved.real)
         target = arguments.object_at(scene, call, target, "reg", KINDS)
     elif call.ok and flags & RENAME_NOREPLACE:
         target = scene.absent(target.real)
@@ -58,10 +61,12 @@ def _say_both(scene: Scene, thread: Thread, call: Call, moved: Spot, node: Node,
     gap = scene.missing(target.real)
     scene.names.settle(target.real)
     target = scene.present(target.real, node.kind)
+    if node.doubt == OF_KIND and target.node is not None:
+        target.node.others, target.node.doubt = (Node("dir"),), OF_KIND
     shown = arguments.shown(moved, target)
     members: dict[str, Any] = {"from": moved.path, "to": target.path, **shown, "unknown": REPLACED_OR_NOT}
     scene.judged(thread, call, "rename", members)
-    scene.say_instead(thread, call, "rename", {**members, "to": gap.path, "shown_to": gap.shown})
+    scene.say_instead(thread, call, "rename", *scene.each({**members, "to": gap.path, "shown_to": gap.shown}))
     return target
 
 
@@ -81,15 +86,36 @@ def _take_place(scene: Scene, moved: Spot, target: Spot, exchange: bool) -> None
         if target.node is not None and moved.node is not None:
             scene.names.is_of(target.node, *(("dir",) if moved.node.kind == "dir" else NO_DIRECTORIES))
         scene.names.move(moved.real, target.real)
+    for path in moves.values():
+        scene.names.stays(path)
     if "dir" in [one.node.kind for one in (moved, target) if one.node is not None]:
         scene.moved(moves)
+    for one in (moved, target):
+        if one.node is not None and one.node.kind != "dir" and one.real in moves:
+            scene.renamed(one.node, one.real, moves[one.real])
 
 
 def _source(scene: Scene, call: Call, source: Spot, target: Spot, exchange: bool) -> Spot:
     """The object that is moved or linked. ENOENT is about it if everything else that the call needs exists."""
     if call.error == "ENOENT" and target.node is None and (exchange or not target.in_directory):
         return source
-    return arguments.object_at(scene, call, source, "reg", KINDS)
+    return arguments.object_at(scene, call, _as_seen_later(scene, call, source, target.real), "reg", KINDS)
+
+
+def _as_seen_later(scene: Scene, call: Call, spot: Spot, at: str) -> Spot:
+    """An object of which it isn't known of what kind it is, as what was seen later at the name that a call gives it."""
+    is_known = spot.node is not None and spot.node.doubt != OF_KIND
+    seen = scene.names.seen_later(at) if call.ok and not is_known else None
+    if seen is None:
+        return spot
+    kind = scene.names.kind(seen.kind)
+    if spot.node is not None:
+        scene.names.is_of(spot.node, kind)
+    elif spot.in_directory:
+        spot = scene.present(spot.real, kind)
+        if spot.node is not None:
+            spot.node.target = seen.target
+    return spot
 
 
 def _say_move(scene: Scene, thread: Thread, call: Call, op: str, start: Spot, end: Spot, exchange: bool) -> None:
@@ -114,6 +140,7 @@ def _link(scene: Scene, thread: Thread, call: Call) -> None:
     _say_move(scene, thread, call, "link", source, target, False)
     if call.ok:
         scene.names.put(target.real, source.node)
+        scene.names.stays(target.real)
 
 
 HANDLERS = {"rename": _rename, "renameat": _rename, "renameat2": _rename, "link": _link, "linkat": _link}

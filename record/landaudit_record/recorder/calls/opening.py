@@ -9,9 +9,9 @@ from typing import Any
 
 from .. import values
 from ..unwritten import CannotSay, NotAsked
-from ..names import MADE_OR_THERE, OF_KIND, Node, join, split
+from ..names import KINDS, MADE_OR_THERE, OF_KIND, Node, join, split
 from ..processes import Handle, Thread
-from ..scene import Scene, Spot
+from ..scene import PROC, Scene, Spot
 from ..strace_log import Call
 from ..values import Descriptor
 from . import arguments
@@ -102,7 +102,7 @@ def succeeded(
     handle = thread.process.table[result.number]
     if result.path is None or flags & O_PATH:
         handle.adopted = "other"
-        handle.node = gone or (scene.names.at(result.path) if result.path is not None else None)
+        handle.node = gone or _found(scene, result, flags)
         return
     if result.in_memory:
         handle.adopted = "reg"
@@ -122,6 +122,17 @@ def succeeded(
         scene.names.rewritten(result.path)
         if _TAKING_PATHS.fullmatch(result.path):
             scene.leave_out(thread, call, BY_WRITING, asks=True)
+
+
+def _found(scene: Scene, result: Descriptor, flags: int) -> Node | None:
+    """What a descriptor that does not open it (O_PATH) is of; it is there, of whatever kind."""
+    path = result.path
+    node = scene.names.at(path) if path is not None else None
+    if node is not None or path is None or result.in_memory or split(path)[:1] == (PROC,):
+        return node
+    if flags & O_DIRECTORY:
+        return scene.present(path, "dir").node
+    return scene.present(path, "reg", KINDS if flags & O_NOFOLLOW else [kind for kind in KINDS if kind != "sym"]).node
 
 
 @dataclass(slots=True)

@@ -140,7 +140,7 @@ def _became(scene: Scene, thread: Thread, call: Call, spot: Spot) -> None:
     for tid in process.threads - {thread.tid}:
         scene.threads.pop(tid, None)
     process.threads = {thread.tid}
-    process.program = spot.real
+    process.program, process.image = spot.real, spot.node
     process.user = process.user.running()
     for number in sorted(process.table):
         if process.table[number].close_on_exec:
