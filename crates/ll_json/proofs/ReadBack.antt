@@ -77,10 +77,12 @@ reads_back j fits shallow =
     let said = means j fits in
     record { seen = said.0; meant = said.1; read_as = read-print j (has_numbers j fits) shallow ∙ said.1; visible = visible j fits }
 
-pub row_reads_back : (shown : Shown) (tree : List Entry) (oldest : ℕ) (versions : List Version) (index : ℕ) (r : Record) → FitsWords (row_json shown tree oldest versions index r)
+pub row_reads_back : (shown : Shown) (tree : List Entry) (oldest : ℕ) (versions : List Version) (index : ℕ) (r : Record)
+    → FitsWords (row_json shown tree oldest versions index r)
     → ReadsBack (row_json shown tree oldest versions index r)
 row_reads_back shown tree oldest versions index r fits = reads_back _ fits (shallow_row shown tree oldest versions index r)
 
-pub last_reads_back : (shown : Shown) (tree : List Entry) (oldest : ℕ) (versions : List Version) (program : List ℕ) → FitsWords (last_json shown tree oldest versions program)
+pub last_reads_back : (shown : Shown) (tree : List Entry) (oldest : ℕ) (versions : List Version) (program : List ℕ)
+    → FitsWords (last_json shown tree oldest versions program)
     → ReadsBack (last_json shown tree oldest versions program)
 last_reads_back shown tree oldest versions program fits = reads_back _ fits (shallow_last shown tree oldest versions program)

@@ -107,36 +107,47 @@ told (objections said) = omega arith
 told (failure c) = omega (arith, condition c)
 told (mootness why) = omega (arith, known why)
 
-answered : (records : List Record) (layers : List ℕ) (answer : Answer) (why : Explanation) → members_depth (members_of (answer_members records layers answer why)) ≤ 5
+answered : (records : List Record) (layers : List ℕ) (answer : Answer) (why : Explanation)
+    → members_depth (members_of (answer_members records layers answer why)) ≤ 5
 unfolding answer_members
 answered records layers Allowed why = omega arith
 answered records layers Moot why = omega (arith, told why)
 answered records layers (Refused error numbers) why = omega (arith, all_layers records layers numbers why, told why)
 
-of_both : (explains : Bool) (tree : List Entry) (version : Version) (index : ℕ) (r : Option Record) (answer : Option Answer) → members_depth (members_of (members_of_both explains tree version index r answer)) ≤ 5
+of_both : (explains : Bool) (tree : List Entry) (version : Version) (index : ℕ) (r : Option Record) (answer : Option Answer)
+    → members_depth (members_of (members_of_both explains tree version index r answer)) ≤ 5
 of_both explains tree version index (Some r) (Some answer) =
-    answered version.records (origins_at tree version.abi version.records index r.process.0).layers answer (explained_if explains (explained_at tree version.abi version.records index r answer))
+    answered version.records (origins_at tree version.abi version.records index r.process.0).layers answer
+    (explained_if explains (explained_at tree version.abi version.records index r answer))
 of_both explains tree version index (Some r) None = omega arith
 of_both explains tree version index None answer = omega arith
 
 at_index : (explains : Bool) (tree : List Entry) (version : Version) (index : ℕ) → members_depth (members_of (members_at explains tree version index)) ≤ 5
 unfolding members_at
-at_index explains tree version index = of_both explains tree version index (slice_get version.records index) (slice_get (judged tree version.abi version.records) index)
+at_index explains tree version index =
+    of_both explains tree version index (slice_get version.records index) (slice_get (judged tree version.abi version.records) index)
 
-said_at : (shown : Shown) (tree : List Entry) (index : ℕ) (versions : List Version) (place : ℕ) → members_depth (members_of (get_or (said_under shown tree versions index) place [])) ≤ 5
+said_at : (shown : Shown) (tree : List Entry) (index : ℕ) (versions : List Version) (place : ℕ)
+    → members_depth (members_of (get_or (said_under shown tree versions index) place [])) ≤ 5
 said_at shown tree index [] place = omega arith
 said_at shown tree index (version ∷ others) zero = at_index shown.explanations tree version index
 said_at shown tree index (version ∷ others) (suc place) = said_at shown tree index others place
 
-pub shallow_row : (shown : Shown) (tree : List Entry) (oldest : ℕ) (versions : List Version) (index : ℕ) (r : Record) → depth (row_json shown tree oldest versions index r) ≤ 127
+pub shallow_row : (shown : Shown) (tree : List Entry) (oldest : ℕ) (versions : List Version) (index : ℕ) (r : Record)
+    → depth (row_json shown tree oldest versions index r) ≤ 127
 shallow_row shown tree oldest versions index r =
     let said = said_under shown tree versions index in
-    omega (arith, mapped (span_json oldest said) 6 (λ span. omega (arith, said_at shown tree index versions (span.first - oldest))) (spans_of oldest (map members_text said)))
+    omega (
+      arith,
+      mapped (span_json oldest said) 6 (λ span. omega (arith, said_at shown tree index versions (span.first - oldest)))
+          (spans_of oldest (map members_text said)),
+    )
 
 total : (abi : ℕ) (founds : List Found) → items_depth (items_of (totals_from abi founds)) ≤ 1
 unfolding totals_from
 total abi [] = omega arith
 total abi (found ∷ others) = omega (arith, total (abi + 1) others)
 
-pub shallow_last : (shown : Shown) (tree : List Entry) (oldest : ℕ) (versions : List Version) (program : List ℕ) → depth (last_json shown tree oldest versions program) ≤ 127
+pub shallow_last : (shown : Shown) (tree : List Entry) (oldest : ℕ) (versions : List Version) (program : List ℕ)
+    → depth (last_json shown tree oldest versions program) ≤ 127
 shallow_last shown tree oldest versions program = omega (arith, total oldest (found_of shown tree versions))

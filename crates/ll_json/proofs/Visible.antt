@@ -1,5 +1,6 @@
 -- The text of a value whose numbers fit has no control character.
-use Rattle.std.proofs.Common.{◌≡◌, ℕ, suc, ◌+◌, ◌^◌, ◌/◌, ◌%◌, ◌<◌, ◌≤◌, Bool, true, false, cond, ◌||◌, ◌&&◌, ◌==◌, nat_lt, List, [], ◌∷◌, ◌++◌, length, get_or, decimal, refl, subst, sym, arith}
+use Rattle.std.proofs.Common.{◌≡◌, ℕ, suc, ◌+◌, ◌^◌, ◌/◌, ◌%◌, ◌<◌, ◌≤◌, Bool, true, false, cond, ◌||◌}
+use Rattle.std.proofs.Common.{◌&&◌, ◌==◌, nat_lt, List, [], ◌∷◌, ◌++◌, length, get_or, decimal, refl, subst, sym, arith}
 use Rattle.std.proofs.lemmas.Bool.{eqb-true, ltb-true, ltb-false}
 use Rattle.std.proofs.lemmas.Fmt.{decimal_is_IsNumeral}
 use Rattle.std.proofs.lemmas.Str.Parse.{digit_at}
@@ -112,8 +113,10 @@ mutual
 
   members_shown : (ms : json.Members) → MembersFitWords ms → IsShown (members_tokens ms)
   members_shown no_members fits = ((omega arith, tt), tt)
-  members_shown (member k j ms) fits =
-      (IsVisible-append (quoted k) (58 ∷ []) (visible_quoted k) (omega arith, tt), IsShown-append (json_tokens j) (members_tokens ms) (shown j fits.0) (members_shown ms fits.1))
+  members_shown (member k j ms) fits = (
+    IsVisible-append (quoted k) (58 ∷ []) (visible_quoted k) (omega arith, tt),
+    IsShown-append (json_tokens j) (members_tokens ms) (shown j fits.0) (members_shown ms fits.1),
+  )
 
 pub visible : (j : Json) → FitsWords j → IsVisible (print (json_tokens j))
 visible j fits = visible_print false (json_tokens j) (shown j fits)
