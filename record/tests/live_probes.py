@@ -36,7 +36,7 @@ class Expected:
     kinds of its refused calls), and the classes in which it counts calls that may be refused. It is recorded with some
     options of `run`, and with a TCP socket as standard input if `socket` says so. If it is `told`, it depends on how
     soon the recorder looks whether the audit foretells what is refused or tells that it may be. `unsure` is what the
-    recorder can't know of it, if it runs with all privileges.
+    recorder can't know of it if it looks too late, with all privileges.
     """
 
     met: frozenset[str] = frozenset()
@@ -212,7 +212,8 @@ class LiveProbes(unittest.TestCase):
                 elif expected.met:
                     self.assertTrue(ops or audit["may_be_refused"] or audit["not_judged"])
                 if expected.unsure is not None and os.geteuid() == 0:
-                    self.assertEqual({one["unknown"] for one in audit["may_be_refused"]}, {expected.unsure})
+                    # A recorder that looks in time knows it.
+                    self.assertLessEqual({one["unknown"] for one in audit["may_be_refused"]}, {expected.unsure})
                 compared = self.said("compare", str(self.folder / "confined"))
                 self.assertEqual([one for one in compared["differences"] if not one["named"]], [])
 
