@@ -70,6 +70,9 @@ parent = "@"
 CUT = ("[...document.querySelectorAll('th, td, .card p, .card h3, .row > span')].slice(0, 400)"
        ".filter(cell => cell.checkVisibility() && cell.scrollWidth > cell.clientWidth + 1)"
        ".map(cell => cell.textContent)")
+#: Puts large numbers where the policy, line by line, says how many calls a rule was asked for and let pass.
+LARGE_COUNTS = ("document.querySelectorAll('.policy td.count:last-child').forEach(cell => {"
+                " cell.innerHTML = '1,234,567<span class=bad> 123,456 refused</span>'; })")
 WIDER = "document.documentElement.scrollWidth - document.documentElement.clientWidth"
 EACH = "document.getElementById('each').open = true"
 VISIBLE = "[...document.querySelectorAll('table.refusals tbody tr')].filter(row => row.checkVisibility())"
@@ -443,6 +446,9 @@ class LiveBuild(unittest.TestCase):
                         self.assertEqual(tab.says("getComputedStyle(document.body).backgroundColor"), ground)
                         self.assertEqual((tab.says(WIDER), tab.says(CUT)), (0, []))
                         self.assertGreater(tab.says("document.querySelectorAll('.card').length"), 0)
+                        self.assertGreater(tab.says("document.querySelectorAll('.policy td.count').length"), 0)
+                        tab.says(LARGE_COUNTS)
+                        self.assertEqual((tab.says(WIDER), tab.says(CUT)), (0, []))
             self.assertEqual(tab.faults, [])
 
     def test_with_the_rules_of_all_cards_nothing_is_refused_that_was(self) -> None:

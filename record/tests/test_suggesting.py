@@ -232,6 +232,12 @@ class Remarks(unittest.TestCase):
         told = "(for names that differ in each run, as x.Ab3dEf, x.Ab3dEf/n)"
         self.assertEqual((rule.place, said(rule)), ("/a", (told,)))
 
+    def test_a_long_name_is_shortened(self) -> None:
+        tree = Tree({**TREE.kinds, f"/a/{'n' * 200}": "reg"}, made={*TREE.made, f"/a/{'n' * 200}"})
+        (rule,) = suggested([*layer(), reading(f"/a/{'n' * 200}")], recorded=Recorded(tree)).rules[1]
+        self.assertRegex(said(rule)[0], r"^\(for what the run makes there: n{20,}…n{20,}\)$")
+        self.assertLess(len(said(rule)[0]), 200)
+
     def test_a_name_that_looks_so_and_was_there(self) -> None:
         tree = Tree({**TREE.kinds, "/a/x.Ab3dEf": "dir", "/a/x.Ab3dEf/f": "reg"})
         (rule,) = suggested([*layer(), reading("/a/x.Ab3dEf/f")], recorded=Recorded(tree)).rules[1]

@@ -6,10 +6,13 @@ from collections.abc import Iterable, Iterator, Sequence, Set
 from dataclasses import dataclass
 from enum import Enum
 
+from ..common.layout import shortened
 from ..common.trees import ROOT, Tree, directory_of, upwards
 from ..common.wording import some_of
 from . import varying
 from .remarks import Remark, RemarkKind
+
+_WIDEST_NAME = 120
 
 
 class Cause(Enum):
@@ -88,7 +91,8 @@ def remarks(place: str, spots: Sequence[RulePlace]) -> Iterator[Remark]:
     for cause in Cause:
         names = sorted({_named(place, spot) for spot in spots if spot.cause is cause})
         if names:
-            yield Remark(RemarkKind.PURPOSE, cause.value.format(some_of(names)))
+            named = some_of([shortened(name, _WIDEST_NAME) for name in names])
+            yield Remark(RemarkKind.PURPOSE, cause.value.format(named))
 
 
 def doubtful(place: str) -> tuple[str, Remark] | None:
