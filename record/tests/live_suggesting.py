@@ -8,13 +8,22 @@ import tempfile
 import unittest
 from pathlib import Path
 
-from .live_actor import CONFINER, RECORDER, wanting
+from .live_actor import CONFINER, PYTHON, RECORDER, wanting
 
 DENY = """[[layer]]
 handled_access_fs = ["all"]
 handled_access_net = ["all"]
 """
-SHELL = "mkdir d && sort -o d/out in && mv d/out out && ln out also && rm -r d && cat also"
+#: Makes a terminal, and opens it by its name, which differs in each run.
+TERMINAL = """
+import fcntl, os, struct
+made = os.open("/dev/ptmx", os.O_RDWR | os.O_NOCTTY)
+fcntl.ioctl(made, 0x40045431, struct.pack("i", 0))
+number, = struct.unpack("I", fcntl.ioctl(made, 0x80045430, struct.pack("I", 0)))
+os.write(os.open(f"/dev/pts/{number}", os.O_RDWR | os.O_NOCTTY), b"text")
+"""
+SHELL = ("mkdir d && sort -o d/out in && mv d/out out && ln out also && rm -r d && "
+         f"{PYTHON} -I -c '{TERMINAL}' && cat also")
 
 
 @unittest.skipIf(wanting() is not None, wanting() or "")

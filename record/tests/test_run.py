@@ -10,6 +10,7 @@ import unittest
 from pathlib import Path
 from unittest import mock
 
+from landaudit_record.commands.record import run
 from landaudit_record.common import jsonl, stopping
 from landaudit_record.recorder import recordings, tracing
 from landaudit_record.recorder.tracing import Outcome
@@ -47,10 +48,13 @@ class Running(Untraced):
         self.assertEqual(error, f"landaudit-record: there is no directory {self.out} for deep: make it first\n")
 
     def listed(self, *words: str) -> list[str]:
-        """The directories that a run lists."""
-        with mock.patch.object(recordings, "watch", side_effect=KeyboardInterrupt) as watch:
+        """The directories that a run lists before that of the terminals, which each run lists."""
+        with (mock.patch.object(recordings, "watch", side_effect=KeyboardInterrupt) as watch,
+              mock.patch.object(run, "TERMINALS", str(self.folder))):
             said("run", str(self.out), *words, "--", "ls")
-        return list(watch.call_args.args[1])
+        *listed, terminals = watch.call_args.args[1]
+        self.assertEqual(terminals, str(self.folder))
+        return listed
 
     def test_the_root_is_listed_as_any_directory(self) -> None:
         here = os.getcwd()

@@ -14,8 +14,8 @@ MOUNTS = Path("/proc/self/mountinfo")
 #: File systems in which the kernel shows what it has.
 OF_KERNEL = frozenset(
     """
-    autofs binfmt_misc bpf cgroup cgroup2 configfs debugfs devpts efivarfs fusectl hugetlbfs mqueue nsfs proc pstore
-    rpc_pipefs securityfs selinuxfs sysfs tracefs
+    autofs binfmt_misc bpf cgroup cgroup2 configfs debugfs efivarfs fusectl hugetlbfs mqueue nsfs proc pstore rpc_pipefs
+    securityfs selinuxfs sysfs tracefs
     """.split()
 )
 #: The file system that shows several directories as one.

@@ -30,6 +30,8 @@ from . import audit, convert
 NAME = "run"
 HELP = "record a command: run it under strace, and write its tree and its trace"
 EXAMPLE = "landaudit-record run rec --watch /tmp/work -- tar xf archive.tar -C /tmp/work"
+#: The kernel makes and removes terminals there while a command runs, and says of none when it was made (pts(4)).
+TERMINALS = "/dev/pts"
 BEHIND_DASHES = "give a command after '--', as in 'landaudit-record run rec -- ls'"
 
 
@@ -297,13 +299,14 @@ def _watched(folder: Path, directories: list[str]) -> recordings.Watched:
 
 
 def _directories(named: list[str]) -> list[str]:
-    """The directories to list: those that are named, and the working directory."""
+    """The directories to list: those that are named, the working directory, and that of the terminals."""
     for name in named:
         if not os.path.isdir(name):
             raise Problem(f"--watch {name}: there is no such directory", USAGE)
         if not os.access(name, os.R_OK | os.X_OK):
             raise Problem(f"--watch {name}: it can't be read", USAGE)
-    return list(dict.fromkeys([*(os.path.realpath(name) for name in named), _working_directory()]))
+    terminals = [TERMINALS] if os.access(TERMINALS, os.R_OK | os.X_OK) else []
+    return list(dict.fromkeys([*(os.path.realpath(name) for name in named), _working_directory(), *terminals]))
 
 
 def _working_directory() -> str:
