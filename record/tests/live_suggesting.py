@@ -2,17 +2,26 @@
 
 from __future__ import annotations
 
+import json
+import shutil
 import subprocess
 import sys
 import tempfile
 import unittest
 from pathlib import Path
 
-from .live_actor import CONFINER, PYTHON, RECORDER, wanting
+from .live_actor import CONFINER, HERE, PYTHON, RECORDER, wanting
 
 DENY = """[[layer]]
 handled_access_fs = ["all"]
 handled_access_net = ["all"]
+"""
+WIDE = DENY + """[[layer.path_beneath]]
+allowed_access = ["all"]
+parent = "/"
+[[layer.net_port]]
+allowed_access = ["all"]
+port = [0, 20081, 20082, 20083, 20443]
 """
 #: Makes a terminal, and opens it by its name, which differs in each run.
 TERMINAL = """
@@ -76,3 +85,28 @@ class LiveSuggesting(unittest.TestCase):
         for file, status in (("/etc/passwd", 0), ("/etc/shadow", 2)):
             run = self.run_in_work([sys.executable, CONFINER, "confine", self.policy, "--", *command, file])
             self.assertEqual(run.returncode, status, run.stderr)
+
+    def acted(self, recording: Path, *under: str | Path) -> set[str]:
+        """Records a random actor in a folder that is always alike; gives the calls that a layer may have refused."""
+        shutil.rmtree(self.work / "actor", ignore_errors=True)
+        actor = [PYTHON, str(HERE / "actor.py"), "2", str(self.work / "actor")]
+        self.assertEqual(self.run_in_work([*actor, "0"]).returncode, 0)
+        run = self.recorder("run", recording, *under, "--", *actor, "200")
+        self.assertEqual(run.returncode, 0, run.stderr)
+        with open(recording / "trace.jsonl", encoding="utf-8") as trace:
+            calls = map(json.loads, trace)
+            return {call["op"] for call in calls if call.get("kernel") in ("EACCES", "EPERM", "EXDEV")}
+
+    def test_a_random_actor_works_under_what_is_suggested_and_tightened_for_it(self) -> None:
+        recording = self.folder / "rec"
+        self.assertLessEqual(self.acted(recording), {"mount"})
+        for _ in range(3):
+            suggested = self.recorder("suggest", recording, "--policy", self.policy, "--whole")
+            self.policy.write_text(suggested.stdout)
+        self.assertLessEqual(self.acted(self.folder / "under", "--policy", self.policy), {"mount"})
+        self.policy.write_text(WIDE)
+        tight = self.recorder("tighten", recording, "--policy", self.policy)
+        self.assertEqual(tight.returncode, 0, tight.stderr)
+        self.assertNotIn('allowed_access = ["all"]\nparent', tight.stdout)
+        self.policy.write_text(tight.stdout)
+        self.assertLessEqual(self.acted(self.folder / "tight", "--policy", self.policy), {"mount"})
