@@ -85,6 +85,13 @@ class Places(Folders):
             with self.subTest(path):
                 self.assertEqual(self.made(*apart, f'11  mkdir("{path}", 0777) = 0'), [where])
 
+    def test_another_namespace_takes_the_folders_along(self) -> None:
+        """unshare(2): CLONE_NEWNS and CLONE_NEWUSER imply CLONE_FS."""
+        for flags in ("0x20000 /* CLONE_NEWNS */", "0x10000000 /* CLONE_NEWUSER */"):
+            with self.subTest(flags):
+                apart = ("clone(child_stack=NULL, flags=0x211 /* CLONE_FS|SIGCHLD */) = 11", f"11  unshare({flags}) = 0")
+                self.assertEqual(self.made(*apart, '11  chdir("d") = 0', 'mkdir("n", 0777) = 0'), ["/w/n"])
+
     def test_a_thread_that_has_ended_has_no_folders(self) -> None:
         ended = (f"10  {THREAD} = 11", "11  +++ exited with 0 +++")
         (made,) = self.convert(*ended, 'mkdir("/proc/11/cwd/n", 0777) = -1 ENOENT (No such file or directory)')

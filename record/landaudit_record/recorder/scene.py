@@ -27,6 +27,7 @@ AT_FDCWD = -100
 CLONE_FS = 0x200
 CLONE_FILES = 0x400
 CLONE_THREAD = 0x10000
+CLONE_NEWNS = 0x20000
 CLONE_NEWUSER = 0x10000000
 #: The number of ended processes whose parents are kept.
 MOST_ENDED = 1_024

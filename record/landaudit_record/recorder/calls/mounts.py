@@ -9,7 +9,7 @@ from __future__ import annotations
 from .. import values
 from ..unwritten import CannotSay, NotAsked
 from ..processes import Handle, Thread
-from ..scene import CLONE_NEWUSER, Handler, Scene
+from ..scene import CLONE_NEWNS, CLONE_NEWUSER, Handler, Scene
 from ..strace_log import Call
 from . import arguments, ptrace, users
 
@@ -19,7 +19,6 @@ MOVE_MOUNT_FLAGS = 0x377
 FSCONFIG_CMD_RECONFIGURE = 7
 OPEN_TREE_CLONE, FSMOUNT_CLOEXEC = 1, 1
 O_CLOEXEC = 0o2000000
-CLONE_NEWNS = 0x20000
 
 CHANGES_THE_TREE = "a mount that changes the tree"
 WITHOUT_PLACE = "a mount that has no place in the tree"

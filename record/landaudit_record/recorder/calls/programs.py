@@ -8,7 +8,7 @@ from .. import formats, values
 from ..disk import MOST_INTERPRETERS, Program
 from ..unwritten import CannotSay, NotAsked
 from ..processes import Thread
-from ..scene import CLONE_FILES, CLONE_FS, CLONE_NEWUSER, Scene, Spot
+from ..scene import CLONE_FILES, CLONE_FS, CLONE_NEWNS, CLONE_NEWUSER, Scene, Spot
 from ..strace_log import Call
 from . import arguments, users
 from .descriptors import OWN_TABLE
@@ -160,11 +160,13 @@ def _forked(scene: Scene, thread: Thread, call: Call) -> None:
 
 
 def _unshared(scene: Scene, thread: Thread, call: Call) -> None:
-    """A thread that no longer shares its working directory or its descriptors (unshare(2))."""
+    """A thread that no longer shares its working directory or its descriptors; another mount or user namespace takes
+    the working directory along (unshare(2)).
+    """
     flags = arguments.number_at(call, 0)
     if call.ok and flags & CLONE_NEWUSER:
         users.lose(thread)
-    if call.ok and flags & CLONE_FS:
+    if call.ok and flags & (CLONE_FS | CLONE_NEWNS | CLONE_NEWUSER):
         thread.directories = replace(thread.directories)
     if call.ok and flags & CLONE_FILES and len(thread.process.threads) > 1:
         scene.leave_out(thread, call, OWN_TABLE, asks=True)
