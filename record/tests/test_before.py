@@ -214,6 +214,21 @@ class OpenedInside(WrittenLogs):
             self.assertEqual([path for op, path in told(trace, "op", "path") if op == "exec"], paths)
 
     def test_the_file_of_acct_is_opened_again_without_its_folders(self) -> None:
+    def test_a_program_whose_arguments_can_not_be_read_or_are_too_long(self) -> None:
+        """The kernel opens it first, but no interpreter."""
+        self.disk = [*DISK, {"path": "/w/s", "kind": "reg", "runs": True, "interpreter": "/bin/sh"}]
+        for call in (
+            'execve("/w/s", 0x8, 0x1 /* 0 vars */) = -1 EFAULT (Bad address)',
+            f'execveat({CWD}, "s", ["s"], 0x8, 0) = -1 EFAULT (Bad address)',
+            'execve("/w/s", ["s", "a"...], 0x1 /* 0 vars */) = -1 E2BIG (Argument list too long)',
+        ):
+            with self.subTest(call):
+                trace = self.convert(call)
+                self.assertEqual(told(trace, "op", "path")[:2], [("open", "/w/s"), ("exec", "/w/s")])
+                self.assertNotIn("/bin/sh", {record.get("path") for record in trace})
+        self.assertEqual(self.convert('execve(0x8, ["s"], 0x1 /* 0 vars */) = -1 EFAULT (Bad address)'), [])
+        self.assertEqual(self.unsaid(), [("EFAULT before Landlock is asked", False)])
+
         self.convert('acct("f") = 0', 'acct("nothere") = -1 ENOENT (No such file or directory)')
         self.assertEqual(self.unsaid(), [(inexpressible.WITHOUT_FOLDERS, True)])
 

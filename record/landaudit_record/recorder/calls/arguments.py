@@ -30,8 +30,14 @@ REMOVING = frozenset({"rmdir", "unlinkat"})
 NOT_REACHED = frozenset({"ENOENT", "ENOTDIR", "ELOOP"})
 
 
+#: The argument that is the path of a program: the kernel opens the program before it reads the other arguments.
+_PROGRAM = {"execve": 0, "execveat": 1}
+
+
 def is_before_paths(call: Call) -> bool:
     """Whether a call failed before the kernel looked at its paths."""
+    if call.error == "EFAULT" and call.name in _PROGRAM:
+        return values.text(call.arguments[_PROGRAM[call.name]]) is None
     return call.error in _BEFORE_PATHS or (call.error == "EINVAL" and is_invalid(call))
 
 

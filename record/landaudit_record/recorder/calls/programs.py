@@ -15,6 +15,8 @@ from .descriptors import OWN_TABLE
 
 CLONE_UNTRACED = 0x800000
 AT_EXECVE_CHECK = 0x10000
+#: The errors of arguments that can't be read, or are too long: the kernel has opened the program alone.
+BEFORE_INTERPRETERS = frozenset({"E2BIG", "EFAULT"})
 NOT_FOLLOWED = "a process that strace can't follow (CLONE_UNTRACED)"
 UNKNOWN_PROGRAM = "a program whose interpreter or loader is not known: it was gone, or another, when it was read"
 UNKNOWN_FORMAT = "a program that the kernel runs by a format which is not known (binfmt_misc)"
@@ -91,7 +93,7 @@ def _interpreters(scene: Scene, thread: Thread, call: Call, program: Spot) -> li
     An interpreter that was opened when its format was registered is not asked about, but its loader is.
     """
     found: list[Spot] = []
-    if call.error == "ENOENT" and _is_inaccessible(thread, call):
+    if call.error in BEFORE_INTERPRETERS or (call.error == "ENOENT" and _is_inaccessible(thread, call)):
         return found
     spot, called = program, _called(call)
     for _ in range(MOST_INTERPRETERS):
