@@ -187,9 +187,39 @@ class OtherProcesses(WrittenLogs):
             "process_madvise(3<pid:1>, [], 1, 0x4, 0) = 0",
             f"pidfd_getfd(3<pid:1>, 4, 0) = {EPERM}",
             "setns(3<pid:1>, 0x40000000 /* CLONE_NEWNET */) = 0",
+            "ioctl(3<pid:1>, 0xff0a /* _IOC(_IOC_NONE, 0xff, 0xa, 0) */, 0) = 4",
+            f"ioctl(3<pid:1>, 0xff0a /* PIDFD_GET_UTS_NAMESPACE */, 0) = {EACCES}",
         ):
             with self.subTest(call):
                 self.assert_hole(ptrace.INTO_ANOTHER, call)
+
+    def test_errors_that_come_after_the_kernel_asked(self) -> None:
+        """Linux 6.18 answered each of them, and EPERM under a layer."""
+        for call in (
+            "process_vm_readv(1, [], 1, [], 1, 0) = -1 EFAULT (Bad address)",
+            "process_vm_writev(1, [], 1, [], 1, 0) = -1 EFAULT (Bad address)",
+            "move_pages(1, 1, 0x8, NULL, 0x8, 0) = -1 EFAULT (Bad address)",
+            "get_robust_list(1, 0x8, 0x8) = -1 EFAULT (Bad address)",
+            "kcmp(10, 1, 0 /* KCMP_FILE */, 500, 500) = -1 EBADF (Bad file descriptor)",
+            f"kcmp(10, 1, 0x63 /* KCMP_??? */) = {EINVAL}",
+            "pidfd_getfd(3<pid:1>, 99, 0) = -1 EBADF (Bad file descriptor)",
+            f"setns(3<pid:1>, 0x10000000 /* CLONE_NEWUSER */) = {EINVAL}",
+        ):
+            with self.subTest(call):
+                self.assert_hole(ptrace.INTO_ANOTHER, call)
+
+    def test_errors_that_come_before(self) -> None:
+        """Linux 6.18 answered each of them under a layer too."""
+        self.convert(
+            "process_vm_readv(1, 0x8, 1, [], 1, 0) = -1 EFAULT (Bad address)",
+            "process_vm_readv(1, [], 1, 0x8, 1, 0) = -1 EFAULT (Bad address)",
+            f"move_pages(1, 1, 0x8, NULL, 0x8, 0x63) = {EINVAL}",
+            "pidfd_getfd(77, 99, 0) = -1 EBADF (Bad file descriptor)",
+            "process_madvise(3<pid:1>, 0x8, 1, 0x4, 0) = -1 EFAULT (Bad address)",
+            f"setns(3<pid:1>, 0x1) = {EINVAL}",
+            f"ioctl(3<pid:1>, 0xff0a /* PIDFD_GET_UTS_NAMESPACE */, 0x5) = {EINVAL}",
+        )
+        self.assertEqual(self.unsaid(), [])
 
     def test_calls_that_look_into_the_process_itself_or_its_children(self) -> None:
         self.convert(

@@ -17,7 +17,8 @@ from ..unwritten import CannotSay, NotAsked
 from ..processes import Handle, Thread
 from ..scene import Scene
 from ..strace_log import Call
-from . import arguments, files, opening, scopes
+from . import arguments, files, opening, ptrace, scopes
+from .invalid import is_invalid
 
 F_DUPFD = 0
 F_SETFD = 2
@@ -213,6 +214,8 @@ def _ioctl(scene: Scene, thread: Thread, call: Call) -> None:
         handle.close_on_exec = command == FIOCLEX
     elif command in (FIOSETOWN, SIOCSPGRP):
         scopes.owned(scene, thread, call)
+    elif command in ptrace.NAMESPACE_OF_PROCESS:
+        ptrace.by_pidfd(scene, thread, call, ptrace.OF_PATHS)
     if handle is None or call.error == "EBADF" or (not handle.in_trace and handle.adopted == "other"):
         return
     if handle.foreign and handle.adopted == "device" and command not in LET_THROUGH:

@@ -43,6 +43,22 @@ _OPENED = re.compile(
 _SEARCHES = frozenset({"access", "faccessat", "faccessat2", "chdir", "inotify_add_watch", "getxattr", "lgetxattr"})
 _RUNS = ("execve", "execveat")
 _LISTED = "/proc"
+#: Errors that the kernel answers after it has asked whether a process may be looked into (tried on Linux 6.18).
+_AFTER: dict[str, tuple[str, ...]] = {
+    "process_vm_readv": ("EFAULT",),
+    "process_vm_writev": ("EFAULT",),
+    "move_pages": ("EFAULT",),
+    "get_robust_list": ("EFAULT",),
+    "kcmp": ("EBADF", "EINVAL"),
+    "pidfd_getfd": ("EBADF",),
+    "setns": ("EINVAL",),
+}
+#: Calls with two lists of memory, which the kernel reads first.
+_WITH_LISTS = frozenset({"process_vm_readv", "process_vm_writev"})
+#: The namespaces of setns(2).
+_NAMESPACES = 0x7E020080
+#: The commands of ioctl(2) that open a namespace of a process (PIDFD_GET_*_NAMESPACE), which fail as a path does.
+NAMESPACE_OF_PROCESS = range(0xFF01, 0xFF0B)
 #: A descriptor of a process: of pidfd_open(2), or of its directory (pidfd_send_signal(2)).
 _PIDFD = re.compile(r"(?:pid:|/proc/)(\d+)$")
 
@@ -192,11 +208,11 @@ def _by_pid(*indexes: int) -> Handler:
     return looked
 
 
-def by_pidfd(scene: Scene, thread: Thread, call: Call) -> None:
+def by_pidfd(scene: Scene, thread: Thread, call: Call, error: str = OF_CALLS) -> None:
     """A call that names a process by a descriptor (pidfd_open(2))."""
     pid = pid_behind(call)
     if pid is not None:
-        _look(scene, thread, call, [pid])
+        _look(scene, thread, call, [pid], error)
 
 
 def pid_behind(call: Call) -> int | None:
@@ -205,12 +221,24 @@ def pid_behind(call: Call) -> int | None:
     return int(named[1]) if named is not None else None
 
 
-def _look(scene: Scene, thread: Thread, call: Call, pids: list[int]) -> None:
-    judged = call.ok or thread.process.confined
-    if judged and (call.ok or call.error in (OF_CALLS, OF_PATHS)):
-        reached(scene, thread, call, PTRACE, pids)
-    if (call.ok or call.error in (OF_CALLS, OF_PATHS)) and any(may_refuse(scene, thread, pid) for pid in pids):
+def _look(scene: Scene, thread: Thread, call: Call, pids: list[int], error: str = OF_CALLS) -> None:
+    passed = call.ok or _is_after(call)
+    if not passed and call.error not in (OF_CALLS, OF_PATHS):
+        return
+    judged = passed or thread.process.confined
+    if judged:
+        reached(scene, thread, call, PTRACE, pids, error)
+    if any(may_refuse(scene, thread, pid) for pid in pids):
         scene.leave_out(thread, call, INTO_ANOTHER, asks=True, reach=judged)
+
+
+def _is_after(call: Call) -> bool:
+    """Whether a call failed after the kernel had asked whether the process may be looked into."""
+    if call.name in _WITH_LISTS and not all(call.arguments[index].startswith("[") for index in (1, 3)):
+        return False
+    if call.name == "setns" and arguments.number_at(call, 1) & ~_NAMESPACES:
+        return False
+    return call.error in _AFTER.get(call.name, ())
 
 
 def _ptrace(scene: Scene, thread: Thread, call: Call) -> None:
