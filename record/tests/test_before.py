@@ -43,6 +43,7 @@ class Invalid(WrittenLogs):
             f'linkat({CWD}, "f", {CWD}, "h", 0x1)',
             f'unlinkat({CWD}, "f", 0x1)',
             'mknod("x", 0160644)',
+            "ftruncate(0, -1)",
             'truncate("f", -1)',
             'truncate("f", 18446744073709551615)',
             f'openat2({CWD}, "f", {{flags=0, resolve=0x100000}}, 24)',
@@ -213,7 +214,6 @@ class OpenedInside(WrittenLogs):
             trace = self.convert(f'openat({CWD}, "s", {flags}) = 3</w/s>', run)
             self.assertEqual([path for op, path in told(trace, "op", "path") if op == "exec"], paths)
 
-    def test_the_file_of_acct_is_opened_again_without_its_folders(self) -> None:
     def test_a_program_whose_arguments_can_not_be_read_or_are_too_long(self) -> None:
         """The kernel opens it first, but no interpreter."""
         self.disk = [*DISK, {"path": "/w/s", "kind": "reg", "runs": True, "interpreter": "/bin/sh"}]
@@ -229,6 +229,7 @@ class OpenedInside(WrittenLogs):
         self.assertEqual(self.convert('execve(0x8, ["s"], 0x1 /* 0 vars */) = -1 EFAULT (Bad address)'), [])
         self.assertEqual(self.unsaid(), [("EFAULT before Landlock is asked", False)])
 
+    def test_the_file_of_acct_is_opened_again_without_its_folders(self) -> None:
         self.convert('acct("f") = 0', 'acct("nothere") = -1 ENOENT (No such file or directory)')
         self.assertEqual(self.unsaid(), [(inexpressible.WITHOUT_FOLDERS, True)])
 

@@ -237,6 +237,8 @@ def _opened_peer(scene: Scene, thread: Thread, call: Call) -> None:
 
 
 def _ftruncate(scene: Scene, thread: Thread, call: Call) -> None:
+    if call.error == "EINVAL" and is_invalid(call):
+        raise NotAsked("EINVAL before Landlock is asked")
     of = values.descriptor(call.arguments[0])
     handle = scene.handle(thread, call, of)
     if handle is None or call.error == "EBADF":

@@ -44,6 +44,8 @@ _INVALID: Mapping[str, Callable[[Call], bool]] = {
     "renameat2": lambda call: _number(call, 4) not in _RENAME_FLAGS,
     "linkat": lambda call: bool(_number(call, 4) & ~_LINK_FLAGS),
     "unlinkat": lambda call: bool(_number(call, 2) & ~_UNLINK_FLAGS),
+    "ftruncate": lambda call: not 0 <= _number(call, 1) <= _LONGEST,
+    "ftruncate64": lambda call: not 0 <= _number(call, 1) <= _LONGEST,
     "truncate": lambda call: not 0 <= _number(call, 1) <= _LONGEST,
     "truncate64": lambda call: not 0 <= _number(call, 1) <= _LONGEST,
 }
