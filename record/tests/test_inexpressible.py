@@ -7,6 +7,7 @@ tests repeat it.
 from __future__ import annotations
 
 
+from landaudit_record.common import jsonl, reach
 from landaudit_record.recorder.calls import descriptors, inexpressible, mounts, programs, ptrace
 
 from .written_logs import CWD, DISK, WrittenLogs, told
@@ -315,6 +316,24 @@ class Families(WrittenLogs):
     def test_an_address_of_the_sockets_family_is_asked_about(self) -> None:
         trace = self.convert(self.IPV4, f"connect(3<socket:[7]>, {self.TO_IPV4}, 16) = 0")
         self.assertEqual(told(trace, "op", "port"), [("connect", 80)])
+
+    def test_an_address_that_strace_could_not_read(self) -> None:
+        """That of a process without PR_SET_DUMPABLE, if the recorder is not root."""
+        datagrams = "socket(0x2 /* AF_INET */, 0x2 /* SOCK_DGRAM */, 0) = 3<socket:[7]>"
+        for socket, call in (
+            (self.IPV4, "bind(3<socket:[7]>, 0x7ffc552fecc0, 16) = 0"),
+            (self.IPV4, "connect(3, 0x7ffc552fecc0, 16) = -1 ECONNREFUSED (Connection refused)"),
+            ("socket(0x1 /* AF_UNIX */, 0x1 /* SOCK_STREAM */, 0) = 3", "bind(3, 0x7ffc552fecc0, 110) = 0"),
+            (datagrams, "connect(7<socket:[9]>, 0x7ffc552fecc0, 16) = 0"),
+        ):
+            with self.subTest(call):
+                self.assert_hole(descriptors.UNREAD_ADDRESS, socket, call)
+        fault = "bind(3<socket:[7]>, 0x8, 16) = -1 EFAULT (Bad address)"
+        self.assertEqual(self.convert(self.IPV4, fault), [])
+        self.assertEqual([asks for _, asks in self.unsaid()], [False])
+        self.convert(datagrams, "connect(3<socket:[7]>, 0x7ffc552fecc0, 16) = 0")
+        scopes = [line.get("scope") for _, line in jsonl.numbered(self.out / "unsaid.jsonl")]
+        self.assertEqual(scopes, [reach.ABSTRACT])
 
     def test_an_address_of_another_family_is_not(self) -> None:
         trace = self.convert(

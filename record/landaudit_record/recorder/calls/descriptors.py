@@ -57,6 +57,7 @@ LET_THROUGH = frozenset(
 _PORT = re.compile(r"htons\((\d+)\)")
 _PORT_AND_ADDRESS = 6
 OWN_TABLE = "a thread with a descriptor table of its own"
+UNREAD_ADDRESS = "an address that could not be read"
 OTHER_FAMILY = "an address of another family than the socket's"
 MAY_BE_A_DEVICE = "an ioctl on an object of which nothing says whether it is a device"
 FOREIGN = "a descriptor that came from elsewhere: what Landlock kept with it is not known"
@@ -134,6 +135,8 @@ def _made_socket(call: Call) -> Handle:
 
 
 def _bind(scene: Scene, thread: Thread, call: Call) -> None:
+    if _is_unread(call):
+        raise CannotSay(UNREAD_ADDRESS)
     if _family(call) != files.AF_UNIX:
         _on_port(scene, thread, call, "bind")
     elif call.error == "EAFNOSUPPORT" or (call.error == "EINVAL" and _is_tcp(scene, thread, call)):
@@ -149,10 +152,26 @@ def _is_tcp(scene: Scene, thread: Thread, call: Call) -> bool:
 
 
 def _connect(scene: Scene, thread: Thread, call: Call) -> None:
-    if _family(call) != files.AF_UNIX:
+    if _is_unread(call):
+        _connected_somewhere(scene, thread, call)
+    elif _family(call) != files.AF_UNIX:
         _on_port(scene, thread, call, "connect")
     else:
         scopes.connected(scene, thread, call)
+
+
+def _connected_somewhere(scene: Scene, thread: Thread, call: Call) -> None:
+    handle = scene.handle(thread, call, values.descriptor(call.arguments[0]))
+    if handle is None or handle.foreign or handle.tcp is not None:
+        raise CannotSay(UNREAD_ADDRESS)
+    scopes.connected_somewhere(scene, thread, call)
+
+
+def _is_unread(call: Call) -> bool:
+    """Whether the kernel read an address that strace could not read: of a process of which nobody may see the memory
+    (PR_SET_DUMPABLE), if the recorder is not root.
+    """
+    return call.arguments[1].startswith("0x") and call.error not in ("EBADF", "EFAULT", "ENOTSOCK")
 
 
 def _family(call: Call) -> int:

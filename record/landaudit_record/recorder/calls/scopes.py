@@ -91,6 +91,12 @@ def connected(scene: Scene, thread: Thread, call: Call) -> None:
     scene.recording.reaches(ABSTRACT, thread.process.pid, to, call.line, call.text, name=name, **about)
 
 
+def connected_somewhere(scene: Scene, thread: Thread, call: Call) -> None:
+    """A connection to an address that nobody knows, which may be an abstract name."""
+    if _is_asked(thread, call):
+        _count(scene, thread, call, ABSTRACT)
+
+
 def sent(scene: Scene, thread: Thread, call: Call) -> None:
     """Datagrams of a UNIX socket: the log does not have their addresses, but whether sendto(2) has one."""
     if _is_asked(thread, call) and (call.name != "sendto" or arguments.number_at(call, _ADDRESS)):
