@@ -4,7 +4,9 @@ from __future__ import annotations
 
 import os
 import random
+import subprocess
 import tempfile
+import time
 import unittest
 from pathlib import Path
 from struct import pack
@@ -47,6 +49,32 @@ class Links(unittest.TestCase):
         seen.look(str(self.one))
         seen.keep(kept)
         self.assertEqual(disk.kept(kept, 0.0).look(str(self.one)), disk.look(str(self.one)))
+
+
+@unittest.skipUnless(os.geteuid() == 0, "mounting takes privileges")
+class Merged(unittest.TestCase):
+    """overlayfs gives a file another birth time when it copies it, so nobody knows whether the run made it."""
+
+    def test_a_file_that_is_copied_when_it_is_changed(self) -> None:
+        folder = Path(self.enterContext(tempfile.TemporaryDirectory()))
+        lower, upper, work, merged = (folder / name for name in ("lower", "upper", "work", "merged"))
+        for one in (lower, upper, work, merged):
+            one.mkdir()
+        (lower / "file").write_text("there before")
+        options = f"lowerdir={lower},upperdir={upper},workdir={work}"
+        words = ["mount", "-t", "overlay", "-o", options, "none", merged]
+        if subprocess.run(words, stderr=subprocess.DEVNULL, check=False).returncode:
+            self.skipTest("this system does not mount overlayfs here")
+        self.addCleanup(subprocess.run, ["umount", merged], check=True)
+        since = time.time()
+        time.sleep(0.1)
+        self.assertEqual(disk.look(str(merged / "file"), since), disk.Seen("reg", new=False))
+        (merged / "file").write_text("changed")
+        (merged / "other").write_text("made")
+        (upper / "beside").write_text("made")
+        for name in ("file", "other"):
+            self.assertEqual(disk.look(str(merged / name), since), disk.Seen("reg", new=None))
+        self.assertEqual(disk.look(str(upper / "beside"), since), disk.Seen("reg", new=True))
 
 
 class Interpreters(unittest.TestCase):

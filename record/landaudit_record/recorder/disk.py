@@ -34,6 +34,9 @@ _AT_SYMLINK_NOFOLLOW = 0x100
 _STATX_BTIME = 0x800
 _STATX_SIZE = 256
 _STATX_BTIME_AT = 80
+_STATFS_SIZE = 256
+_WORD = ctypes.sizeof(ctypes.c_long)
+_OVERLAYFS_SUPER_MAGIC = 0x794C7630
 #: A character device 0:0: which kind it is for Landlock the kernel says (docs/SEMANTICS.md, "Whiteouts").
 WHITEOUT = "whiteout"
 
@@ -105,9 +108,14 @@ def look(path: str, since: float = 0.0) -> Seen | None:
 
 
 def _is_new(path: str, since: float) -> bool | None:
-    """Whether an object was made after a time, if its file system says so; nothing is newer than no time."""
+    """Whether an object was made after a time, if its file system says so; nothing is newer than no time.
+
+    What overlayfs shows may have been there before: it copies an object to its upper layer when that is first changed.
+    """
     born = _born(path) if since else 0.0
-    return None if born is None else bool(since) and born >= since
+    if born is None or not since or born < since:
+        return None if born is None else False
+    return None if _is_merged(os.path.dirname(path)) else True
 
 
 def mode(path: str) -> Mode | None:
@@ -131,6 +139,13 @@ def _born(path: str) -> float | None:
     seconds = int.from_bytes(buffer.raw[_STATX_BTIME_AT : _STATX_BTIME_AT + 8], "little", signed=True)
     nanoseconds = int.from_bytes(buffer.raw[_STATX_BTIME_AT + 8 : _STATX_BTIME_AT + 12], "little")
     return seconds + nanoseconds / 1e9
+
+
+def _is_merged(directory: str) -> bool:
+    """Whether a directory is in an overlayfs (statfs(2))."""
+    buffer = ctypes.create_string_buffer(_STATFS_SIZE)
+    found = _libc().statfs(os.fsencode(directory), buffer) == 0
+    return found and int.from_bytes(buffer.raw[:_WORD], "little") == _OVERLAYFS_SUPER_MAGIC
 
 
 @cache
