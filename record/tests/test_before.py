@@ -6,6 +6,7 @@ import unittest
 
 from landaudit_record.common.jsonl import numbered
 from landaudit_record.recorder.calls import descriptors, inexpressible, landlock, opening, ptrace
+from landaudit_record.recorder import mounted
 from landaudit_record.recorder.mounted import MountPlaces
 from landaudit_record.recorder.names import OF_KIND, UNKNOWN_WAY
 
@@ -144,7 +145,12 @@ class SplitLinks(WrittenLogs):
         return next(line.get("same") for _, line in numbered(self.out / "tree.jsonl") if line["path"] == "/m/b")
 
     def test_names_of_one_object(self) -> None:
-        self.assertEqual(self.same("ext4"), "/m/a")
+        """On ext4, and on an overlayfs that mountinfo shows with an index (Linux 6.18)."""
+        shown = self.out.with_name("mountinfo")
+        line = "49 27 0:9 / /m rw,relatime - overlay none rw,lowerdir=l,upperdir=u,workdir=w{},uuid=on\n"
+        shown.write_text(line.format(",index=on") + line.format(""))
+        with_index, without = mounted.mounts(shown)
+        self.assertEqual([self.same("ext4"), self.same(with_index.kind), self.same(without.kind)], ["/m/a", "/m/a", None])
 
     def test_names_of_objects_apart(self) -> None:
         for kind in ("overlay", "fuse", "fuse.bindfs"):

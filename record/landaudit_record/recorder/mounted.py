@@ -20,6 +20,8 @@ OF_KERNEL = frozenset(
 )
 #: The file system that shows several directories as one.
 MERGED = "overlay"
+#: The type that one has here if it keeps an index of hard links (index=on), with which a file's names are one object.
+INDEXED = "overlay.index"
 #: File systems that a process serves; the type may say which (`fuse.sshfs`).
 SERVED = ("fuse", "fuseblk")
 
@@ -45,8 +47,8 @@ def mounts(file: Path = MOUNTS) -> list[Mount]:
 def _mount(fields: list[str]) -> Mount:
     """A line's mount; the escapes of a name stand for its bytes."""
     root, place = (_name(field) for field in fields[3:5])
-    kind = fields[fields.index("-") + 1]
-    return Mount(place, fields[2], root, kind, tuple(fields[-1].split(",")))
+    kind, options = fields[fields.index("-") + 1], tuple(fields[-1].split(","))
+    return Mount(place, fields[2], root, INDEXED if kind == MERGED and "index=on" in options else kind, options)
 
 
 def _name(field: str) -> str:
