@@ -12,6 +12,8 @@ pub mod RuledAlike
 pub mod RightByRight
 pub mod MovesAlike
 pub mod PassingMoves
+pub mod ChainMoves
+pub mod MovesInRegions
 pub mod GainLemmas
 pub mod Nothing
 pub mod Apart

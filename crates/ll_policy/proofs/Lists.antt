@@ -3,7 +3,7 @@ use Rattle.std.proofs.Common.{◌≡◌, ℕ, zero, suc, ◌+◌, ◌<◌, ◌�
 use Rattle.std.proofs.Common.{[], ◌∷◌, ◌++◌, length, take, get_or, refl, sym, ap, ◌∙◌, subst, inl, inr, arith}
 use Rattle.std.specs.Prelude.{All, Some, None, find, unwrap_or, map}
 use Rattle.std.proofs.lemmas.Option.{none-some}
-use Rattle.std.proofs.lemmas.List.FromFn.{length-range_with_len, get_or-range_with_len, filter_of_map_range_with_len_more}
+use Rattle.std.proofs.lemmas.List.FromFn.{length-range_with_len, get_or-range_with_len, filter_of_map_range_with_len_more, map-range_with_len_more}
 use Rattle.std.proofs.lemmas.List.{map-id, append_assoc, append-nil, take_more, take_all}
 use Rattle.std.specs.List.{Contains, flat_map, filter, list_any, list_all, range_with_len, AllZip}
 use Rattle.std.proofs.lemmas.Bool.{cases_Bool, and_parts, and_from, false≢true}
@@ -129,6 +129,11 @@ filter_range_more p bound =
     ap (filter p) (sym (map-id (range_with_len 0 (bound + 1)))) ∙ filter_of_map_range_with_len_more p (λ (x : ℕ). x) 0 bound bound (omega arith)
     ∙ ap (λ (xs : List ℕ). filter p xs ++ cond (p bound) (bound ∷ []) []) (map-id (range_with_len 0 bound))
 
+range_next : (bound : ℕ) → range_with_len 0 (bound + 1) ≡ range_with_len 0 bound ++ bound ∷ []
+range_next bound =
+    sym (map-id (range_with_len 0 (bound + 1))) ∙ map-range_with_len_more (λ (x : ℕ). x) 0 bound bound (omega arith)
+    ∙ ap (λ (xs : List ℕ). xs ++ bound ∷ []) (map-id (range_with_len 0 bound))
+
 pub range_kept : (p : ℕ → Bool) (bound : ℕ) (first chain new : List ℕ) → chain ≡ first ++ filter p (range_with_len 0 bound) → p bound ≡ true
     → new ≡ chain ++ bound ∷ [] → new ≡ first ++ filter p (range_with_len 0 (bound + 1))
 range_kept p bound first chain new so_far passes is =
@@ -156,6 +161,18 @@ pub zip_more : {A B : Type 0} (R : A → B → Type 0) (xs : List A) (i : ℕ) (
 zip_more {A = A} {B = B} R xs i d ys new y within so_far one is =
     subst (λ (zs : List B). AllZip R (take (i + 1) xs) zs) (sym is)
     (subst (λ (some : List A). AllZip R some (ys ++ y ∷ [])) (sym (take_more xs i d within)) (zip_push R (take i xs) ys (get_or xs i d) y so_far one))
+
+pub zip_next : {B : Type 0} (R : ℕ → B → Type 0) (bound : ℕ) (ys new : List B) (y : B) → AllZip R (range_with_len 0 bound) ys → R bound y
+    → new ≡ ys ++ y ∷ [] → AllZip R (range_with_len 0 (bound + 1)) new
+zip_next {B = B} R bound ys new y so_far one is =
+    subst (λ (zs : List B). AllZip R (range_with_len 0 (bound + 1)) zs) (sym is)
+    (subst (λ (numbers : List ℕ). AllZip R numbers (ys ++ y ∷ [])) (sym (range_next bound)) (zip_push R (range_with_len 0 bound) ys bound y so_far one))
+
+pub zip_weaker : {A B : Type 0} (R S : A → B → Type 0) → ((x : A) (y : B) → R x y → S x y) → (xs : List A) (ys : List B) → AllZip R xs ys → AllZip S xs ys
+zip_weaker R S weaker [] [] each = tt
+zip_weaker R S weaker [] (y ∷ ys) each = absurd each
+zip_weaker R S weaker (x ∷ xs) [] each = absurd each
+zip_weaker R S weaker (x ∷ xs) (y ∷ ys) each = (weaker x y each.0, zip_weaker R S weaker xs ys each.1)
 
 pub flat_from : {X Y : Type 0} (f : X → List Y) (xs : List X) (y : Y) → Contains (flat_map f xs) y → (x : X) × Contains xs x × Contains (f x) y
 flat_from f [] y within = absurd (omega (arith, within.1))

@@ -48,7 +48,7 @@ none_if true number = refl
 none_if false number = refl
 
 module _ {L : Type 0} where
-  none_by : (test : L → Bool) (number : ℕ) (layer : L) (layers : List L)
+  pub none_by : (test : L → Bool) (number : ℕ) (layer : L) (layers : List L)
       → is_none (numbers_from test number (layer ∷ layers)) ≡ (not (test layer) && is_none (numbers_from test (number + 1) layers))
   unfolding numbers_from
   none_by test number layer layers =
@@ -85,7 +85,7 @@ crosses true layers = refl
 crosses false layers = passes_where XDev layers Passed ∙ and_true (is_none layers)
 
 -- a move passes where no layer denies it, and either it stays or no layer holds it back
-parts : (domain : List (RulesOn Path)) (tree : List Entry) (move : Move) → lets_pass domain tree move
+pub parts : (domain : List (RulesOn Path)) (tree : List Entry) (move : Move) → lets_pass domain tree move
     ≡ (is_none (numbers_from (denies tree move) 1 domain)
     && (path_eq (source_of tree move) (destination_of tree move.target) || is_none (numbers_from (holds_back tree move) 1 domain)))
 unfolding move_verdict
@@ -96,7 +96,7 @@ parts domain tree move =
 
 -- ---- rights on one path
 
-lacks_none : (layer : RulesOn Path) (path : Path) → lacks_one_of layer path [] ≡ false
+pub lacks_none : (layer : RulesOn Path) (path : Path) → lacks_one_of layer path [] ≡ false
 unfolding some_right all_rights named_rights
 lacks_none layer path = refl
 
@@ -116,7 +116,7 @@ lacks_it layer path right =
     (λ own. has (only right) own && handles layer own && not (granted layer path own))
     (λ own. ap (λ (b : Bool). b && handles layer own && not (granted layer path own)) (sym (one_asked (only right) right own refl)))
 
-usable : (domain : List (RulesOn Path)) (path : Path) (right : FsRight)
+pub usable : (domain : List (RulesOn Path)) (path : Path) (right : FsRight)
     → is_none (numbers_from (λ layer. lacks_one_of layer path (right ∷ [])) 1 domain) ≡ lets_use domain path right
 usable domain path right =
     none_alike (λ layer. lacks_one_of layer path (right ∷ [])) (λ layer. lacks layer path (only right)) (λ layer. lacks_it layer path right) 1 domain

@@ -62,21 +62,25 @@ reached_all parents grants i on past here =
 
 -- ---- what passes
 
-lets_spread : (parents : List ℕ) (layer : Granting) (n : ℕ) → lets (single n) (spread parents layer) ≡ lets (region parents n) layer
-unfolding lets some_among spread
-lets_spread parents layer n =
+pub reached_there : (parents : List ℕ) (layer : Granting) (n : ℕ)
+    → some_among (single n) (spread parents layer).grants ≡ some_among (region parents n) layer.grants
+unfolding some_among spread
+reached_there parents layer n =
     let marks = map (granted_by layer.grants) (chains_of parents) in
-    ap (λ (b : Bool). not layer.handles || b)
-    (or_false (is_among n (places_of marks)) ∙ among n marks ∙ mapped_at (granted_by layer.grants) (chains_of parents) n [] false refl)
+    or_false (is_among n (places_of marks)) ∙ among n marks ∙ mapped_at (granted_by layer.grants) (chains_of parents) n [] false refl
 
-passes_spread : (parents : List ℕ) (layers : List Granting) (n : ℕ) → passes (map (spread parents) layers) (single n) ≡ passes layers (region parents n)
+lets_spread : (parents : List ℕ) (layer : Granting) (n : ℕ) → lets (single n) (spread parents layer) ≡ lets (region parents n) layer
+unfolding lets spread
+lets_spread parents layer n = ap (λ (b : Bool). not layer.handles || b) (reached_there parents layer n)
+
+pub passes_spread : (parents : List ℕ) (layers : List Granting) (n : ℕ) → passes (map (spread parents) layers) (single n) ≡ passes layers (region parents n)
 unfolding passes
 passes_spread parents [] n = refl
 passes_spread parents (layer ∷ layers) n = rw (lets_spread parents layer n, passes_spread parents layers n) refl
 
 -- ---- where
 
-filter_agree : {X : Type 0} (p q : X → Bool) → ((x : X) → p x ≡ q x) → (xs : List X) → filter p xs ≡ filter q xs
+pub filter_agree : {X : Type 0} (p q : X → Bool) → ((x : X) → p x ≡ q x) → (xs : List X) → filter p xs ≡ filter q xs
 filter_agree p q same [] = refl
 filter_agree p q same (x ∷ xs) = rw (same x, filter_agree p q same xs) refl
 

@@ -9,4 +9,6 @@ pub mod Found
 pub mod Regions
 pub mod AlikeMoves
 pub mod PassingMoves
+pub mod Moving
+pub mod FoundMoves
 pub mod WorkedPolicies

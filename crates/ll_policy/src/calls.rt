@@ -13,6 +13,8 @@ ghost use Rattle.ll_rules.specs.{Layers.RulesOn, LayerNumbers.is_among};
 ghost use Rattle.ll_rules.specs.Checks.{refusing};
 ghost use Rattle.ll_rules.specs.Moves.{move_verdict};
 ghost use Rattle.ll_policy.specs.AlikeMoves.{AreAlike, stays, within_one_directory};
+ghost use Rattle.ll_rules.specs.InTree.{all_in_tree};
+ghost use Rattle.ll_policy.specs.Moving.{GoesBy, about_moves, link_passes, rename_passes};
 ghost use Rattle.ll_policy.specs.PassingMoves.{lets_pass, lets_use, renaming, linking, exchanging};
 
 /// The layers that refuse a set of rights are those that refuse some right of it.
@@ -60,4 +62,18 @@ pub fn moves_made_of_others()
         → lets_pass domain tree (exchanging one other)
         ≡ (lets_pass domain tree (renaming one (Over other))
         && lets_pass domain tree (renaming other (Over one))) }
+{}
+
+/// A move from one directory of a tree to another passes exactly if it does by the chains of rules on three ways up: from
+/// the object, from the directory that it leaves, and from the one that it comes to.
+#[tactic(auto, using(crate::proofs::ChainMoves::moves_by_chains))]
+pub fn moves_pass_by_ways_up()
+    ensures link { (tree : List Entry) (layers : List (RulesOn ℕ)) (moved directory : NodeId)
+        (object from to : List ℕ) → GoesBy tree layers moved directory object from to
+        → lets_pass (all_in_tree tree layers) tree (linking moved (New directory))
+        ≡ link_passes (about_moves (kind_at tree moved) layers) object from to }
+    ensures rename { (tree : List Entry) (layers : List (RulesOn ℕ)) (moved directory : NodeId)
+        (object from to : List ℕ) → GoesBy tree layers moved directory object from to
+        → lets_pass (all_in_tree tree layers) tree (renaming moved (New directory))
+        ≡ rename_passes (about_moves (kind_at tree moved) layers) object from to }
 {}

@@ -28,7 +28,7 @@ pub struct Passing {
 }
 
 /// What each layer grants on the objects, each with those that it is in.
-fn all_spread(
+pub(crate) fn all_spread(
     alloc: Global,
     parents: &[usize],
     layers: &[Granting],

@@ -1,0 +1,545 @@
+//! Moves between regions that pass under one of two policies and not under the other.
+
+ghost use Rattle.std.specs.Prelude.{◌≡◌, ◌<◌, ◌+◌, ℕ, false, IfOk, None, filter, length, map, replicate};
+ghost use Rattle.std.specs.List.{AllZip, list_all, range_with_len};
+ghost use Rattle.ll_rights.specs.CodeRights.{fs_right};
+ghost use Rattle.ll_rights.specs.Kinds.{make_right_of, remove_right_of};
+ghost use Rattle.ll_rights.specs.Rights as for_files;
+ghost use Rattle.ll_policy.specs.Chains as chains;
+ghost use Rattle.ll_policy.specs.Granted.{granting};
+ghost use Rattle.ll_policy.specs.Places.{is_file_in};
+ghost use Rattle.ll_policy.specs.Policies.{rules_of};
+ghost use Rattle.ll_policy.specs.Regions.{single, spread};
+ghost use Rattle.ll_policy.specs.Moving as specs;
+ghost use Rattle.ll_policy.specs.FoundMoves.{all_kinds, spread_all, lets_move, passes_by, MovesNowhere, parent_in, may_be, moves_alone, beneath_alone, itself_alone, TellsMovers, TellsMovedTo, TellsMoves};
+
+use crate::deciding::{ROOT, is_file, passes};
+use crate::granting::{Granting, all_on_objects};
+use crate::layer::Layer;
+use crate::regions::all_spread;
+use ll_rights::{Fs, FsRight, Kind};
+use std::alloc::{AllocError, Global};
+use std::marker::Model;
+
+/// Objects that one policy alone lets be moved to a region, by their numbers.
+#[derive(Drop)]
+pub struct Movers {
+    /// Directories: what has no rule itself in the regions of these.
+    pub beneath: Vec<usize>,
+    /// Objects with rules.
+    pub themselves: Vec<usize>,
+}
+
+/// What each policy alone lets be moved to a region.
+#[derive(Drop)]
+pub struct MovedTo {
+    pub new: Movers,
+    pub old: Movers,
+}
+
+/// The kinds of objects, in the order in which their moves are told.
+fn kinds() -> &'static [Kind]
+    ensures { result.now ≡ all_kinds }
+{
+    &[
+        Kind::Reg,
+        Kind::Sym,
+        Kind::Char,
+        Kind::Block,
+        Kind::Fifo,
+        Kind::Sock,
+        Kind::Dir,
+    ]
+}
+
+/// The right to make an object of a kind.
+fn make_right(kind: Kind) -> FsRight
+    ensures { fs_right result ≡ make_right_of kind }
+{
+    match kind {
+        Kind::Dir => FsRight::MakeDir,
+        Kind::Reg => FsRight::MakeReg,
+        Kind::Sym => FsRight::MakeSym,
+        Kind::Char => FsRight::MakeChar,
+        Kind::Block => FsRight::MakeBlock,
+        Kind::Fifo => FsRight::MakeFifo,
+        Kind::Sock => FsRight::MakeSock,
+    }
+}
+
+/// The right to remove an object of a kind.
+fn remove_right(kind: Kind) -> FsRight
+    ensures { fs_right result ≡ remove_right_of kind }
+{
+    match kind {
+        Kind::Dir => FsRight::RemoveDir,
+        _ => FsRight::RemoveFile,
+    }
+}
+
+/// Whether a right applies to what is no directory.
+fn is_file_right(right: FsRight) -> bool
+    ensures { result ≡ for_files.is_file_right (fs_right right) }
+{
+    matches!(
+        right,
+        FsRight::Execute
+            | FsRight::WriteFile
+            | FsRight::ReadFile
+            | FsRight::Truncate
+            | FsRight::IoctlDev
+    )
+}
+
+/// Whether objects of a kind may gain a right.
+fn applies(kind: Kind, right: FsRight) -> bool
+    ensures { result ≡ specs.applies kind (fs_right right) }
+{
+    match kind {
+        Kind::Dir => true,
+        _ => is_file_right(right),
+    }
+}
+
+/// What layers say of moves of objects of a kind, in each region.
+#[derive(Drop)]
+struct Moving {
+    make: Vec<Granting>,
+    remove: Vec<Granting>,
+    refer: Vec<Granting>,
+    gained: Vec<Vec<Granting>>,
+}
+
+impl Model for Moving {
+    ghost use Rattle.std.specs.Prelude.{map};
+    ghost use Rattle.ll_policy.specs.Moving.{MoveGranting};
+
+    ghost Value = { MoveGranting };
+
+    ghost view = { λ a. record {
+      make = a.make.items;
+      remove = a.remove.items;
+      refer = a.refer.items;
+      gained = map (λ layers. layers.items) a.gained.items;
+    } };
+}
+
+/// What layers say of a right for files, in each region.
+fn in_regions(
+    alloc: Global,
+    parents: &[usize],
+    layers: &[Layer],
+    right: FsRight,
+) -> Result<Vec<Granting>, AllocError>
+    ensures { IfOk result (λ made. made.items
+        ≡ map (spread parents.now) (map (granting (fs_right right)) (map rules_of layers.now))) }
+{
+    all_spread(alloc, parents, &all_on_objects(alloc, layers, right)?)
+}
+
+/// The same of each right that objects of a kind may gain.
+fn gained_in_regions(
+    alloc: Global,
+    kind: Kind,
+    parents: &[usize],
+    layers: &[Layer],
+) -> Result<Vec<Vec<Granting>>, AllocError>
+    ensures { IfOk result (λ made. map (λ layers. layers.items) made.items
+        ≡ (spread_all parents.now (specs.about_moves kind (map rules_of layers.now))).gained) }
+{
+    let mut made = Vec::new(alloc);
+    for right in FsRight::all() {
+        if applies(kind, *right) {
+            made.push(in_regions(alloc, parents, layers, *right)?)?;
+        }
+    }
+    Ok(made)
+}
+
+/// Whether an object has a right already in a layer, if it has it in a directory and the layer handles it.
+#[tactic(auto, using(crate::proofs::MovesInRegions::one_among), unfolding(crate::specs::Moving::gains_nothing))]
+fn gains_nothing(object: usize, to: usize, layer: &Granting) -> bool
+    ensures { result ≡ specs.gains_nothing (single object) (single to) layer.now }
+{
+    !(layer.handles() && layer.grants_on(to)) || layer.grants_on(object)
+}
+
+/// The same of each layer.
+fn gains_nothing_by_all(object: usize, to: usize, layers: &[Granting]) -> bool
+    ensures { result ≡ list_all (specs.gains_nothing (single object) (single to)) layers.now }
+{
+    layers.iter().all(|layer| gains_nothing(object, to, layer))
+}
+
+/// The same of each right.
+fn gains_none(object: usize, to: usize, rights: &[Vec<Granting>]) -> bool
+    ensures { result
+        ≡ list_all (λ layers. list_all (specs.gains_nothing (single object) (single to))
+        layers.items) rights.now }
+{
+    rights
+        .iter()
+        .all(|layers| gains_nothing_by_all(object, to, layers))
+}
+
+impl Moving {
+    /// What layers say of moves of objects of a kind.
+    fn of(
+        alloc: Global,
+        kind: Kind,
+        parents: &[usize],
+        layers: &[Layer],
+    ) -> Result<Moving, AllocError>
+        ensures { IfOk result (λ made. made
+            ≡ spread_all parents.now (specs.about_moves kind (map rules_of layers.now))) }
+    {
+        let make = in_regions(alloc, parents, layers, make_right(kind))?;
+        let remove = in_regions(alloc, parents, layers, remove_right(kind))?;
+        let refer = in_regions(alloc, parents, layers, FsRight::Refer)?;
+        let gained = gained_in_regions(alloc, kind, parents, layers)?;
+        Ok(Moving {
+            make,
+            remove,
+            refer,
+            gained,
+        })
+    }
+
+    /// Whether objects may come to a region.
+    #[tactic(auto, unfolding(crate::specs::Moving::comes))]
+    fn comes(&self, to: usize) -> bool
+        ensures { result ≡ specs.comes self.now (single to) }
+    {
+        let chain = [to];
+        passes(&chain, &self.make) && passes(&chain, &self.refer)
+    }
+
+    /// Whether an object gains no right by a move.
+    #[tactic(auto, using(crate::proofs::MovesInRegions::all_of_mapped), unfolding(crate::specs::Moving::gains_none))]
+    fn gains_none(&self, object: usize, to: usize) -> bool
+        ensures { result ≡ specs.gains_none (single object) (single to) self.now.gained }
+    {
+        gains_none(object, to, &self.gained)
+    }
+
+    /// Whether a link passes.
+    #[tactic(auto, unfolding(crate::specs::Moving::link_passes))]
+    fn link_passes(&self, object: usize, from: usize, to: usize) -> bool
+        ensures { result ≡ specs.link_passes self.now (single object) (single from) (single to) }
+    {
+        self.comes(to) && passes(&[from], &self.refer) && self.gains_none(object, to)
+    }
+
+    /// Whether a rename passes.
+    #[tactic(auto, unfolding(crate::specs::Moving::rename_passes))]
+    fn rename_passes(&self, object: usize, from: usize, to: usize) -> bool
+        ensures { result ≡ specs.rename_passes self.now (single object) (single from) (single to) }
+    {
+        self.link_passes(object, from, to) && passes(&[from], &self.remove)
+    }
+
+    /// Whether an object of a kind may be moved.
+    #[tactic(auto, unfolding(crate::specs::Moving::move_passes))]
+    fn passes(&self, kind: Kind, object: usize, from: usize, to: usize) -> bool
+        ensures { result
+            ≡ specs.move_passes kind self.now (single object) (single from) (single to) }
+    {
+        match kind {
+            Kind::Dir => self.rename_passes(object, from, to),
+            _ => self.link_passes(object, from, to),
+        }
+    }
+}
+
+/// Whether one policy lets an object be moved and the other doesn't.
+fn moves_alone(
+    kind: Kind,
+    one: &Moving,
+    other: &Moving,
+    object: usize,
+    from: usize,
+    to: usize,
+) -> bool
+    ensures { result
+        ≡ moves_alone (passes_by kind one.now) (passes_by kind other.now) object from to }
+{
+    one.passes(kind, object, from, to) && !other.passes(kind, object, from, to)
+}
+
+/// Whether that is so of an object without rules in the region of a directory.
+fn beneath_alone(
+    files: &[bool],
+    kind: Kind,
+    one: &Moving,
+    other: &Moving,
+    to: usize,
+    directory: usize,
+) -> bool
+    ensures { result
+        ≡ beneath_alone (is_file_in files.now)
+        (passes_by kind one.now) (passes_by kind other.now) to directory }
+{
+    !is_file(files, directory) && moves_alone(kind, one, other, directory, directory, to)
+}
+
+/// What an object is in.
+fn parent_in(parents: &[usize], object: usize) -> usize
+    ensures { result ≡ parent_in parents.now object }
+{
+    if object == ROOT {
+        return ROOT;
+    }
+    parents.get(object - 1).copied().unwrap_or(ROOT)
+}
+
+/// Whether an object may be one of a kind that is moved.
+fn may_be(files: &[bool], kind: Kind, object: usize) -> bool
+    ensures { result ≡ may_be (is_file_in files.now) kind object }
+{
+    if object == ROOT {
+        return false;
+    }
+    match kind {
+        Kind::Dir => !is_file(files, object),
+        _ => is_file(files, object),
+    }
+}
+
+/// Whether one policy alone lets an object with rules be moved.
+fn itself_alone(
+    files: &[bool],
+    parents: &[usize],
+    kind: Kind,
+    one: &Moving,
+    other: &Moving,
+    to: usize,
+    object: usize,
+) -> bool
+    ensures { result
+        ≡ itself_alone (is_file_in files.now) parents.now kind
+        (passes_by kind one.now) (passes_by kind other.now) to object }
+{
+    may_be(files, kind, object)
+        && moves_alone(kind, one, other, object, parent_in(parents, object), to)
+}
+
+/// The directories in whose regions one policy alone lets objects be moved.
+fn all_beneath(
+    alloc: Global,
+    files: &[bool],
+    kind: Kind,
+    one: &Moving,
+    other: &Moving,
+    count: usize,
+    to: usize,
+) -> Result<Vec<usize>, AllocError>
+    ensures { IfOk result (λ found. found.items
+        ≡ filter (beneath_alone (is_file_in files.now)
+        (passes_by kind one.now) (passes_by kind other.now) to) (range_with_len 0 count)) }
+{
+    let mut found = Vec::new(alloc);
+    for directory in 0..count {
+        if beneath_alone(files, kind, one, other, to, directory) {
+            found.push(directory)?;
+        }
+    }
+    Ok(found)
+}
+
+/// The objects with rules that one policy alone lets be moved.
+fn all_themselves(
+    alloc: Global,
+    files: &[bool],
+    parents: &[usize],
+    kind: Kind,
+    one: &Moving,
+    other: &Moving,
+    count: usize,
+    to: usize,
+) -> Result<Vec<usize>, AllocError>
+    ensures { IfOk result (λ found. found.items
+        ≡ filter (itself_alone (is_file_in files.now) parents.now kind
+        (passes_by kind one.now) (passes_by kind other.now) to) (range_with_len 0 count)) }
+{
+    let mut found = Vec::new(alloc);
+    for object in 0..count {
+        if itself_alone(files, parents, kind, one, other, to, object) {
+            found.push(object)?;
+        }
+    }
+    Ok(found)
+}
+
+/// What one policy alone lets be moved to a region.
+fn all_movers(
+    alloc: Global,
+    files: &[bool],
+    parents: &[usize],
+    kind: Kind,
+    one: &Moving,
+    other: &Moving,
+    to: usize,
+) -> Result<Movers, AllocError>
+    ensures { IfOk result (TellsMovers (is_file_in files.now) parents.now kind
+        (passes_by kind one.now) (passes_by kind other.now) to) }
+{
+    let count = parents.len() + 1;
+    let beneath = all_beneath(alloc, files, kind, one, other, count, to)?;
+    let themselves = all_themselves(alloc, files, parents, kind, one, other, count, to)?;
+    Ok(Movers {
+        beneath,
+        themselves,
+    })
+}
+
+/// What each policy alone lets be moved to a region, if that is of a directory to which one of them lets objects come.
+#[tactic(auto, using(crate::proofs::MovesInRegions::nothing_comes))]
+fn moved_to(
+    alloc: Global,
+    files: &[bool],
+    parents: &[usize],
+    kind: Kind,
+    old: &Moving,
+    new: &Moving,
+    to: usize,
+) -> Result<Option<MovedTo>, AllocError>
+    ensures { IfOk result (TellsMovedTo (is_file_in files.now) parents.now kind
+        (passes_by kind old.now) (passes_by kind new.now) to) }
+{
+    if is_file(files, to) {
+        return Ok(None);
+    }
+    if !old.comes(to) && !new.comes(to) {
+        return Ok(None);
+    }
+    Ok(Some(MovedTo {
+        new: all_movers(alloc, files, parents, kind, new, old, to)?,
+        old: all_movers(alloc, files, parents, kind, old, new, to)?,
+    }))
+}
+
+/// The same of each of so many regions.
+fn moved_to_each(
+    alloc: Global,
+    files: &[bool],
+    parents: &[usize],
+    kind: Kind,
+    old: &Moving,
+    new: &Moving,
+    count: usize,
+) -> Result<Vec<Option<MovedTo>>, AllocError>
+    ensures { IfOk result (λ found. AllZip
+        (TellsMovedTo (is_file_in files.now) parents.now kind
+        (passes_by kind old.now) (passes_by kind new.now)) (range_with_len 0 count) found.items) }
+{
+    let mut found = Vec::new(alloc);
+    for to in 0..count {
+        found.push(moved_to(alloc, files, parents, kind, old, new, to)?)?;
+    }
+    Ok(found)
+}
+
+/// The moves of objects of a kind that one policy alone lets pass, by the regions that they come to.
+fn moves_of(
+    alloc: Global,
+    files: &[bool],
+    parents: &[usize],
+    old: &[Layer],
+    new: &[Layer],
+    kind: Kind,
+) -> Result<Vec<Option<MovedTo>>, AllocError>
+    ensures { IfOk result (λ found. AllZip
+        (TellsMovedTo (is_file_in files.now) parents.now kind
+        (lets_move parents.now kind (map rules_of old.now))
+        (lets_move parents.now kind (map rules_of new.now)))
+        (range_with_len 0 (length parents.now + 1)) found.items) }
+{
+    let old = Moving::of(alloc, kind, parents, old)?;
+    let new = Moving::of(alloc, kind, parents, new)?;
+    let count = parents.len() + 1;
+    Ok(moved_to_each(alloc, files, parents, kind, &old, &new, count)?)
+}
+
+/// Whether a right passes in one of so many regions.
+fn passes_somewhere(count: usize, layers: &[Granting]) -> bool
+    ensures { result ≡ false
+        → (region : ℕ) → region < count → chains.passes layers.now (single region) ≡ false }
+{
+    for region in 0..count {
+        if passes(&[region], layers) {
+            return true;
+        }
+    }
+    false
+}
+
+/// Whether objects may leave a directory, or come to another, in some region.
+fn moves_somewhere(alloc: Global, parents: &[usize], layers: &[Layer]) -> Result<bool, AllocError>
+    ensures { IfOk result (λ some. some ≡ false
+        → MovesNowhere parents.now (map rules_of layers.now)) }
+{
+    let refer = in_regions(alloc, parents, layers, FsRight::Refer)?;
+    Ok(passes_somewhere(parents.len() + 1, &refer))
+}
+
+/// That nothing is moved to any of so many regions.
+#[tactic(auto, using(std::proofs::lemmas::List::replicate_more))]
+fn nothing_moved(alloc: Global, count: usize) -> Result<Vec<Option<MovedTo>>, AllocError>
+    ensures { IfOk result (λ found. found.items ≡ replicate count None) }
+{
+    let mut found = Vec::new(alloc);
+    for _ in 0..count {
+        found.push(None)?;
+    }
+    Ok(found)
+}
+
+/// The same of a kind that is asked about, and nothing of others. If it is known that no policy lets anything be moved,
+/// no region is looked at.
+#[tactic(auto, using(crate::proofs::MovesInRegions::told_of_nothing))]
+fn moves_asked(
+    alloc: Global,
+    asked: Fs,
+    files: &[bool],
+    parents: &[usize],
+    old: &[Layer],
+    new: &[Layer],
+    somewhere: bool,
+    kind: Kind,
+) -> Result<Vec<Option<MovedTo>>, AllocError>
+    requires old { somewhere ≡ false → MovesNowhere parents.now (map rules_of old.now) }
+    requires new { somewhere ≡ false → MovesNowhere parents.now (map rules_of new.now) }
+    ensures { IfOk result (TellsMoves asked (is_file_in files.now) parents.now
+        (map rules_of old.now) (map rules_of new.now) kind) }
+{
+    if !asked.has(make_right(kind)) {
+        return Ok(Vec::new(alloc));
+    }
+    if !somewhere {
+        return Ok(nothing_moved(alloc, parents.len() + 1)?);
+    }
+    moves_of(alloc, files, parents, old, new, kind)
+}
+
+/// The moves between regions that one policy alone lets pass: for each kind of objects, if the right to make one is asked
+/// about, those to each region.
+pub fn moves_between_regions(
+    alloc: Global,
+    asked: Fs,
+    files: &[bool],
+    parents: &[usize],
+    old: &[Layer],
+    new: &[Layer],
+) -> Result<Vec<Vec<Option<MovedTo>>>, AllocError>
+    ensures { IfOk result (λ found. AllZip
+        (TellsMoves asked (is_file_in files.now) parents.now
+        (map rules_of old.now) (map rules_of new.now))
+        all_kinds found.items) }
+{
+    let somewhere = moves_somewhere(alloc, parents, old)? || moves_somewhere(alloc, parents, new)?;
+    let mut found = Vec::new(alloc);
+    for kind in kinds() {
+        found.push(moves_asked(alloc, asked, files, parents, old, new, somewhere, *kind)?)?;
+    }
+    Ok(found)
+}
