@@ -83,7 +83,7 @@ class Rules(unittest.TestCase):
         self.assertEqual(said("--calls", "1"), (3, "", "landaudit-rules: line 1: Field\n"))
         with open("/dev/full", "wb") as full:
             run = subprocess.run([BUILT_RULES], stdout=full, stderr=subprocess.PIPE, text=True, check=False,
-                                 input='{"files":[false],"ports":0,"regions":[],"objects":[],"single":[],"gains":[]}\n')
+                                 input='{"files":[false],"ports":0,"regions":[],"objects":[],"single":[],"gains":[],"moves":[]}\n')
         self.assertEqual((run.returncode, run.stderr), (4, "landaudit-rules: cannot write\n"))
 
 

@@ -9,10 +9,9 @@ from pathlib import Path
 from unittest import mock
 
 from landaudit_record import cli
-from landaudit_record.engine import asking
 from landaudit_record.engine.landaudit import BUILT
-from landaudit_record.policy import moving, parents, policies
-from landaudit_record.policy.regions import RULED_KINDS, Region, Regions, areas, as_named
+from landaudit_record.policy import parents, policies
+from landaudit_record.policy.regions import Region, Regions, areas, as_named
 from landaudit_record.recorder.mounted import MountPlaces
 
 from . import brute, covering
@@ -35,7 +34,7 @@ parent = "/data/out"
 
 
 class InRegions(unittest.TestCase):
-    regions = Regions(("/", "/a", "/a/b", "/a/b/c", "/a/d"), (80,), "~try~")
+    regions = Regions(("/", "/a", "/a/b", "/a/b/c", "/a/d"), ((80,),))
 
     def said(self, differing: set[Region], of_files: bool = False) -> list[str]:
         return list(map(str, areas(self.regions, differing, of_files)))
@@ -55,25 +54,17 @@ class InRegions(unittest.TestCase):
     def test_of_policies(self) -> None:
         with tempfile.TemporaryDirectory() as folder:
             file = Path(folder, "P.toml")
-            file.write_text(OLD.replace("/srv", "/srv//x/../~try~"))
+            file.write_text(OLD.replace("/srv", "/srv//x/../y"))
             found = Regions.of([policies.read(file)])
-        self.assertEqual(found.paths, ("/", "/data/in", "/data/out", "/data/shared", "/srv/~try~"))
-        self.assertEqual((found.word, found.ports, found.numbered_ports), ("~try~~", (), (None,)))
-        kinds = found.kinds()
-        self.assertEqual({kinds[found.as_file("/data/in", kind)] for kind in RULED_KINDS}, set(RULED_KINDS))
-        self.assertEqual((kinds["/data"], kinds["/data/in"], kinds[found.child("/", "sock")]), ("dir", "dir", "sock"))
-
-    def test_each_region_has_an_object_in_a_directory_that_is_listed(self) -> None:
-        kinds = self.regions.kinds()
-        for path in kinds:
-            self.assertTrue(path == "/" or kinds[path.rpartition("/")[0] or "/"] == "dir", path)
+        self.assertEqual(found.paths, ("/", "/data/in", "/data/out", "/data/shared", "/srv/y"))
+        self.assertEqual((found.ports, found.numbered_ports), ((), (None,)))
 
     def test_names_follow_no_link(self) -> None:
         self.assertEqual(as_named("/lib/./x//../y/"), "/lib/y")
 
     def test_ports_with_a_rule_by_groups_and_all_without_one(self) -> None:
-        self.assertEqual(Regions(("/",), ((0, 3), (1,)), "").numbered_ports, (0, 1, None))
-        self.assertEqual(Regions(("/",), (tuple(range(65536)),), "").numbered_ports, (0,))
+        self.assertEqual(Regions(("/",), ((0, 3), (1,))).numbered_ports, (0, 1, None))
+        self.assertEqual(Regions(("/",), (tuple(range(65536)),)).numbered_ports, (0,))
 
 
 @unittest.skipUnless(BUILT.exists(), f"{BUILT} is not built")
@@ -162,8 +153,6 @@ class Differing(InFolder):
                 "  moves of objects of every kind from under /data/in to under /data/out",
             },
         )
-        with mock.patch.object(moving, "FEW", 3), mock.patch.object(asking, "MOST_PROCESSES", 3):
-            self.assertEqual(self.said(OLD, new, "--abi", "4-5")[1], lines)
         # The rule on /data/shared stays with its object, also where that is moved out of /data.
         moved = "  read_file, read_dir by the rule on /data/shared, wherever that is moved or linked (refused by layer 1)"
         self.assertIn(moved, lines[lines.index("old lets pass what new refuses:") :])

@@ -30,13 +30,6 @@ handled_access_fs = ["all"]
 allowed_access = ["execute"]
 parent = "/program"
 """
-#: Lets files be moved, which `diff` asks landaudit about.
-MOVES = """[[layer]]
-handled_access_fs = ["all"]
-[[layer.path_beneath]]
-allowed_access = ["refer", "make_reg", "remove_file"]
-parent = ["/from", "/to"]
-"""
 TREE = [{"path": "/program", "kind": "reg"}, {"path": "/f", "kind": "reg"}]
 TRACE = [{"op": "start", "pid": 10}, {"op": "exec", "path": "/program", "pid": 10, "call": 1},
          {"op": "open", "path": "/f", "mode": "r", "fd": 3, "pid": 10, "call": 2}]
@@ -67,7 +60,7 @@ class Ends(unittest.TestCase):
         self.recording.mkdir()
         write_lines(self.recording / "tree.jsonl", TREE)
         write_lines(self.recording / "trace.jsonl", TRACE)
-        for name, text in (("policy", POLICY), ("moves", MOVES), ("cases", CASES), ("config", CONFIG)):
+        for name, text in (("policy", POLICY), ("cases", CASES), ("config", CONFIG)):
             (self.folder / f"{name}.toml").write_text(text)
         (self.folder / "kernel.log").write_bytes(kept("dmesg.log"))
         (self.folder / "audit.json").write_text(json.dumps(random_audit(random.Random(1), "rec")))
@@ -132,8 +125,7 @@ class Ends(unittest.TestCase):
     def test_another_program_in_the_place_of_landaudit(self) -> None:
         for other in ("/bin/true", "/bin/false", "/bin/echo", "/bin/pwd"):
             for program, words in self.calls():
-                if words[0] in ("audit", "suggest", "tighten", "compare", "diff", "check"):
-                    words = ["diff", "policy.toml", "moves.toml"] if words[0] == "diff" else words
+                if words[0] in ("audit", "suggest", "tighten", "compare", "check"):
                     with self.subTest(words, other=other):
                         run = self.ended([sys.executable, program, *words, "--landaudit", other])
                         self.failed(program, words, run)

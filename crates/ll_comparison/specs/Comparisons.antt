@@ -147,7 +147,8 @@ asked_in value = do
   objects ← asked_at (codes "objects") value
   single ← asked_at (codes "single") value
   gains ← asked_at (codes "gains") value
-  Ok (record { regions = regions; objects = objects; single = single; gains = gains })
+  moves ← asked_at (codes "moves") value
+  Ok (record { regions = regions; objects = objects; single = single; gains = gains; moves = moves })
 
 unfoldable pub comparison_in : Data → Result Comparison Cause
 comparison_in value = do

@@ -4,6 +4,8 @@ use Rattle.std.specs.Prelude.{ℕ, [], ◌∷◌, codes, Option, Vec}
 use Rattle.std.specs.Global.{Global}
 use Rattle.json.specs.Json.{Json}
 use Rattle.ll_policy.specs.declared.gaining.Gain.{Gain}
+use Rattle.ll_policy.specs.declared.moving.MovedTo.{MovedTo}
+use Rattle.ll_policy.specs.declared.moving.Movers.{Movers}
 use Rattle.ll_policy.specs.declared.regions.Passing.{Passing}
 use Rattle.ll_values.specs.Texts.{object_of, whole_json, option_json, list_json}
 use Rattle.ll_comparison.specs.declared.found.Found.{Found}
@@ -28,6 +30,18 @@ single_json = list_json (list_json (list_json whole_json))
 abbrev pub gains_json : Vec (Vec (Option Gain) Global) Global → Json
 gains_json = list_json (list_json (option_json gain_json))
 
+-- what is moved: directories beneath which objects are, and objects themselves
+abbrev pub movers_json : Movers → Json
+movers_json movers = object_of ((codes "beneath", list_json whole_json movers.beneath) ∷ (codes "themselves", list_json whole_json movers.themselves) ∷ [])
+
+-- what each policy alone lets be moved to a region
+abbrev pub moved_to_json : MovedTo → Json
+moved_to_json moved = object_of ((codes "new", movers_json moved.new) ∷ (codes "old", movers_json moved.old) ∷ [])
+
+-- for each kind of objects, what is moved to each region
+abbrev pub moves_json : Vec (Vec (Option MovedTo) Global) Global → Json
+moves_json = list_json (list_json (option_json moved_to_json))
+
 -- the regions or ports under both policies, under the new one alone, and under the old one alone
 abbrev pub passing_json : Passing → Json
 passing_json found = object_of (
@@ -50,6 +64,7 @@ found_json found = object_of (
     ∷ (codes "objects", chains_json found.objects)
     ∷ (codes "single", single_json found.single)
     ∷ (codes "gains", gains_json found.gains)
+    ∷ (codes "moves", moves_json found.moves)
     ∷ (codes "ports", list_json passing_json found.ports)
     ∷ (codes "lost", lost_json found.lost)
     ∷ (codes "spare_layers", whole_json found.spare_layers)

@@ -31,6 +31,8 @@ pub struct Asked {
     pub single: Fs,
     /// What gains these under the new policy alone.
     pub gains: Fs,
+    /// Moves between regions of objects that need one of these to be made.
+    pub moves: Fs,
 }
 
 /// Two policies that are to be compared.
@@ -151,11 +153,13 @@ fn asked_of(value: &Value) -> Result<Asked, Cause>
     let objects = asked_about(value, "objects")?;
     let single = asked_about(value, "single")?;
     let gains = asked_about(value, "gains")?;
+    let moves = asked_about(value, "moves")?;
     Ok(Asked {
         regions,
         objects,
         single,
         gains,
+        moves,
     })
 }
 

@@ -6,8 +6,9 @@ ghost use Rattle.ll_comparison.specs.Findings.{AreLost, IsFound};
 
 use crate::comparison::Comparison;
 use ll_policy::{
-    Gain, Layer, Passing, Restriction, lost, more_gains, more_on_objects, more_on_single_objects,
-    passing_on_objects, passing_on_ports, spare_layers,
+    Gain, Layer, MovedTo, Passing, Restriction, lost, more_gains, more_on_objects,
+    more_on_single_objects, moves_between_regions, passing_on_objects, passing_on_ports,
+    spare_layers,
 };
 use std::alloc::{AllocError, Global};
 
@@ -24,6 +25,9 @@ pub struct Found {
     pub single: Vec<Vec<Vec<usize>>>,
     /// For each right for files and each old layer, what gains the right in it and in no new layer.
     pub gains: Vec<Vec<Option<Gain>>>,
+    /// For each kind of objects, the moves that pass under one policy alone, by the regions that they come to; none if it
+    /// isn't asked about.
+    pub moves: Vec<Vec<Option<MovedTo>>>,
     /// For each right for ports, the ports on which it passes.
     pub ports: Vec<Passing>,
     /// The restrictions that are lost.
@@ -68,12 +72,14 @@ pub fn compare(alloc: Global, comparison: &Comparison) -> Result<Found, AllocErr
     let objects = more_on_objects(alloc, asked.objects, files, old, new)?;
     let single = more_on_single_objects(alloc, asked.single, files.len(), old, new)?;
     let gains = more_gains(alloc, asked.gains, files, old, new)?;
+    let moves = moves_between_regions(alloc, asked.moves, files, parents, old, new)?;
     let ports = passing_on_ports(alloc, *ports, old, new)?;
     Ok(Found {
         regions,
         objects,
         single,
         gains,
+        moves,
         ports,
         lost: all_lost(old, new),
         spare_layers: spare_layers(old, new),

@@ -4,11 +4,11 @@ ghost use Rattle.std.specs.Prelude.{◌≡◌, ◌∷◌, ◌++◌, OnOk, map};
 ghost use Rattle.json.specs.Token as token;
 ghost use Rattle.json.specs.Tree.{json_tokens, items_tokens};
 ghost use Rattle.ll_values.specs.Texts.{items_of, whole_json, option_json, list_json};
-ghost use Rattle.ll_comparison.specs.Texts.{gain_json, passing_json, lost_json, found_json};
+ghost use Rattle.ll_comparison.specs.Texts.{gain_json, movers_json, moved_to_json, passing_json, lost_json, found_json};
 
 use crate::found::{Found, Lost};
 use json::Writer;
-use ll_policy::{Gain, Passing};
+use ll_policy::{Gain, MovedTo, Movers, Passing};
 use std::alloc::AllocError;
 
 /// What is written as JSON.
@@ -88,6 +88,29 @@ impl Told for Gain {
     }
 }
 
+impl Told for Movers {
+    ghost json = { movers_json };
+
+    fn write(&self, out: &mut Writer) -> Result<(), AllocError> {
+        out.begin_object()?;
+        write_member(out, "beneath", &self.beneath)?;
+        write_member(out, "themselves", &self.themselves)?;
+        out.end_object()
+    }
+}
+
+impl Told for MovedTo {
+    ghost json = { moved_to_json };
+
+    fn write(&self, out: &mut Writer) -> Result<(), AllocError> {
+        let MovedTo { new, old } = self;
+        out.begin_object()?;
+        write_member(out, "new", new)?;
+        write_member(out, "old", old)?;
+        out.end_object()
+    }
+}
+
 impl Told for Passing {
     ghost json = { passing_json };
 
@@ -121,6 +144,7 @@ impl Told for Found {
         write_member(out, "objects", &self.objects)?;
         write_member(out, "single", &self.single)?;
         write_member(out, "gains", &self.gains)?;
+        write_member(out, "moves", &self.moves)?;
         write_member(out, "ports", &self.ports)?;
         write_member(out, "lost", &self.lost)?;
         write_member(out, "spare_layers", &self.spare_layers)?;

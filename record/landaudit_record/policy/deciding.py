@@ -182,7 +182,7 @@ def _breaches(
                      if question.is_about(path) and (of_files or not places.is_file(path))}
         paths = places.named(differing, of_files=of_files)
         regions = {Region(path) for path in paths if path in differing}
-        for area in areas(Regions(paths, (), ""), regions, of_files=False):
+        for area in areas(Regions(paths, ()), regions, of_files=False):
             by_area[replace(area, as_file=places.is_file(area.path))] += rights
     return tuple(Breach(tuple(rights), area, tuple(_grants(layers, area.path, rights)))
                  for area, rights in by_area.items())

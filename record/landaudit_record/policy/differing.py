@@ -4,14 +4,13 @@ There each object has that name alone; `anywhere` says what else passes once obj
 mounts, scopes and further layers do.
 
 landaudit-rules decides in which regions (`regions`) each right passes, and on which ports: a set of rights passes if
-each of them does. Moves are left to landaudit (`moving`).
+each of them does. So it does for moves between regions (`moving`).
 """
 
 from __future__ import annotations
 
-from collections.abc import Iterator, Mapping, Sequence
+from collections.abc import Iterator, Mapping
 from dataclasses import dataclass, field
-from pathlib import Path
 
 from ..common.rights import FILE_RIGHTS, FS, NET
 from ..engine import landaudit_rules
@@ -53,16 +52,14 @@ class Differences:
     less: dict[Differing, Abis] = field(default_factory=dict)
     tried: int = 0
 
-    def add(self, subject: RightAt | Move, old: Abis, new: Abis) -> None:
-        """Notes the ABIs at which one policy lets a call pass and the other refuses it."""
-        file = subject.as_file
-        for found, alone in ((self.more, new - old), (self.less, old - new)):
-            at = frozenset(abi for abi in alone if file is None or not self.regions.is_directory(file, abi))
-            if at:
-                found[subject] = found.get(subject, _NONE) | at
+    def add(self, subject: RightAt | Move, abi: int, is_new: bool) -> None:
+        """Notes an ABI at which one policy alone lets a call pass, the new one or the old one."""
+        if subject.as_file is None or not self.regions.is_directory(subject.as_file, abi):
+            found = self.more if is_new else self.less
+            found[subject] = found.get(subject, _NONE) | {abi}
 
 
-def differences(program: Path, old: Policy, new: Policy, abis: range) -> Differences:
+def differences(old: Policy, new: Policy, abis: range) -> Differences:
     """All differences of two policies at some ABIs."""
     rules = landaudit_rules.find()
     regions = Regions.of((old, new))
@@ -71,13 +68,11 @@ def differences(program: Path, old: Policy, new: Policy, abis: range) -> Differe
     found = Differences(regions)
     answers = ruling.answers(rules, objects, [_asked(of, objects, regions) for of in both])
     for of, answer in zip(both, answers):
-        at = frozenset({of.abi})
-        for subject, is_new in _rights(objects, regions, answer):
-            found.add(subject, *((_NONE, at) if is_new else (at, _NONE)))
-    found.tried += _tried(objects, regions)
-    for tried in moving.tried(program, old, new, regions, abis, _passing(objects, answers)):
-        found.tried += 1
-        found.add(tried.move, tried.old, tried.new)
+        for right, is_new in _rights(objects, regions, answer):
+            found.add(right, of.abi, is_new)
+        for move, is_new in moving.differing(objects, answer):
+            found.add(move, of.abi, is_new)
+    found.tried = _tried(objects, regions)
     turned = [of.turned() for of in both]
     for differing, one, other, seen in ((found.more, new, old, both), (found.less, old, new, turned)):
         rest = anywhere.more(rules, one, other, objects, seen, _named(differing), _moved_to(differing))
@@ -105,15 +100,18 @@ def _moved_to(differing: Mapping[Differing, Abis]) -> Mapping[str, Abis]:
 
 def _asked(of: Sides, objects: RuledObjects, regions: Regions) -> Comparison:
     """The policies, with the regions and a port of each group; one more port stands for those without a rule."""
-    return Comparison(of.old, of.new, objects.parents, len(regions.numbered_ports), regions=FS.groups["all"])
+    return Comparison(of.old, of.new, objects.parents, len(regions.numbered_ports), regions=FS.groups["all"] - {REFER},
+                      moves=frozenset(moving.MAKING.values()))
 
 
 def _tried(objects: RuledObjects, regions: Regions) -> int:
-    """How many rights are asked about: each for files in each region, but REFER, and each for ports on each port."""
+    """How many calls are compared: with each right for files in each region, but REFER, and each for ports on each port;
+    and moves of each kind from each region, and of each path with a rule, to each region."""
     files = objects.files.count(True)
     directories = objects.files.count(False)
     of_files = (len(FS.since) - 1) * directories + len(FILE_RIGHTS) * files
-    return of_files + len(NET.since) * len(regions.numbered_ports)
+    moves = len(moving.MAKING) * (directories + files) * directories
+    return of_files + moves + len(NET.since) * len(regions.numbered_ports)
 
 
 def _rights(objects: RuledObjects, regions: Regions, answer: ComparisonAnswer) -> Iterator[tuple[RightAt, bool]]:
@@ -138,13 +136,3 @@ def _alone(passing: Passing) -> Iterator[tuple[int, bool]]:
     """Where a right passes under one policy alone, in order, and whether that is the new one."""
     yield from ((number, number in passing.new) for number in sorted(passing.old | passing.new))
 
-
-def _passing(objects: RuledObjects, answers: Sequence[ComparisonAnswer]) -> moving.Pass:
-    """Under which paths each right passes, under each policy at each ABI."""
-    named = objects.named
-
-    def paths(numbers: frozenset[int]) -> frozenset[str]:
-        return frozenset(named[number].path for number in numbers if not named[number].as_file)
-
-    return {right: [paths(where.both | alone) for answer in answers for where in (answer.regions[right],)
-                    for alone in (where.old, where.new)] for right in (REFER, *moving.MAKING.values())}

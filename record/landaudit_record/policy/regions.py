@@ -1,12 +1,11 @@
-"""The regions of two policies, and objects of each for landaudit to try moves on.
+"""The regions of two policies.
 
 A policy's answer depends on a path only through the rules on the path and above it. So one path stands for all paths
 that have the same rules on or above them (`regions_stand_for_their_objects`, a law of `ll_policy`): the root stands for
 all paths that have only its rules, and each path with a rule stands for everything beneath it that has no other rule.
 
-A path with a rule is tried as a directory. As a file, it has a rule with other rights, since a file can't have all of
-them, and nothing is beneath it: so it is also tried under a name beside it, with that rule on it. The names of tried
-objects contain a word that no path with a rule has.
+A path with a rule may be a directory. As a file, it has a rule with other rights, since a file can't have all of them,
+and nothing is beneath it.
 """
 
 from __future__ import annotations
@@ -17,20 +16,17 @@ from dataclasses import dataclass
 from functools import cache, cached_property
 
 from ..common.rights import FILE_RIGHTS, NEWEST_ABI, NONE, OLDEST_ABI, Rights
-from ..common.trees import ROOT, Tree, joined, upwards
+from ..common.trees import ROOT, Tree, upwards
 from . import fitting
 from .fitting import FittedLayer
 from .policies import HIGHEST_PORT, Layer, Policy
 
 ALL_ABIS = range(OLDEST_ABI, NEWEST_ABI + 1)
-#: The kinds of objects other than directories; a rule on a link is on what the link leads to.
-FILE_KINDS = ("reg", "sym", "char", "block", "fifo", "sock")
-RULED_KINDS = ("reg", "char", "block", "fifo", "sock")
 
 
 @dataclass(frozen=True)
 class Regions:
-    """The paths and ports that two policies have rules on, and a word that is in no such path.
+    """The paths and ports that two policies have rules on.
 
     The root is the first path, whether it has a rule or not, and each path comes after all paths above it. The ports
     are in groups: on those of one group, each layer of both policies grants the same. `directories` has paths with ABIs
@@ -40,7 +36,6 @@ class Regions:
 
     paths: tuple[str, ...]
     ports: tuple[tuple[int, ...], ...]
-    word: str
     directories: frozenset[tuple[str, int]] = frozenset()
     fitted: tuple[Mapping[int, Sequence[FittedLayer]], ...] = ()
 
@@ -50,11 +45,8 @@ class Regions:
         layers = [layer for policy in policies for layer in policy.layers]
         rules = [rule for layer in layers for rule in layer.path_beneath]
         paths = {as_named(parent) for rule in rules for parent in rule.parents}
-        word = "~try~"
-        while any(word in path for path in paths):
-            word += "~"
         fitted = tuple({abi: fitting.fit(policy, abi)[0] for abi in ALL_ABIS} for policy in policies)
-        return cls(tuple(sorted(paths | {ROOT})), _ports_alike(layers), word, frozenset(_directories(fitted)), fitted)
+        return cls(tuple(sorted(paths | {ROOT})), _ports_alike(layers), frozenset(_directories(fitted)), fitted)
 
     @property
     def ruled(self) -> tuple[str, ...]:
@@ -80,14 +72,6 @@ class Regions:
         """Whether a path may be a file at one of some ABIs."""
         return path != ROOT and not all(self.is_directory(path, abi) for abi in abis)
 
-    def child(self, directory: str, name: str) -> str:
-        """What is tried in a directory."""
-        return joined(directory, self.word + name)
-
-    def as_file(self, path: str, kind: str) -> str:
-        """The path that stands for a path as a file of a kind."""
-        return path + self.word + kind
-
     def above(self, path: str) -> str | None:
         """The region that contains a path's region, None for the root."""
         return self._above[path]
@@ -96,16 +80,6 @@ class Regions:
     def _above(self) -> Mapping[str, str | None]:
         known = frozenset(self.paths)
         return {path: next((over for over in list(upwards(path))[1:] if over in known), None) for path in self.paths}
-
-    def kinds(self) -> dict[str, str]:
-        """The tree: each path as a directory and as files, and in each region an object of each kind."""
-        kinds = {over: "dir" for path in self.paths for over in upwards(path)}
-        for path in self.ruled:
-            kinds |= {self.as_file(path, kind): kind for kind in RULED_KINDS}
-        for path in self.paths:
-            kinds |= {self.child(path, kind): kind for kind in FILE_KINDS}
-            kinds |= {self.child(path, "dir"): "dir", self.child(path, "to"): "dir"}
-        return kinds
 
 
 def _ports_alike(layers: Sequence[Layer]) -> tuple[tuple[int, ...], ...]:

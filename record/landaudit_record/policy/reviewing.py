@@ -51,10 +51,10 @@ def before(allowed: str) -> Policy:
 
 
 def review(
-    program: Path, old: Policy, new: Policy, abis: range, accepted: Sequence[Widening] = (), allowed: str | None = None
+    old: Policy, new: Policy, abis: range, accepted: Sequence[Widening] = (), allowed: str | None = None
 ) -> Review:
     """Compares two policies; `allowed` says that the old one is made up by `before`, and so how many layers it has."""
-    found = differing.differences(program, old, new, abis)
+    found = differing.differences(old, new, abis)
     if allowed is not None:
         for side in (found.more, found.less):
             for room in [subject for subject in side if isinstance(subject, Room)]:

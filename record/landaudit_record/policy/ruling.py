@@ -137,7 +137,8 @@ def _names(rights: Rights) -> list[str]:
 @dataclass(frozen=True)
 class Comparison:
     """The layers of two policies, and what is asked: in which regions rights pass, by what each object is in; which pass
-    on objects together and by themselves, and which are gained; and on which of so many ports rights do."""
+    on objects together and by themselves, and which are gained; which moves of objects that these rights make; and on
+    which of so many ports rights do."""
 
     old: Layers
     new: Layers
@@ -147,13 +148,15 @@ class Comparison:
     objects: Rights = NONE
     single: Rights = NONE
     gains: Rights = NONE
+    moves: Rights = NONE
 
     def line(self, objects: RuledObjects) -> str:
         """The comparison as a line of JSON."""
         sides = {name: [layer.record(of_ports=self.ports > 0) for layer in side]
                  for name, side in (("old", self.old), ("new", self.new))}
         about = {"files": objects.files, "parents": self.parents, "ports": self.ports}
-        asked = {"regions": self.regions, "objects": self.objects, "single": self.single, "gains": self.gains}
+        asked = {"regions": self.regions, "objects": self.objects, "single": self.single, "gains": self.gains,
+                 "moves": self.moves}
         return json.dumps({**about, **{name: _names(of) for name, of in asked.items()}, **sides},
                           separators=(",", ":"))
 
@@ -167,6 +170,16 @@ class Into:
 
 
 @dataclass(frozen=True)
+class Moved:
+    """What may be moved to a region under one policy alone: objects in the regions of directories, and with rules."""
+
+    to: int
+    is_new: bool
+    beneath: Numbers
+    themselves: Numbers
+
+
+@dataclass(frozen=True)
 class Passing:
     """Where a right passes under both policies, and where under one alone: regions or ports by their numbers."""
 
@@ -177,11 +190,13 @@ class Passing:
 
 @dataclass(frozen=True)
 class ComparisonAnswer:
-    """What landaudit-rules found: where each right passes and, for each right for files and each old layer by its index,
-    what passes once objects are moved; of a right for files only what was asked."""
+    """What landaudit-rules found: where each right passes; for each kind of objects the moves that pass under one policy
+    alone; and, for each right for files and each old layer by its index, what passes once objects are moved. Of what is
+    about files it is only what was asked."""
 
     regions: Mapping[str, Passing]
     ports: Mapping[str, Passing]
+    moves: list[list[Moved]]
     single: Mapping[str, list[Numbers]]
     chains: Mapping[str, list[Numbers | None]]
     gains: Mapping[str, list[Into | None]]
@@ -195,6 +210,7 @@ class ComparisonAnswer:
         return cls(
             _passing(FS.since, found["regions"]),
             _passing(NET.since, found["ports"]),
+            [_moved(by_region) for by_region in found["moves"]],
             {right: [tuple(one) for one in row] for right, row in of["single"].items()},
             {right: [None if one is None else tuple(one) for one in row] for right, row in of["objects"].items()},
             {right: [None if one is None else Into(one["directory"], tuple(one["chain"])) for one in row]
@@ -202,6 +218,12 @@ class ComparisonAnswer:
             frozenset(name for name, layer in found["lost"].items() if layer is not None),
             found["spare_layers"],
         )
+
+
+def _moved(by_region: Sequence[Mapping[str, Mapping[str, list[int]]] | None]) -> list[Moved]:
+    """The moves of objects of a kind, where one policy lets some be moved to a region."""
+    return [Moved(to, policy == "new", tuple(movers["beneath"]), tuple(movers["themselves"]))
+            for to, moved in enumerate(by_region) if moved is not None for policy, movers in moved.items()]
 
 
 def _passing(rights: Iterable[str], found: Sequence[Mapping[str, list[int]]]) -> dict[str, Passing]:

@@ -57,8 +57,9 @@ def add_arguments(parser: argparse.ArgumentParser) -> None:
 
 def run(arguments: argparse.Namespace) -> int:
     """Prints what differs; the status is 1 if the new policy lets something pass that the old one refuses."""
-    program = landaudit.find(arguments.landaudit)
-    review, new, unnamed = _review(program, arguments)
+    if arguments.landaudit is not None:
+        landaudit.find(arguments.landaudit)  # landaudit-rules is looked for beside it
+    review, new, unnamed = _review(arguments)
     note((f"accepted, but no longer there: {one} ({one.reason})" for one in review.not_there), POLICIES)
     if arguments.format == reporting.JSON:
         print(json.dumps(differing_data.as_data(review), indent=2))
@@ -77,7 +78,7 @@ def run(arguments: argparse.Namespace) -> int:
     return 1 if review.more else NOT_ALL_JUDGED if unnamed else 0
 
 
-def _review(program: Path, arguments: argparse.Namespace) -> tuple[Review, Policy, list[str]]:
+def _review(arguments: argparse.Namespace) -> tuple[Review, Policy, list[str]]:
     """The comparison, the new policy, and the files with rules that have names which no policy has."""
     if (arguments.old is None) != (arguments.old_allows is not None):
         raise Problem("give the old policy or, if there is none, --old-allows", USAGE)
@@ -92,7 +93,7 @@ def _review(program: Path, arguments: argparse.Namespace) -> tuple[Review, Polic
     *old, new = (parents.under_all_names(policy, paths) for policy in read)
     before = old[0] if old else reviewing.before(arguments.old_allows)
     unnamed = list(dict.fromkeys(path for policy in read for path in parents.with_other_names(policy, paths)))
-    review = reviewing.review(program, before, new, judged(arguments.abis), accepted, arguments.old_allows)
+    review = reviewing.review(before, new, judged(arguments.abis), accepted, arguments.old_allows)
     return review, read[-1], unnamed
 
 

@@ -34,6 +34,7 @@ returns c =
           (search rules) (search rules) (search rules) c.in_ok-single.ensures;
       gains = same_three gains c.deref-9.result.now _ c.deref-10.result.now _ c.deref-11.result.now _
           (search rules) (search rules) (search rules) c.in_ok-gains.ensures;
+      moves = search rules;
       ports = search rules;
       lost = search rules;
       spare_layers = search rules;

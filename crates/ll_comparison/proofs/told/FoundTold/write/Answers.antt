@@ -14,4 +14,5 @@ returns-clause-tokens c =
     (behind c.write_member-4.new.out.tokens c.write_member-5.new.out.tokens last _ _ c.in_ok-write_member-5.ensures.tokens
     (behind c.write_member-5.new.out.tokens c.write_member-6.new.out.tokens last _ _ c.in_ok-write_member-6.ensures.tokens
     (behind c.write_member-6.new.out.tokens c.write_member-7.new.out.tokens last _ _ c.in_ok-write_member-7.ensures.tokens
-    written)))))))) c.end_object.ensures.ok
+    (behind c.write_member-7.new.out.tokens c.write_member-8.new.out.tokens last _ _ c.in_ok-write_member-8.ensures.tokens
+    written))))))))) c.end_object.ensures.ok
