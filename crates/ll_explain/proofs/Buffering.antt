@@ -124,8 +124,8 @@ held_whole bytes few =
     window room 0 bytes (omega arith) ∙ take_all room bytes (omega (arith, counted 0 0 bytes (omega arith), few))
 
 -- the same, of buffers that were found to be so
-pub held_as_measured : (bytes : List ℕ) (measured text : Buffered) (room : ℕ) → measured ≡ adding (blank 0) bytes → room ≡ measured.count → room < most_counted
+pub held_as_counted : (bytes : List ℕ) (counter text : Buffered) (room : ℕ) → counter ≡ adding (blank 0) bytes → room ≡ counter.count → room < most_counted
     → text ≡ adding (blank room) bytes → text.held ≡ bytes
-held_as_measured bytes measured text room is_measured is_room few is_text =
-    let counted : room ≡ (adding (blank 0) bytes).count = is_room ∙ ap (λ (b : Buffered). b.count) is_measured in
+held_as_counted bytes counter text room is_counter is_room few is_text =
+    let counted : room ≡ (adding (blank 0) bytes).count = is_room ∙ ap (λ (b : Buffered). b.count) is_counter in
     ap (λ (b : Buffered). b.held) is_text ∙ ap (λ (n : ℕ). (adding (blank n) bytes).held) counted ∙ held_whole bytes (omega (arith, counted, few))

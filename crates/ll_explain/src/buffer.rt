@@ -9,7 +9,7 @@ use std::mem;
 
 /// A buffer for a text, of a size that is fixed beforehand. It has a window over the text: it leaves out the first bytes,
 /// as many as it was told, holds the next, as many as it has room for, and counts all. So adding to it takes no memory
-/// and can't fail. A buffer without room measures a text, and a long text can be had part by part.
+/// and can't fail. A buffer without room counts a text, and a long text can be had part by part.
 #[derive(Drop)]
 pub struct TextBuffer {
     bytes: Vec<u8>,
@@ -53,7 +53,7 @@ impl TextBuffer {
     }
 
     /// A buffer without room.
-    pub fn measure(alloc: Global) -> TextBuffer
+    pub fn counter(alloc: Global) -> TextBuffer
         ensures { result ≡ blank 0 }
     {
         TextBuffer {
@@ -99,7 +99,7 @@ impl TextBuffer {
     pub fn take(&mut self) -> TextBuffer
         ensures { result ≡ self.old }
     {
-        let empty = TextBuffer::measure(*self.bytes.allocator());
+        let empty = TextBuffer::counter(*self.bytes.allocator());
         mem::replace(self, empty)
     }
 

@@ -1,6 +1,6 @@
 pub mod Lacking
 pub mod RightIndices
-pub mod Telling
+pub mod Objecting
 pub mod Gaining
 pub mod Adding
 pub mod Moving

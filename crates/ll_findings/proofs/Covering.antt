@@ -1,4 +1,4 @@
--- Records of which only what differs from a base is kept, stretch after stretch.
+-- Records of which only what differs from a base is kept, chunk after chunk.
 use Rattle.std.proofs.Common.{◌≡◌, ◌≢◌, ◌∙◌, ◌<◌, ◌≤◌, ◌+◌, ◌++◌, ℕ, suc, true, List, [], ◌∷◌}
 use Rattle.std.proofs.Common.{length, Option, Some, None, Result, Ok, refl, sym, ap, ap₂, subst, inl, inr, arith}
 use Rattle.std.specs.Prelude.{option_map, slice_get, unwrap_or}
@@ -17,9 +17,9 @@ use Rattle.ll_process.specs.Cases.{CaseValue}
 use Rattle.ll_findings.specs.Findings.{ChangesValue, FindingValue, Finds, IsAboutAll, IsFoundAt, IsKept, Notes}
 use Rattle.ll_findings.specs.Findings.{answer_in, answer_over, both_changed, changed_once, kept_at, kept_over, with_changes}
 use Rattle.ll_findings.specs.Overlays.{Rise, change_at, overlay, where_in}
-use Rattle.ll_findings.specs.Stretches.{AreStretches, Covers, IsCompared, IsCovered}
+use Rattle.ll_findings.specs.Chunks.{AreChunks, Covers, IsCompared, IsCovered}
 use Rattle.ll_explanations.specs.declared.explanation.Explanation.{Explanation}
-use Rattle.ll_findings.specs.declared.stretch.Stretch.{Stretch}
+use Rattle.ll_findings.specs.declared.chunk.Chunk.{Chunk}
 use Rattle.ll_findings.proofs.Overlaying.{as_many, overlaid_at}
 use Rattle.ll_findings.proofs.Rising.{none_from, rises_on, skipped}
 
@@ -194,41 +194,41 @@ module _ (case : CaseValue) (base : FindingValue) where
             (covers_both from index (index + 1) before (changed_once index answer kept) so_far (once_covers index answer kept answered is))
       ]
 
--- ---- stretches, one behind the other
+-- ---- chunks, one behind the other
 
--- the changes of the first stretches, and the parts that are left
+-- the changes of the first chunks, and the parts that are left
 pub record JoinsChanges (case : CaseValue) (base : FindingValue) (end : ℕ) (all : ChangesValue) (parts : List (Result ChangesValue NoMemory)) : Type 0 where
   pub upto : ℕ
-  pub left : List Stretch
+  pub left : List Chunk
   pub compared : AllZip (IsCompared base) left parts
-  pub are : AreStretches case upto end left
+  pub are : AreChunks case upto end left
   pub covers : Covers case base 0 upto all
 
 module _ (case : CaseValue) (base : FindingValue) (end : ℕ) where
-  pub changes_join : (stretches : List Stretch) (all : ChangesValue) (parts : List (Result ChangesValue NoMemory))
-      → all ≡ record { indices = []; found = record { answers = []; explanations = [] } } → AllZip (IsCompared base) stretches parts
-      → AreStretches case 0 end stretches → JoinsChanges case base end all parts
-  changes_join stretches all parts none compared are = record {
+  pub changes_join : (chunks : List Chunk) (all : ChangesValue) (parts : List (Result ChangesValue NoMemory))
+      → all ≡ record { indices = []; found = record { answers = []; explanations = [] } } → AllZip (IsCompared base) chunks parts
+      → AreChunks case 0 end chunks → JoinsChanges case base end all parts
+  changes_join chunks all parts none compared are = record {
     upto = 0;
-    left = stretches;
+    left = chunks;
     compared = compared;
     are = are;
     covers = covers_none case base 0 all none;
   }
 
-  first_joins : (all own : ChangesValue) (upto : ℕ) (left : List Stretch) (parts : List (Result ChangesValue NoMemory))
-      → AllZip (IsCompared base) left (Ok own ∷ parts) → AreStretches case upto end left → Covers case base 0 upto all
+  first_joins : (all own : ChangesValue) (upto : ℕ) (left : List Chunk) (parts : List (Result ChangesValue NoMemory))
+      → AllZip (IsCompared base) left (Ok own ∷ parts) → AreChunks case upto end left → Covers case base 0 upto all
       → JoinsChanges case base end (both_changed all own) parts
   first_joins all own upto [] parts compared are covers = absurd compared
-  first_joins all own upto (stretch ∷ left) parts compared are covers = record {
-    upto = stretch.end;
+  first_joins all own upto (chunk ∷ left) parts compared are covers = record {
+    upto = chunk.end;
     left = left;
     compared = compared.1;
     are = are.2;
     covers =
-        covers_both case base 0 upto stretch.end all own covers
-        (subst (λ (n : ℕ). Covers case base n stretch.end own) are.1
-        (subst (λ (cv : CaseValue). Covers cv base stretch.from stretch.end own) are.0 compared.0));
+        covers_both case base 0 upto chunk.end all own covers
+        (subst (λ (n : ℕ). Covers case base n chunk.end own) are.1
+        (subst (λ (cv : CaseValue). Covers cv base chunk.from chunk.end own) are.0 compared.0));
   }
 
   pub changes_join_more : (all own next : ChangesValue) (parts : List (Result ChangesValue NoMemory)) → JoinsChanges case base end all (Ok own ∷ parts)
@@ -237,9 +237,9 @@ module _ (case : CaseValue) (base : FindingValue) (end : ℕ) where
       subst (λ (all : ChangesValue). JoinsChanges case base end all parts) (sym added)
       (first_joins all own joins.upto joins.left parts joins.compared joins.are joins.covers)
 
-  none_left : (upto : ℕ) (left : List Stretch) → AllZip (IsCompared base) left [] → AreStretches case upto end left → upto ≡ end
+  none_left : (upto : ℕ) (left : List Chunk) → AllZip (IsCompared base) left [] → AreChunks case upto end left → upto ≡ end
   none_left upto [] compared are = are
-  none_left upto (stretch ∷ left) compared are = absurd compared
+  none_left upto (chunk ∷ left) compared are = absurd compared
 
   pub changes_join_all : (all : ChangesValue) → JoinsChanges case base end all [] → Covers case base 0 end all
   changes_join_all all joins =

@@ -2,9 +2,9 @@
 pub mod Rising
 pub mod Overlaying
 pub mod Covering
--- explanations, stretch after stretch
+-- explanations, chunk after chunk
 pub mod KeepingAll
-pub mod Stretching
+pub mod Chunking
 pub mod Crossing
 -- what a finding tells, and which records are marked
 mod SamePaths

@@ -2,6 +2,6 @@ pub mod Kept
 pub mod Overlays
 pub mod Findings
 pub mod Alike
-pub mod Stretches
+pub mod Chunks
 pub mod TakenRecords
 pub mod InTree

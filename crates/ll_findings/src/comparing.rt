@@ -1,4 +1,4 @@
-//! What is found of the records of a case otherwise than in a base: several threads work it out, each for a stretch of
+//! What is found of the records of a case otherwise than in a base: several threads work it out, each for a chunk of
 //! the records.
 
 ghost use Rattle.std.specs.Prelude.{◌≡◌, ◌≤◌, ℕ, IfOk, List, length};
@@ -7,14 +7,14 @@ ghost use Rattle.ll_semantics.specs.Worlds.{judged};
 ghost use Rattle.ll_process.specs.Cases.{CaseValue};
 ghost use Rattle.ll_origins.specs.CaseTrails.{AreTrailsAt};
 ghost use Rattle.ll_findings.specs.Findings.{FindingValue};
-ghost use Rattle.ll_findings.specs.Stretches.{AreStretches, Covers, IsCompared};
-ghost use Rattle.ll_findings.specs.declared.stretch.Stretch.{Stretch as OneStretch};
+ghost use Rattle.ll_findings.specs.Chunks.{AreChunks, Covers, IsCompared};
+ghost use Rattle.ll_findings.specs.declared.chunk.Chunk.{Chunk as OneChunk};
 
 use crate::changes::Changes;
+use crate::chunk::Chunk;
+use crate::chunks::{answer_at, chunks_of, cut_all, explain_one};
 use crate::finding::Finding;
 use crate::found::Found;
-use crate::stretch::Stretch;
-use crate::stretches::{answer_at, cut_all, explain_one, stretches_of};
 use ll_origins::TraceOrigins;
 use ll_process::Case;
 use ll_rules::NoMemory;
@@ -54,7 +54,7 @@ fn compare_from(
     Ok(changes)
 }
 
-impl<'a> Stretch<'a> {
+impl<'a> Chunk<'a> {
     /// What is found of its records otherwise than in a base.
     fn compared(self, alloc: Global, base: &Found) -> Comparing
         ensures { IsCompared base.now self.entry result }
@@ -72,32 +72,32 @@ impl<'a> Stretch<'a> {
     }
 }
 
-/// What is found of the records of stretches otherwise than in a base, each worked out by a thread of its own.
+/// What is found of the records of chunks otherwise than in a base, each worked out by a thread of its own.
 fn compare_each<'a, R: Threads + Sync>(
     rt: &R,
     alloc: Global,
-    stretches: Vec<Stretch<'a>>,
+    chunks: Vec<Chunk<'a>>,
     base: &Found,
 ) -> Result<Vec<Comparing>, AllocError>
     ensures { IfOk result
-        (λ parts. AllZip (IsCompared base.now) stretches.entry.items parts.items) }
+        (λ parts. AllZip (IsCompared base.now) chunks.entry.items parts.items) }
 {
-    stretches
+    chunks
         .into_par_iter()
         .map(
-            move |stretch: Stretch| -> Comparing
-                ensures { IsCompared base.entry.now stretch.entry result }
-            { stretch.compared(alloc, base) },
+            move |chunk: Chunk| -> Comparing
+                ensures { IsCompared base.entry.now chunk.entry result }
+            { chunk.compared(alloc, base) },
         )
         .with_min_len(1)
         .collect(rt, alloc)
 }
 
-/// Appends what is found of the records of one stretch after the other.
+/// Appends what is found of the records of one chunk after the other.
 fn join_changes(alloc: Global, parts: Vec<Comparing>) -> Comparing
     ensures { IfOk result (λ all. (case : CaseValue) (base : FindingValue)
-        (stretches : List OneStretch) (end : ℕ) → AllZip (IsCompared base) stretches parts.items
-        → AreStretches case 0 end stretches → Covers case base 0 end all) }
+        (chunks : List OneChunk) (end : ℕ) → AllZip (IsCompared base) chunks parts.items
+        → AreChunks case 0 end chunks → Covers case base 0 end all) }
 {
     let mut all = Changes::none(alloc);
     for part in parts {
@@ -121,8 +121,8 @@ pub(crate) fn compare_all<R: Threads + Sync>(
     requires { answers.now ≡ judged case.now.tree case.now.abi case.now.records }
     ensures { IfOk result (Covers case.now base.now 0 (length case.now.records)) }
 {
-    let whole = Stretch::whole(alloc, case, answers, Some(newer));
-    let stretches = cut_all(alloc, whole, stretches_of(case, workers))?;
-    let parts = compare_each(rt, alloc, stretches, base)?;
+    let whole = Chunk::whole(alloc, case, answers, Some(newer));
+    let chunks = cut_all(alloc, whole, chunks_of(case, workers))?;
+    let parts = compare_each(rt, alloc, chunks, base)?;
     join_changes(alloc, parts)
 }

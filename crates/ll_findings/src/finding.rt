@@ -8,13 +8,13 @@ ghost use Rattle.ll_findings.specs.Findings.{Finds, answer_in, kept_at, said_in,
 ghost use Rattle.ll_findings.specs.Overlays.{Rise};
 
 use crate::changes::Changes;
+use crate::chunks::explain_all;
 use crate::comparing::compare_all;
 use crate::explained::SharedExplanation;
 use crate::found::Found;
 use crate::indices::Indices;
 use crate::marks::{mark_all, mark_differing};
 use crate::overlay::overlaid;
-use crate::stretches::explain_all;
 use ll_explanations::Explanation;
 use ll_process::Case;
 use ll_rules::NoMemory;

@@ -2,6 +2,8 @@
 #![tactic(auto)]
 
 mod changes;
+mod chunk;
+mod chunks;
 mod comparing;
 mod explained;
 mod finding;
@@ -11,8 +13,6 @@ mod indices;
 mod laws;
 mod marks;
 mod overlay;
-mod stretch;
-mod stretches;
 
 pub use finding::Finding;
 pub use findings::Findings;

@@ -52,9 +52,9 @@ impl<R: Rows + Drop> Paged<R> {
         ensures { IfOk result (λ bytes. bytes.items ≡ text_of self) }
     {
         let Paged { mut rows, page: _ } = self;
-        let mut measure = TextBuffer::measure(alloc);
-        push_all(&mut rows, &mut measure)?;
-        let mut text = TextBuffer::new(alloc, measure.count())?;
+        let mut counter = TextBuffer::counter(alloc);
+        push_all(&mut rows, &mut counter)?;
+        let mut text = TextBuffer::new(alloc, counter.count())?;
         push_all(&mut rows, &mut text)?;
         Ok(text.into_bytes())
     }

@@ -1,6 +1,6 @@
 use Rattle.std.proofs.Common.{◌∙◌, sym}
 use Rattle.ll_explanations.specs.Confined.{rules_of}
-use Rattle.ll_explanations.proofs.Telling.{closed_none, closed_some}
+use Rattle.ll_explanations.proofs.Objecting.{closed_none, closed_some}
 use Rattle.ll_explanations.proofs.asked.closed.Goals as goal
 
 pub returns-then-not-lacks_on_port-clause-said : goal.returns-then-not-lacks_on_port-clause-said

@@ -1,7 +1,7 @@
 use Rattle.std.proofs.Common.{◌∙◌, sym}
 use Rattle.ll_tree.specs.Trees.{kind_at, path_at}
 use Rattle.ll_explanations.specs.Confined.{rules_of}
-use Rattle.ll_explanations.proofs.Telling.{gained_none, gained_some}
+use Rattle.ll_explanations.proofs.Objecting.{gained_none, gained_some}
 use Rattle.ll_explanations.proofs.asked.gained.Goals as goal
 
 pub returns-then-is_empty-clause-said : goal.returns-then-is_empty-clause-said

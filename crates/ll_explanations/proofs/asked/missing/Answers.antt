@@ -1,7 +1,7 @@
 use Rattle.std.proofs.Common.{◌∙◌, sym}
 use Rattle.ll_tree.specs.Trees.{path_at}
 use Rattle.ll_explanations.specs.Confined.{rules_of}
-use Rattle.ll_explanations.proofs.Telling.{missing_none, missing_some}
+use Rattle.ll_explanations.proofs.Objecting.{missing_none, missing_some}
 use Rattle.ll_explanations.proofs.asked.missing.Goals as goal
 
 pub returns-then-is_empty-clause-said : goal.returns-then-is_empty-clause-said

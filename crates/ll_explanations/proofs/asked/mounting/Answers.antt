@@ -1,6 +1,6 @@
 use Rattle.std.proofs.Common.{◌∙◌, sym}
 use Rattle.ll_explanations.specs.Confined.{rules_of}
-use Rattle.ll_explanations.proofs.Telling.{mounting_none, mounting_some}
+use Rattle.ll_explanations.proofs.Objecting.{mounting_none, mounting_some}
 use Rattle.ll_explanations.proofs.asked.mounting.Goals as goal
 
 pub returns-then-handles_files-clause-said : goal.returns-then-handles_files-clause-said

@@ -1,5 +1,5 @@
 use Rattle.std.proofs.Common.{ℕ, arith, subst}
-use Rattle.ll_findings.specs.Stretches.{Covers}
+use Rattle.ll_findings.specs.Chunks.{Covers}
 use Rattle.ll_findings.proofs.Covering.{covers_more, covers_none}
 use Rattle.ll_findings.proofs.comparing.compare_from.Goals as goal
 
