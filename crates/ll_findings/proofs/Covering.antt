@@ -7,21 +7,21 @@ use Rattle.std.specs.List.{All, AllZip}
 use Rattle.std.proofs.lemmas.Bool.{cases_eq, cases_lt, eq-eqb}
 use Rattle.std.proofs.lemmas.List.{append-nil, length-append, same_lists}
 use Rattle.std.proofs.lemmas.List.Elements.{All-append, All-head, All-nil, All-push, All-tail, All-weaker}
-use Rattle.std.proofs.lemmas.Option.{get_or_from_slice_get, same_Some, slice_get_cases, slice_get_within}
+use Rattle.std.proofs.lemmas.Option.{get_or_from_slice_get, none-some, same_Some, slice_get_cases, slice_get_within}
 use Rattle.ll_rules.specs.declared.errno.NoMemory.{NoMemory}
 use Rattle.ll_semantics.specs.declared.answer.Answer.{Answer}
 use Rattle.ll_semantics.specs.declared.answer.Answer.TheVariants.{Moot}
 use Rattle.ll_semantics.specs.Worlds.{judged}
 use Rattle.ll_semantics.proofs.Steps.{length-judged}
 use Rattle.ll_process.specs.Cases.{CaseValue}
-use Rattle.ll_findings.specs.Findings.{ChangesValue, FindingValue, Finds, IsAboutAll, IsFoundAt, IsKept, Notes}
+use Rattle.ll_findings.specs.Findings.{AreKept, ChangesValue, FindingValue, Finds, IsAboutAll, IsFoundAt, IsKept, Notes}
 use Rattle.ll_findings.specs.Findings.{answer_in, answer_over, both_changed, changed_once, kept_at, kept_over, with_changes}
 use Rattle.ll_findings.specs.Overlays.{Rise, change_at, overlay, where_in}
 use Rattle.ll_findings.specs.Chunks.{AreChunks, Covers, IsCompared, IsCovered}
 use Rattle.ll_explanations.specs.declared.explanation.Explanation.{Explanation}
 use Rattle.ll_findings.specs.declared.chunk.Chunk.{Chunk}
 use Rattle.ll_findings.proofs.Overlaying.{as_many, overlaid_at}
-use Rattle.ll_findings.proofs.Rising.{none_from, rises_on, skipped}
+use Rattle.ll_findings.proofs.Rising.{each_there, none_from, rises_on, skipped}
 
 -- ---- the change at an index
 
@@ -91,6 +91,7 @@ module _ (case : CaseValue) (base : FindingValue) where
     answers = refl;
     explanations = refl;
     covered = λ index above below. absurd (omega (arith, above, below));
+    all = λ none. omega arith;
   })
 
   -- one record, of which the base has the same
@@ -115,6 +116,7 @@ module _ (case : CaseValue) (base : FindingValue) where
                   subst (λ (a : Answer). IsKept case.tree case.abi case.records index a (kept_at base index)) (sym answer_is)
                   (subst (IsKept case.tree case.abi case.records index answer) (sym kept_is) is);
             });
+        all = λ none. absurd (none-some answer (ap (λ (xs : List Answer). slice_get xs index) (sym none) ∙ found.0));
       }
 
   -- one record, of which something else may be found
@@ -140,6 +142,7 @@ module _ (case : CaseValue) (base : FindingValue) where
                   subst (λ (a : Answer). IsKept case.tree case.abi case.records index a (kept_over base (changed_once index answer kept) index))
                   (sym answer_is) (subst (IsKept case.tree case.abi case.records index answer) (sym kept_is) is);
             });
+        all = λ none. omega arith;
       }
 
   -- records, and others behind them
@@ -167,6 +170,9 @@ module _ (case : CaseValue) (base : FindingValue) where
           (behind_others index middle one.indices other.indices one.found.explanations other.found.explanations first.explanations first.below behind)
           (second.covered index behind below)
     ];
+    all = λ none.
+        let many : length (one.indices ++ other.indices) ≡ length one.indices + length other.indices = length-append one.indices other.indices in
+        omega (arith, many, first.all none, second.all none);
   }
 
   nothing_more : (xs : List ℕ) (answers : List Answer) (kept : List (Option Explanation))
@@ -307,3 +313,27 @@ pub by_changes_finds : (case : CaseValue) (base : FindingValue) (changes : Chang
     → Finds true case.tree case.abi case.records (with_changes base changes.indices changes.found)
 by_changes_finds case base changes answers are about covers =
     covers_finds case base changes (length answers) about (ap length are ∙ length-judged case.tree case.abi case.records) covers
+
+-- ---- all records of a case, of which nothing was found before
+
+module _ (case : CaseValue) (base : FindingValue) (changes : ChangesValue) (none : base.answers ≡ [])
+    (covers : Covers case base 0 (length case.records) changes) where
+  pub as_many_changed : length changes.found.explanations ≡ length case.records
+  as_many_changed = covers.explanations ∙ omega (arith, covers.all none)
+
+  changed_there : (index : ℕ) (all : List (Option Explanation)) → index < length case.records → change_at index changes.indices all ≡ slice_get all index
+  changed_there index all within =
+      let same : 0 + index ≡ index = omega arith in
+      ap (option_and_then (slice_get all)) (subst (λ (n : ℕ). where_in n changes.indices ≡ Some index) same
+      (each_there 0 (length case.records) index changes.indices covers.rise covers.below (covers.all none) (omega (arith, covers.all none, within))))
+
+  pub all_changed : AreKept case.tree case.abi case.records changes.found.explanations
+  all_changed index answer kept answered there =
+      let below = slice_get_within (judged case.tree case.abi case.records) index answer answered in
+      let within : index < length case.records = omega (arith, below, length-judged case.tree case.abi case.records) in
+      let is = covers.covered index (omega arith) within in
+      let answer_is : answer_over base changes index ≡ answer = same_Some (answer_over base changes index) answer (sym is.answer ∙ answered) in
+      let kept_is : kept_over base changes index ≡ kept =
+      ap (λ o. unwrap_or o (kept_at base index)) (changed_there index changes.found.explanations within ∙ there) in
+      subst (λ (a : Answer). IsKept case.tree case.abi case.records index a kept) answer_is
+      (subst (IsKept case.tree case.abi case.records index (answer_over base changes index)) kept_is is.kept)

@@ -2,8 +2,7 @@
 pub mod Rising
 pub mod Overlaying
 pub mod Covering
--- explanations, chunk after chunk
-pub mod KeepingAll
+-- chunk after chunk
 pub mod Chunking
 pub mod Crossing
 -- what a finding tells, and which records are marked

@@ -96,3 +96,34 @@ all_before indices last position index there rise next within is below at before
           subst (λ (n : ℕ). get_or indices n 0 < index) same
           (subst (λ (n : ℕ). n < index) (sym (get_or_from_slice_get indices last there 0 read)) below)
     ]
+
+-- ---- where all indices from a bound to an end are among others
+
+no_more : (bound end : ℕ) (indices : List ℕ) → bound ≤ end → Rise bound indices → All (λ index. index < end) indices → bound + length indices ≤ end
+unfolding Rise
+no_more bound end [] below rise under = omega (arith, below)
+no_more bound end (first ∷ indices) below rise under =
+    let lower : first < end = All-head (λ index. index < end) first indices under in
+    let rest : suc first + length indices ≤ end =
+    no_more (suc first) end indices (omega (arith, lower)) rise.1 (All-tail (λ index. index < end) first indices under) in
+    omega (arith, rest, rise.0)
+
+behind_first : (bound first position : ℕ) (indices : List ℕ) → first ≡ bound
+    → ((later : ℕ) → suc later ≡ position → where_in (bound + position) indices ≡ Some later) → where_in (bound + position) (first ∷ indices) ≡ Some position
+unfolding where_in
+behind_first bound first zero indices same others = rw (eq-eqb first (bound + 0) (omega (arith, same))) refl
+behind_first bound first (suc later) indices same others =
+    skipped (bound + suc later) first indices (λ is. omega (arith, is, same)) ∙ ap (option_map suc) (others later refl)
+
+pub each_there : (bound end position : ℕ) (indices : List ℕ) → Rise bound indices → All (λ index. index < end) indices → bound + length indices ≡ end
+    → position < length indices → where_in (bound + position) indices ≡ Some position
+unfolding Rise where_in
+each_there bound end position [] rise under all within = absurd (omega (arith, within))
+each_there bound end position (first ∷ indices) rise under all within =
+    let lower : first < end = All-head (λ index. index < end) first indices under in
+    let others : All (λ index. index < end) indices = All-tail (λ index. index < end) first indices under in
+    let rest : suc first + length indices ≤ end = no_more (suc first) end indices (omega (arith, lower)) rise.1 others in
+    let same : first ≡ bound = omega (arith, rest, all, rise.0) in
+    behind_first bound first position indices same
+    (λ later is. subst (λ (n : ℕ). where_in n indices ≡ Some later) (omega (arith, same, is))
+    (each_there (suc first) end later indices rise.1 others (omega (arith, rest, all, rise.0)) (omega (arith, within, is))))

@@ -76,4 +76,13 @@ impl Changes {
         self.indices.append(&mut indices)?;
         self.found.append(found)
     }
+
+    /// What is kept of the explanations.
+    pub(crate) fn into_explanations(self) -> Vec<SharedExplanation>
+        ensures { result.items ≡ self.found.explanations }
+    {
+        let Changes { found, .. } = self;
+        let Found { explanations, .. } = found;
+        explanations
+    }
 }

@@ -1,13 +1,10 @@
-//! The explanations of all records of a case: several threads work them out, each for a chunk of the records.
+//! The records of a case, cut into chunks, each of which a thread explains.
 
-ghost use Rattle.std.specs.Prelude.{◌≡◌, ◌<◌, ◌≤◌, ◌^◌, ℕ, IfOk, List, OnOk, length};
-ghost use Rattle.std.specs.List.{AllZip};
+ghost use Rattle.std.specs.Prelude.{◌≡◌, ◌<◌, ◌≤◌, ◌^◌, IfOk, OnOk, length};
 ghost use Rattle.ll_semantics.specs.Worlds.{judged};
-ghost use Rattle.ll_process.specs.Cases.{CaseValue};
 ghost use Rattle.ll_origins.specs.CaseTrails.{AreTrailsAt, IsAnswerAt};
-ghost use Rattle.ll_findings.specs.Findings.{AreKept, IsKept};
-ghost use Rattle.ll_findings.specs.Chunks.{AreAllKept, AreChunks, IsExplained, IsExplainedFrom};
-ghost use Rattle.ll_findings.specs.declared.chunk.Chunk.{Chunk as OneChunk};
+ghost use Rattle.ll_findings.specs.Findings.{IsKept};
+ghost use Rattle.ll_findings.specs.Chunks.{AreChunks};
 
 use crate::chunk::Chunk;
 use crate::explained::SharedExplanation;
@@ -17,18 +14,13 @@ use ll_origins::TraceOrigins;
 use ll_process::Case;
 use ll_rules::NoMemory;
 use ll_semantics::Answer;
-use rayon::prelude::*;
-use std::alloc::{AllocError, Global};
-use std::thread::Threads;
+use std::alloc::Global;
 
 /// The most chunks into which a trace is cut.
 const MOST_CHUNKS: usize = 4;
 
 /// How many records each process has in a chunk at least, on average.
 const RECORDS_EACH: usize = 8;
-
-/// What is kept of the explanations of consecutive records, or that memory ran out.
-pub(crate) type Explaining = Result<Vec<SharedExplanation>, NoMemory>;
 
 /// What is kept of the explanation of the record at an index of a case.
 pub(crate) fn explain_one(
@@ -88,34 +80,6 @@ fn follow_to(
     Ok(())
 }
 
-/// What is kept of the explanations of the records from an index on, up to another.
-fn explain_from(
-    alloc: Global,
-    case: &Case<'_>,
-    answers: &[Answer],
-    newer: Option<&Finding>,
-    trails: TraceOrigins,
-    from: usize,
-    end: usize,
-) -> Explaining
-    requires judged { answers.now ≡ judged case.now.tree case.now.abi case.now.records }
-    requires rises { from ≤ end }
-    requires within { end ≤ length answers.now }
-    requires begins { AreTrailsAt case.now from trails }
-    ensures { IsExplainedFrom case.now from end result }
-{
-    let mut trails = trails;
-    let mut all = Vec::with_capacity(alloc, end - from)?;
-    for index in from..end {
-        let answer = answer_at(case, answers, index);
-        let kept = explain_one(alloc, case, &trails, index, answer, newer)?;
-        all.reserve(1)?;
-        all.push_reserved(kept);
-        trails.follow(alloc, case, index, answer_at(case, answers, index))?;
-    }
-    Ok(all)
-}
-
 impl<'a> Chunk<'a> {
     /// Splits this chunk into one of its first records, of which there are so many, and one of the others.
     fn cut(self, alloc: Global, size: usize) -> Result<(Chunk<'a>, Chunk<'a>), NoMemory>
@@ -153,21 +117,6 @@ impl<'a> Chunk<'a> {
         };
         Ok((first, others))
     }
-
-    /// What is kept of the explanations of its records.
-    fn explained(self, alloc: Global) -> Explaining
-        ensures { IsExplained self.entry result }
-    {
-        let Chunk {
-            case,
-            answers,
-            newer,
-            trails,
-            from,
-            end,
-        } = self;
-        explain_from(alloc, case, answers, newer, trails, from, end)
-    }
 }
 
 /// Cuts a chunk into so many chunks of about one size; 0 counts as one.
@@ -193,62 +142,10 @@ pub(crate) fn cut_all<'a>(
     Ok(chunks)
 }
 
-/// What is kept of the explanations of chunks, each worked out by a thread of its own.
-fn explain_each<'a, R: Threads + Sync>(
-    rt: &R,
-    alloc: Global,
-    chunks: Vec<Chunk<'a>>,
-) -> Result<Vec<Explaining>, AllocError>
-    ensures { IfOk result (λ parts. AllZip IsExplained chunks.entry.items parts.items) }
-{
-    chunks
-        .into_par_iter()
-        .map(
-            |chunk: Chunk| -> Explaining
-                ensures { IsExplained chunk.entry result }
-            { chunk.explained(alloc) },
-        )
-        .with_min_len(1)
-        .collect(rt, alloc)
-}
-
-/// Appends what is kept of the explanations of one chunk after the other.
-fn join_parts(alloc: Global, parts: Vec<Explaining>) -> Result<Vec<SharedExplanation>, NoMemory>
-    ensures { IfOk result (λ all. (case : CaseValue) (chunks : List OneChunk) (end : ℕ)
-        → AllZip IsExplained chunks parts.items → AreChunks case 0 end chunks
-        → AreAllKept case end all.items) }
-{
-    let mut all = Vec::new(alloc);
-    for part in parts {
-        let mut own = part?;
-        all.append(&mut own)?;
-    }
-    Ok(all)
-}
-
 /// The number of chunks in which the records of a case are explained. Each takes a copy of what is known of all
 /// processes.
 pub(crate) fn chunks_of(case: &Case<'_>, workers: usize) -> usize {
     let processes = case.processes().max(1) as usize;
     let worth = case.count() / processes / RECORDS_EACH;
     workers.min(MOST_CHUNKS).min(worth.max(1))
-}
-
-/// What is kept of the explanations of all records of a case, worked out by at most this many threads.
-pub(crate) fn explain_all<'a, R: Threads + Sync>(
-    rt: &R,
-    alloc: Global,
-    case: &'a Case<'a>,
-    answers: &'a [Answer],
-    workers: usize,
-) -> Result<Vec<SharedExplanation>, NoMemory>
-    requires { answers.now ≡ judged case.now.tree case.now.abi case.now.records }
-    ensures as_many { IfOk result (λ all. length all.items ≡ length case.now.records) }
-    ensures each { IfOk result
-        (λ all. AreKept case.now.tree case.now.abi case.now.records all.items) }
-{
-    let whole = Chunk::whole(alloc, case, answers, None);
-    let chunks = cut_all(alloc, whole, chunks_of(case, workers))?;
-    let parts = explain_each(rt, alloc, chunks)?;
-    join_parts(alloc, parts)
 }

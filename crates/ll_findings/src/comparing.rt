@@ -6,13 +6,14 @@ ghost use Rattle.std.specs.List.{AllZip};
 ghost use Rattle.ll_semantics.specs.Worlds.{judged};
 ghost use Rattle.ll_process.specs.Cases.{CaseValue};
 ghost use Rattle.ll_origins.specs.CaseTrails.{AreTrailsAt};
-ghost use Rattle.ll_findings.specs.Findings.{FindingValue};
+ghost use Rattle.ll_findings.specs.Findings.{AreKept, FindingValue};
 ghost use Rattle.ll_findings.specs.Chunks.{AreChunks, Covers, IsCompared};
 ghost use Rattle.ll_findings.specs.declared.chunk.Chunk.{Chunk as OneChunk};
 
 use crate::changes::Changes;
 use crate::chunk::Chunk;
 use crate::chunks::{answer_at, chunks_of, cut_all, explain_one};
+use crate::explained::SharedExplanation;
 use crate::finding::Finding;
 use crate::found::Found;
 use ll_origins::TraceOrigins;
@@ -114,15 +115,34 @@ pub(crate) fn compare_all<R: Threads + Sync>(
     alloc: Global,
     case: &Case<'_>,
     answers: &[Answer],
-    newer: &Finding,
+    newer: Option<&Finding>,
     base: &Found,
     workers: usize,
 ) -> Comparing
     requires { answers.now ≡ judged case.now.tree case.now.abi case.now.records }
     ensures { IfOk result (Covers case.now base.now 0 (length case.now.records)) }
 {
-    let whole = Chunk::whole(alloc, case, answers, Some(newer));
+    let whole = Chunk::whole(alloc, case, answers, newer);
     let chunks = cut_all(alloc, whole, chunks_of(case, workers))?;
     let parts = compare_each(rt, alloc, chunks, base)?;
     join_changes(alloc, parts)
+}
+
+/// What is kept of the explanations of all records of a case, worked out by at most this many threads: all that is found
+/// of them, where nothing was found before.
+pub(crate) fn explain_all<R: Threads + Sync>(
+    rt: &R,
+    alloc: Global,
+    case: &Case<'_>,
+    answers: &[Answer],
+    workers: usize,
+) -> Result<Vec<SharedExplanation>, NoMemory>
+    requires { answers.now ≡ judged case.now.tree case.now.abi case.now.records }
+    ensures as_many { IfOk result (λ all. length all.items ≡ length case.now.records) }
+    ensures each { IfOk result
+        (λ all. AreKept case.now.tree case.now.abi case.now.records all.items) }
+{
+    let nothing = Found::nothing(alloc);
+    let changes = compare_all(rt, alloc, case, answers, None, &nothing, workers)?;
+    Ok(changes.into_explanations())
 }

@@ -8,8 +8,7 @@ ghost use Rattle.ll_findings.specs.Findings.{Finds, answer_in, kept_at, said_in,
 ghost use Rattle.ll_findings.specs.Overlays.{Rise};
 
 use crate::changes::Changes;
-use crate::chunks::explain_all;
-use crate::comparing::compare_all;
+use crate::comparing::{compare_all, explain_all};
 use crate::explained::SharedExplanation;
 use crate::found::Found;
 use crate::indices::Indices;
@@ -83,7 +82,7 @@ impl Finding {
             marks.old.items marks.new.items) }
     {
         if explains && self.base.is_about_all(answers.len()) {
-            let changes = compare_all(rt, alloc, case, &answers, self, &self.base, workers)?;
+            let changes = compare_all(rt, alloc, case, &answers, Some(self), &self.base, workers)?;
             mark_all(marks, &changes.indices);
             mark_all(marks, self.indices.as_slice());
             return Ok(Finding::over(alloc, &self.base, changes)?);
