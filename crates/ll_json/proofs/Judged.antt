@@ -25,7 +25,7 @@ use Rattle.ll_findings.specs.TakenRecords.{AreTaken}
 use Rattle.ll_explanations.specs.declared.explanation.Explanation.{Explanation}
 use Rattle.ll_explanations.specs.declared.explanation.Explanation.TheVariants.{Nothing, Objections, Failure, Mootness}
 use Rattle.ll_explanations.specs.declared.objection.LayerObjection.{LayerObjection}
-use Rattle.ll_findings.proofs.FindingTells.{tells}
+use Rattle.ll_findings.proofs.FindingTells.{tells, tells_nothing}
 use Rattle.ll_explain.specs.Words.{line_of}
 use Rattle.ll_explain.proofs.SaidAsRead.{line_there, opened_there}
 use Rattle.ll_json.specs.Layering.{head_of, next_tokens, objections_from, opening}
@@ -135,10 +135,11 @@ module _ (tree : List Entry) (version : Version) (index : ℕ) (r : Record) (ans
         ∙ ap (λ (why : meant.Explanation). named_tokens (answer_members version.records layers answer why)) (told.3 ∙ told.4.means)
 
     members_told : (explains : Bool) → Finds explains tree version.abi version.records finding
-        → members_tokens tree trace answer (if explains then said_in trace finding index else None)
-        ≡ named_tokens (members_with explains tree version index r answer)
+        → members_tokens tree trace answer (said_in trace finding index) ≡ named_tokens (members_with explains tree version index r answer)
     members_told true finds = explained finds
-    members_told false finds = ap named_tokens (bare version.records layers answer)
+    members_told false finds =
+        ap (members_tokens tree trace answer) (tells_nothing tree version.abi version.records trace finding finds index)
+        ∙ ap named_tokens (bare version.records layers answer)
 
     answer_is : (explains : Bool) → Finds explains tree version.abi version.records finding → answer_in finding index ≡ answer
     answer_is explains finds =
@@ -146,9 +147,9 @@ module _ (tree : List Entry) (version : Version) (index : ℕ) (r : Record) (ans
         ∙ ap (λ (given : Option Answer). unwrap_or given Moot) answered
 
     pub said_is : (explains : Bool) → Finds explains tree version.abi version.records finding
-        → printed_of (said_of explains) tree trace index finding ≡ members_text (members_at explains tree version index)
+        → printed_of said_of tree trace index finding ≡ members_text (members_at explains tree version index)
     unfolding said_of
     said_is explains finds =
         ap (λ (ts : List Token). print (ts ++ token.end_object ∷ []))
-        (ap (λ (given : Answer). members_tokens tree trace given (if explains then said_in trace finding index else None)) (answer_is explains finds)
+        (ap (λ (given : Answer). members_tokens tree trace given (said_in trace finding index)) (answer_is explains finds)
         ∙ members_told explains finds ∙ ap named_tokens (sym (members_are explains)))

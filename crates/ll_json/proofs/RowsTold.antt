@@ -60,7 +60,7 @@ AllHaveOne (members ∷ more) = HasOne members × AllHaveOne more
 
 module _ (shown : Shown) (tree : List Entry) (later : List Record) (index : ℕ) (below : index < length later) (d : Record) where
   version_says : (version : Version) (finding : FindingValue) → IsFound shown.explanations tree later version finding
-      → (printed_of (said_of shown.explanations) tree later index finding ≡ members_text (members_at shown.explanations tree version index))
+      → (printed_of said_of tree later index finding ≡ members_text (members_at shown.explanations tree version index))
       × HasOne (members_at shown.explanations tree version index)
   version_says version finding found =
       let within : index < length version.records = subst (λ (n : ℕ). index < n) (length_all_zip _ later version.records found.taken) below in
@@ -75,7 +75,7 @@ module _ (shown : Shown) (tree : List Entry) (later : List Record) (index : ℕ)
       )
 
   each_says : (versions : List Version) (findings : List FindingValue) → AreFound shown.explanations tree later versions findings
-      → (printed_under (said_of shown.explanations) tree later findings index ≡ map members_text (said_under shown tree versions index))
+      → (printed_under said_of tree later findings index ≡ map members_text (said_under shown tree versions index))
       × AllHaveOne (said_under shown tree versions index)
   each_says [] [] found = (refl, tt)
   each_says [] (finding ∷ others) found = absurd found

@@ -31,13 +31,12 @@ members_tokens tree records answer None = named_tokens (plain_members answer)
 members_tokens tree records answer (Some said) = answer_tokens tree records said.0 answer said.1
 
 -- the same of the record at an index, which is answered and explained so, to the end of the object
-abbrev pub said_tokens : Bool → List Entry → List Record → ℕ → Answer → Option Explanation → List Token
-said_tokens explains tree records index answer kept =
-    members_tokens tree records answer (if explains then said_by (slice_get records index) kept else None) ++ token.end_object ∷ []
+abbrev pub said_tokens : List Entry → List Record → ℕ → Answer → Option Explanation → List Token
+said_tokens tree records index answer kept = members_tokens tree records answer (said_by (slice_get records index) kept) ++ token.end_object ∷ []
 
--- printed, with its explanation or without
-unfoldable pub said_of : Bool → List Entry → List Record → ℕ → Answer → Option Explanation → List ℕ
-said_of explains tree records index answer kept = print (said_tokens explains tree records index answer kept)
+-- printed
+unfoldable pub said_of : List Entry → List Record → ℕ → Answer → Option Explanation → List ℕ
+said_of tree records index answer kept = print (said_tokens tree records index answer kept)
 
 -- ---- the answers of neighbouring versions
 
@@ -73,7 +72,7 @@ line_of oldest r said = print (head_tokens r) ++ (separated false (spans_of olde
 abbrev pub row_text : Shown → ℕ → List Entry → List Record → List FindingValue → ℕ → Record → List ℕ
 row_text shown oldest tree records findings index r =
     if is_row_left_out shown (answers_in findings) index then []
-    else line_of oldest r (printed_under (said_of shown.explanations) tree records findings index)
+    else line_of oldest r (printed_under said_of tree records findings index)
 
 -- what a report is made of, over versions of which the oldest has this number
 abbrev pub json_made : Shown → ℕ → List Entry → List Record → List FindingValue → List ℕ → Made

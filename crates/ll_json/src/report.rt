@@ -63,14 +63,7 @@ impl<'p> Rows for JsonRows<'p> {
         if out {
             return Ok(());
         }
-        push_line(
-            text,
-            &mut self.pages,
-            &row,
-            found,
-            self.oldest,
-            self.shown.explanations,
-        )?;
+        push_line(text, &mut self.pages, &row, found, self.oldest)?;
         Ok(())
     }
 

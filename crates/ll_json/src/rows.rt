@@ -9,11 +9,10 @@ ghost use Rattle.ll_json.specs.Rows.{head_tokens, line_of, said_of};
 ghost use Rattle.ll_json.specs.Writing.{writing};
 
 use crate::json_text::JsonText;
-use crate::said::{BareMembers, Members};
 use crate::spans::push_answers;
 use crate::words::{write_number, write_text};
 use ll_explain::{TextBuffer, push_words};
-use ll_report::{FindingsAt, Pages, Printer, TooLong};
+use ll_report::{FindingsAt, Pages, TooLong};
 use ll_trace::Record;
 
 /// Writes which record a line is about.
@@ -40,40 +39,19 @@ fn push_head(text: &mut TextBuffer, found: &Record)
 
 /// Adds the line of a record, with the answers of neighbouring versions, of which the oldest has this number.
 #[tactic(auto, using(ll_explain::proofs::Buffering::adding_both))]
-fn push_line_as<P: Printer>(
-    text: &mut TextBuffer,
-    pages: &mut Pages,
-    row: &FindingsAt<'_>,
-    found: &Record,
-    oldest: u64,
-) -> Result<(), TooLong>
-    requires { oldest + length row.now.findings.now < 2 ^ 64 }
-    ensures { OnOk result (text.new
-        ≡ adding text.old (line_of oldest found.now (texts_of P.printed row.now))) }
-{
-    push_head(text, found);
-    push_answers::<P>(text, pages, row, oldest)?;
-    push_words(text, "]}\n");
-    Ok(())
-}
-
-/// Adds the line of a record, with explanations or without. The oldest version has this number.
 pub(crate) fn push_line(
     text: &mut TextBuffer,
     pages: &mut Pages,
     row: &FindingsAt<'_>,
     found: &Record,
     oldest: u64,
-    explains: bool,
 ) -> Result<(), TooLong>
     requires { oldest + length row.now.findings.now < 2 ^ 64 }
     ensures { OnOk result (text.new
-        ≡ adding text.old (line_of oldest found.now (texts_of (said_of explains) row.now))) }
+        ≡ adding text.old (line_of oldest found.now (texts_of said_of row.now))) }
 {
-    if explains {
-        push_line_as::<Members>(text, pages, row, found, oldest)?;
-        return Ok(());
-    }
-    push_line_as::<BareMembers>(text, pages, row, found, oldest)?;
+    push_head(text, found);
+    push_answers(text, pages, row, oldest)?;
+    push_words(text, "]}\n");
     Ok(())
 }
