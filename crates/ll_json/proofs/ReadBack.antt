@@ -47,6 +47,12 @@ means_map f o some = (f some.0, ap (option_map f) some.1)
 means_then : {A B : Type 0} (f : A → Option B) (o : Option A) → Means o → ((a : A) → Means (f a)) → Means (option_and_then f o)
 means_then f o some next = let more = next some.0 in (more.0, ap (option_and_then f) some.1 ∙ more.1)
 
+read-print : (j : Json) → HasNumbers j → depth j ≤ max_depth → read (print (json_tokens j)) ≡ of_json j
+read-print j numbers shallow =
+    ap (λ tokens. option_and_then of_json (option_and_then (λ p. if_last p.0 p.1) (value max_depth tokens)))
+    (tokens-print (json_tokens j) (ArePrintable-json_tokens j numbers) ∙ sym (append-nil (json_tokens j)))
+    ∙ ap (λ found. option_and_then of_json (option_and_then (λ p. if_last p.0 p.1) found)) (value-json_tokens j max_depth [] shallow)
+
 mutual
   means : (j : Json) → FitsWords j → Means (of_json j)
   means null fits = (read_value.null, refl)
@@ -65,12 +71,6 @@ mutual
   members_mean : (ms : json.Members) (found : read_value.Members) → MembersFitWords ms → Means (of_members ms found)
   members_mean no_members found fits = (found, refl)
   members_mean (member k j ms) found fits = means_then _ (of_json j) (means j fits.0) (λ d. members_mean ms (read_value.put k d found) fits.1)
-
-read-print : (j : Json) → HasNumbers j → depth j ≤ max_depth → read (print (json_tokens j)) ≡ of_json j
-read-print j numbers shallow =
-    ap (λ tokens. option_and_then of_json (option_and_then (λ p. if_last p.0 p.1) (value max_depth tokens)))
-    (tokens-print (json_tokens j) (ArePrintable-json_tokens j numbers) ∙ sym (append-nil (json_tokens j)))
-    ∙ ap (λ found. option_and_then of_json (option_and_then (λ p. if_last p.0 p.1) found)) (value-json_tokens j max_depth [] shallow)
 
 reads_back : (j : Json) → FitsWords j → depth j ≤ max_depth → ReadsBack j
 reads_back j fits shallow =

@@ -85,6 +85,10 @@ IsShown-append : (ts us : List Token) → IsShown ts → IsShown us → IsShown 
 IsShown-append [] us h k = k
 IsShown-append (t ∷ ts) us h k = (h.0, IsShown-append ts us h.1 k)
 
+visible_boolean : (b : Bool) → IsVisible (token_text (token.boolean b))
+visible_boolean true = (omega arith, (omega arith, (omega arith, (omega arith, tt))))
+visible_boolean false = (omega arith, (omega arith, (omega arith, (omega arith, (omega arith, tt)))))
+
 visible_separator : (later : Bool) (t : Token) → IsVisible (separator later t)
 visible_separator later t = one_of (later && begins t) _ _ (λ e. (omega arith, tt)) (λ e. tt)
 
@@ -93,10 +97,6 @@ unfolding print_from
 visible_print later [] h = tt
 visible_print later (t ∷ ts) h =
     IsVisible-append _ _ (visible_separator later t) (IsVisible-append _ _ h.0 (visible_print (ends t) ts h.1))
-
-visible_boolean : (b : Bool) → IsVisible (token_text (token.boolean b))
-visible_boolean true = (omega arith, (omega arith, (omega arith, (omega arith, tt))))
-visible_boolean false = (omega arith, (omega arith, (omega arith, (omega arith, (omega arith, tt)))))
 
 mutual
   shown : (j : Json) → FitsWords j → IsShown (json_tokens j)
