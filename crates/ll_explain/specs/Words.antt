@@ -37,9 +37,12 @@ abbrev pub word_for : List ℕ → List ℕ
 word_for [] = codes "a right of another name"
 word_for (first ∷ more) = first ∷ more
 
--- rights by their words, separated by commas
+-- the words for rights that have these names, and the same separated by commas
+abbrev pub words_of : {R : Type 0} → (R → List ℕ) → List R → List (List ℕ)
+words_of name_of rights = map (λ right. word_for (name_of right)) rights
+
 unfoldable pub listed : {R : Type 0} → (R → List ℕ) → List R → List ℕ
-listed name_of rights = joined (codes ", ") (map (λ right. word_for (name_of right)) rights)
+listed name_of rights = joined (codes ", ") (words_of name_of rights)
 
 abbrev pub rights_text : List files.FsRight → List ℕ
 rights_text rights = listed files.name_of rights

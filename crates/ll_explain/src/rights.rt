@@ -5,15 +5,15 @@ ghost use Rattle.ll_rights.specs.CodeRights.{fs_right, net_right};
 ghost use Rattle.ll_rights.specs.Rights as files;
 ghost use Rattle.ll_rights.specs.NetRights as network;
 ghost use Rattle.ll_explanations.specs.Meanings.{port_rights_in, rights_in};
-ghost use Rattle.ll_explain.specs.{Buffers.adding, Tables.listed_alike};
-ghost use Rattle.ll_explain.specs.Words.{behind, listed, port_rights_text, rights_text, word_for};
+ghost use Rattle.ll_explain.specs.{Buffers.adding, Tables.file_words, Tables.port_words};
+ghost use Rattle.ll_explain.specs.Words.{behind, joined, port_rights_text, rights_text, word_for, words_of};
 
 use crate::buffer::TextBuffer;
 use crate::words::push_words;
 use ll_rights::{Fs, FsRight, Net, NetRight};
 
 /// A set of access rights, for files or for ports.
-pub(crate) trait RightSet: Copy {
+pub trait RightSet: Copy {
     /// A right of the set's table.
     type Right: Copy + 'static;
 
@@ -23,7 +23,8 @@ pub(crate) trait RightSet: Copy {
 
     ghost name: { Self.Right → List ℕ };
 
-    ghost text: { Self → List ℕ };
+    // The words for its rights, in the order of the table.
+    ghost words: { Self → List (List ℕ) };
 
     /// All rights, in the order of the table.
     fn all() -> &'static [Self::Right]
@@ -38,7 +39,7 @@ pub(crate) trait RightSet: Copy {
         ensures { result.now ≡ name right };
 
     ghost named: { (all : List Self.Right) → is_table all → (set : Self)
-        → listed name (filter (has set) all) ≡ text set };
+        → words_of name (filter (has set) all) ≡ words set };
 }
 
 impl RightSet for Fs {
@@ -50,10 +51,9 @@ impl RightSet for Fs {
 
     ghost name = { λ right. files.name_of (fs_right right) };
 
-    ghost text = { λ set. rights_text (filter (files.has set) files.all_rights) };
+    ghost words = { λ set. words_of files.name_of (rights_in set) };
 
-    ghost named = { λ all table set.
-        listed_alike fs_right files.name_of files.all_rights all table (files.has set) };
+    ghost named = { file_words };
 
     fn all() -> &'static [FsRight] {
         FsRight::all()
@@ -77,10 +77,9 @@ impl RightSet for Net {
 
     ghost name = { λ right. network.name_of (net_right right) };
 
-    ghost text = { λ set. port_rights_text (filter (network.has set) network.all_rights) };
+    ghost words = { λ set. words_of network.name_of (port_rights_in set) };
 
-    ghost named = { λ all table set.
-        listed_alike net_right network.name_of network.all_rights all table (network.has set) };
+    ghost named = { port_words };
 
     fn all() -> &'static [NetRight] {
         NetRight::all()
@@ -122,7 +121,7 @@ fn push_name(text: &mut TextBuffer, name: &str, is_first: bool)
 
 /// Adds the names of the rights of a set, in the order of the table.
 fn push_names<S: RightSet>(text: &mut TextBuffer, rights: S)
-    ensures { text.new ≡ adding text.old (S.text rights) }
+    ensures { text.new ≡ adding text.old (joined (codes ", ") (S.words rights)) }
 {
     let mut is_first = true;
     for right in S::all() {
@@ -134,7 +133,7 @@ fn push_names<S: RightSet>(text: &mut TextBuffer, rights: S)
 }
 
 /// Adds the names of the rights for files of a set.
-#[tactic(auto, unfolding(ll_explanations::specs::Meanings::rights_in))]
+#[tactic(auto, unfolding(crate::specs::Words::listed))]
 pub(crate) fn push_rights(text: &mut TextBuffer, rights: Fs)
     ensures { text.new ≡ adding text.old (rights_text (rights_in rights)) }
 {
@@ -142,7 +141,7 @@ pub(crate) fn push_rights(text: &mut TextBuffer, rights: Fs)
 }
 
 /// Adds the names of the rights for ports of a set.
-#[tactic(auto, unfolding(ll_explanations::specs::Meanings::port_rights_in))]
+#[tactic(auto, unfolding(crate::specs::Words::listed))]
 pub(crate) fn push_port_rights(text: &mut TextBuffer, rights: Net)
     ensures { text.new ≡ adding text.old (port_rights_text (port_rights_in rights)) }
 {

@@ -17,7 +17,7 @@ use Rattle.ll_reasons.specs.Objections.{Objection, missing, closed, gained, moun
 use Rattle.ll_reasons.specs.Reasons as reasons
 use Rattle.ll_reasons.specs.Reasons.{Reason}
 use Rattle.ll_semantics.specs.Worlds.{judged}
-use Rattle.ll_explain.specs.Words.{word_for}
+use Rattle.ll_explain.specs.Words.{words_of}
 use Rattle.ll_report.specs.Found.{Found}
 use Rattle.ll_report.specs.declared.options.Shown.{Shown}
 use Rattle.ll_report.specs.Spans.{spans_of}
@@ -34,10 +34,10 @@ mapped f n each [] = omega arith
 mapped f n each (a ∷ list) = omega (arith, each a, mapped f n each list)
 
 named : (rights : List FsRight) → depth (rights_json rights) ≤ 1
-named rights = omega (arith, mapped (λ (right : FsRight). string (word_for (files.name_of right))) 0 (λ right. omega arith) rights)
+named rights = omega (arith, mapped string 0 (λ word. omega arith) (words_of files.name_of rights))
 
 named_on_ports : (rights : List NetRight) → depth (port_rights_json rights) ≤ 1
-named_on_ports rights = omega (arith, mapped (λ (right : NetRight). string (word_for (network.name_of right))) 0 (λ right. omega arith) rights)
+named_on_ports rights = omega (arith, mapped string 0 (λ word. omega arith) (words_of network.name_of rights))
 
 objection : (records : List Record) (o : Objection) → depth (objection_json records o) ≤ 2
 unfolding objection_json

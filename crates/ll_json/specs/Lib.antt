@@ -2,7 +2,6 @@ pub mod Parts
 pub mod Versions
 pub mod Writing
 pub mod Why
-pub mod Names
 pub mod Layering
 pub mod Records
 pub mod Values

@@ -1,6 +1,6 @@
 -- What is written of an answer by its explanation as a value.
 -- Source: docs/FORMATS.md, "The report" and "Explanations".
-use Rattle.std.specs.Prelude.{ℕ, List, [], ◌∷◌, ◌++◌, codes, map, if◌then◌else◌}
+use Rattle.std.specs.Prelude.{ℕ, Bool, List, [], ◌∷◌, ◌++◌, codes, map, if◌then◌else◌}
 use Rattle.json.specs.Token as token
 use Rattle.json.specs.Token.{Token}
 use Rattle.json.specs.Tree.{json_tokens}
@@ -14,6 +14,7 @@ use Rattle.ll_explanations.specs.Meanings.{explanation_in}
 use Rattle.ll_explanations.specs.declared.explanation.Explanation.{Explanation}
 use Rattle.ll_explanations.specs.declared.explanation.Explanation.TheVariants.{Nothing, Objections, Failure, Mootness}
 use Rattle.ll_reasons.specs.Explanations.{nothing}
+use Rattle.ll_explain.specs.Words.{word_for}
 use Rattle.ll_report.specs.Lines.{error_name}
 use Rattle.ll_json.specs.Layering.{objections_from}
 use Rattle.ll_json.specs.Parts.{Named, array_of, named_tokens}
@@ -22,6 +23,10 @@ use Rattle.ll_json.specs.Records.{answer_members, bare_layer, why_members}
 -- layers by their numbers alone
 abbrev pub bare_tokens : List ℕ → List Token
 bare_tokens numbers = json_tokens (array_of (map bare_layer numbers))
+
+-- the word for a right of this name, where it is in a set
+unfoldable pub word_if : Bool → List ℕ → List Token
+word_if is_in name = if is_in then token.string (word_for name) ∷ [] else []
 
 -- one of layers that are told by their numbers, one after another: a layer where it is in a set
 unfoldable pub among_tokens : List ℕ → ℕ → List Token

@@ -14,21 +14,21 @@ use Rattle.ll_reasons.specs.Conditions as conditions
 use Rattle.ll_reasons.specs.Conditions.{Condition}
 use Rattle.ll_reasons.specs.Reasons as reasons
 use Rattle.ll_reasons.specs.Reasons.{Reason}
-use Rattle.ll_explain.specs.Words.{line_of, path_opened, word_for}
+use Rattle.ll_explain.specs.Words.{line_of, path_opened, words_of}
 use Rattle.ll_json.specs.Parts.{Named, array_of, object_of, whole}
 
 abbrev pub path_json : Path → Json
 path_json path = string (text_of path)
 
--- the words for rights, which are those of the report's text, in the order of the list
-abbrev pub words_json : {R : Type 0} → (R → List ℕ) → List R → Json
-words_json name_of rights = array_of (map (λ right. string (word_for (name_of right))) rights)
+-- words, and those for rights, which are those of the report's text
+abbrev pub words_json : List (List ℕ) → Json
+words_json words = array_of (map string words)
 
 abbrev pub rights_json : List files.FsRight → Json
-rights_json rights = words_json files.name_of rights
+rights_json rights = words_json (words_of files.name_of rights)
 
 abbrev pub port_rights_json : List network.NetRight → Json
-port_rights_json rights = words_json network.name_of rights
+port_rights_json rights = words_json (words_of network.name_of rights)
 
 -- ---- what layers object to
 

@@ -5,15 +5,16 @@ ghost use Rattle.std.specs.Prelude.{◌≡◌, ◌∷◌, [], codes};
 ghost use Rattle.json.specs.{Json.string, Tree.json_tokens};
 ghost use Rattle.ll_rights.specs.Abis.{number_of};
 ghost use Rattle.ll_explanations.specs.{Meant.text_named, declared.why.Which.TheVariants.First};
-ghost use Rattle.ll_explanations.specs.Meanings.{condition_in, port_rights_in, rights_in};
-ghost use Rattle.ll_json.specs.{Parts.array_of, Parts.whole, Writing.writing};
-ghost use Rattle.ll_json.specs.Why.{by_condition, condition_json, port_rights_json, rights_json};
+ghost use Rattle.ll_explanations.specs.Meanings.{condition_in, rights_in};
+ghost use Rattle.ll_json.specs.{Parts.whole, Writing.writing};
+ghost use Rattle.ll_json.specs.Why.{by_condition, condition_json, rights_json, words_json};
 
 use crate::json_text::JsonText;
-use crate::rights::{RightSet, write_rights_as};
+use crate::rights::write_rights_as;
 use crate::words::{begin_by, write_alone, write_number, write_numbered, write_text};
+use ll_explain::RightSet;
 use ll_explanations::{Condition, Which, text_of};
-use ll_rights::{Abi, Fs, Net};
+use ll_rights::{Abi, Fs};
 use ll_trace::Op;
 
 /// Writes which rights a version doesn't know.
@@ -37,29 +38,13 @@ fn write_portless(out: &mut JsonText, abi: Abi)
 }
 
 /// Writes, by a word for it, which rights a ruleset doesn't handle.
-fn write_unhandled_as<R: RightSet>(out: &mut JsonText, word: &str, rights: R)
+fn write_unhandled<R: RightSet>(out: &mut JsonText, word: &str, rights: R)
     ensures { out.new ≡ writing out.old (json_tokens
-        (by_condition word.now ((codes "rights", array_of (R.words rights)) ∷ []))) }
+        (by_condition word.now ((codes "rights", words_json (R.words rights)) ∷ []))) }
 {
     begin_by(out, "condition", word);
     write_rights_as(out, "rights", rights);
     out.end_object();
-}
-
-/// Writes which rights for files a ruleset doesn't handle.
-fn write_unhandled(out: &mut JsonText, rights: Fs)
-    ensures { out.new ≡ writing out.old (json_tokens (by_condition (codes "unhandled")
-        ((codes "rights", rights_json (rights_in rights)) ∷ []))) }
-{
-    write_unhandled_as(out, "unhandled", rights);
-}
-
-/// Writes which rights for ports a ruleset doesn't handle.
-fn write_unhandled_on_ports(out: &mut JsonText, rights: Net)
-    ensures { out.new ≡ writing out.old (json_tokens (by_condition (codes "unhandled_on_ports")
-        ((codes "rights", port_rights_json (port_rights_in rights)) ∷ []))) }
-{
-    write_unhandled_as(out, "unhandled_on_ports", rights);
 }
 
 /// Writes which rights are for directories, where the path is that of something else.
@@ -85,8 +70,10 @@ pub(crate) fn write_condition(out: &mut JsonText, op: &Op, condition: &Condition
         Condition::Portless(abi) => write_portless(out, *abi),
         Condition::Rightless => write_alone(out, "condition", "rightless"),
         Condition::Unheld(rs) => write_numbered(out, "condition", "unheld", "rs", *rs),
-        Condition::Unhandled(rights) => write_unhandled(out, *rights),
-        Condition::UnhandledOnPorts(rights) => write_unhandled_on_ports(out, *rights),
+        Condition::Unhandled(rights) => write_unhandled(out, "unhandled", *rights),
+        Condition::UnhandledOnPorts(rights) => {
+            write_unhandled(out, "unhandled_on_ports", *rights)
+        }
         Condition::OnlyForDirectories(rights) => write_only_for_directories(out, op, *rights),
         Condition::NoPort(port) => write_numbered(out, "condition", "no_port", "port", *port),
         Condition::Unprivileged => write_alone(out, "condition", "unprivileged"),

@@ -9,3 +9,11 @@ returns-in-Rightless c = rw c.in-Rightless.is c.write_alone.ensures
 pub returns-in-Unprivileged : goal.returns-in-Unprivileged
 unfolding condition_in condition_json
 returns-in-Unprivileged c = rw c.in-Unprivileged.is c.write_alone-in-Unprivileged.ensures
+
+pub returns-in-Unhandled : goal.returns-in-Unhandled
+unfolding condition_in condition_json
+returns-in-Unhandled c = rw c.in-Unhandled.is c.write_unhandled.ensures
+
+pub returns-in-UnhandledOnPorts : goal.returns-in-UnhandledOnPorts
+unfolding condition_in condition_json
+returns-in-UnhandledOnPorts c = rw c.in-UnhandledOnPorts.is c.write_unhandled-in-UnhandledOnPorts.ensures

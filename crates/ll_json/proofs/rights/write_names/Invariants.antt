@@ -1,10 +1,12 @@
 use Rattle.std.proofs.Common.{◌≡◌, drop}
 use Rattle.std.specs.List.{flat_map}
-use Rattle.ll_json.specs.Names.{name_in}
+use Rattle.ll_json.specs.Values.{word_if}
 use Rattle.ll_json.specs.Writing.{writing}
 use Rattle.ll_json.proofs.rights.write_names.Given as goal
 
 -- what is written and what is left make the whole
 abbrev pub invariant-loop-right : goal.invariant-loop-right
-invariant-loop-right l =
-    writing l.out (flat_map (name_in l.rights) (drop l.right-index l.all)) ≡ writing l.fn.out (flat_map (name_in l.rights) l.all)
+invariant-loop-right g l =
+    let set = g.S.RightSet in
+    let words = flat_map (λ right. word_if (set.has l.rights right) (set.name right)) in
+    writing l.out (words (drop l.right-index l.all)) ≡ writing l.fn.out (words l.all)
