@@ -6,19 +6,21 @@ ghost use Rattle.ll_tree.specs.TreeReading.{IsTreeOf};
 ghost use Rattle.ll_trace.specs.Records.{IsTrace};
 ghost use Rattle.ll_report.specs.Shown.{told_by};
 ghost use Rattle.ll_audit.specs.Audits.{IsWorkerCount, IsFaultOf, IsReport};
-ghost use Rattle.ll_audit.specs.ShownReports.{IsReportBy, IsReportInJson, IsReportWith, IsTextReport};
+ghost use Rattle.ll_audit.specs.ShownReports.{IsReportBy, IsReportWith};
 ghost use Rattle.ll_audit.specs.Inputs.{trace_bytes, tree_bytes};
 ghost use Rattle.ll_audit.specs.Causes.{IsTraceFault, IsTreeFault, IsOutOfMemoryOrThreads};
 
 use crate::cut::{Cut, cuts_of};
 use crate::fault::Fault;
 use crate::inputs::Inputs;
-use crate::ranging::{Audit, audit_all, report_in_json, report_in_text};
+use crate::ranging::{Audit, audit_all};
 use crate::report_text::{Form, ReportText};
 use crate::workers::Workers;
+use ll_command::VERSION;
+use ll_json::json_report;
 use ll_lines::ReadFault;
 use ll_pool::Gate;
-use ll_report::{ALL_LINES, Format, Options, Report};
+use ll_report::{ALL_LINES, Format, Options, Report, report_over};
 use ll_rights::{Abi, AbiRange};
 use ll_trace::{Effort, Trace};
 use ll_tree::{Cause, Tree};
@@ -195,38 +197,30 @@ fn report_by<R: Threads + Wait + Sync, G: Gate + Sync>(
         options,
         cuts: &cuts,
     };
+    report_in_form(&audit, tree, trace)
+}
+
+/// The report in the form that is asked for.
+fn report_in_form<R: Threads + Wait + Sync, G: Gate + Sync>(
+    audit: &Audit<'_, R, G>,
+    tree: Tree,
+    trace: Trace,
+) -> Result<ReportText, Fault>
+    requires { IsWorkerCount audit.now.workers.now.count }
+    ensures report { IfOk result (IsReportBy audit.now.options.now tree trace) }
+    ensures fault { IfErr result IsOutOfMemoryOrThreads }
+{
+    let all = audit_all(audit, tree, trace)?;
+    let (alloc, options) = (audit.workers.alloc, audit.options);
+    let oldest = options.abis.oldest().number();
     match options.format {
-        Format::Text => text_by(&audit, tree, trace),
-        Format::Json => json_by(&audit, tree, trace),
+        Format::Text => {
+            let report = report_over(alloc, all, options.shown, oldest)?;
+            Ok(ReportText::new(Form::Text(report)))
+        }
+        Format::Json => {
+            let report = json_report(alloc, all, options.shown, oldest, VERSION)?;
+            Ok(ReportText::new(Form::Json(report)))
+        }
     }
-}
-
-/// The report as text.
-fn text_by<R: Threads + Wait + Sync, G: Gate + Sync>(
-    audit: &Audit<'_, R, G>,
-    tree: Tree,
-    trace: Trace,
-) -> Result<ReportText, Fault>
-    requires { IsWorkerCount audit.now.workers.now.count }
-    ensures report { IfOk result (IsTextReport audit.now.options.now tree trace) }
-    ensures fault { IfErr result IsOutOfMemoryOrThreads }
-{
-    let all = audit_all(audit, tree, trace)?;
-    let report = report_in_text(all, audit.workers.alloc, audit.options)?;
-    Ok(ReportText::new(Form::Text(report)))
-}
-
-/// The report as JSON.
-fn json_by<R: Threads + Wait + Sync, G: Gate + Sync>(
-    audit: &Audit<'_, R, G>,
-    tree: Tree,
-    trace: Trace,
-) -> Result<ReportText, Fault>
-    requires { IsWorkerCount audit.now.workers.now.count }
-    ensures report { IfOk result (IsReportInJson audit.now.options.now tree trace) }
-    ensures fault { IfErr result IsOutOfMemoryOrThreads }
-{
-    let all = audit_all(audit, tree, trace)?;
-    let report = report_in_json(all, audit.workers.alloc, audit.options)?;
-    Ok(ReportText::new(Form::Json(report)))
 }

@@ -1,13 +1,8 @@
 //! An audit over several versions.
 
-ghost use Rattle.std.specs.Prelude.{◌≡◌, ◌+◌, ◌<◌, ◌^◌, IfOk, IfErr, List, length};
+ghost use Rattle.std.specs.Prelude.{◌≡◌, ◌+◌, ◌<◌, ◌^◌, IfOk, IfErr, length};
 ghost use Rattle.ll_rights.specs.{Abis.number_of};
-ghost use Rattle.ll_json.specs.Reports.{IsJsonReport};
-ghost use Rattle.ll_report.specs.Rows.{refused_under_some, rows_text};
-ghost use Rattle.ll_report.specs.Versions.{founds_in};
-ghost use Rattle.ll_command.specs.declared.command.TheConstants.{VERSION};
 ghost use Rattle.ll_json.specs.Judged.{AreFound};
-ghost use Rattle.ll_json.specs.Versions.{Version};
 ghost use Rattle.ll_audit.specs.Causes.{IsOutOfMemoryOrThreads};
 ghost use Rattle.ll_audit.specs.ShownReports.{versions_by};
 ghost use Rattle.ll_audit.specs.Ranging.{ComesTo, GoesOn, IsOf, IsThrough};
@@ -16,15 +11,12 @@ ghost use Rattle.ll_audit.specs.Audits.{IsWorkerCount};
 use crate::fault::Fault;
 use crate::judged::Judged;
 use crate::workers::Workers;
-use ll_command::VERSION;
 use ll_findings::Findings;
-use ll_json::{JsonRows, json_report};
 use ll_pool::Gate;
-use ll_report::{Audited, Options, RowReport, VersionRows, report_over};
+use ll_report::{Audited, Options};
 use ll_rights::Abi;
 use ll_trace::{Kernel, Located, Trace};
 use ll_tree::Tree;
-use std::alloc::{AllocError, Global};
 use std::sync::Wait;
 use std::thread::Threads;
 
@@ -154,39 +146,4 @@ pub(crate) fn audit_all<R: Threads + Wait + Sync, G: Gate + Sync>(
     let located = audit.workers.located(tree, trace)?;
     let findings = found_in(audit, &located)?;
     Ok(Audited { located, findings })
-}
-
-/// The report as text over the versions that the options ask for.
-pub(crate) fn report_in_text(
-    audited: Audited,
-    alloc: Global,
-    options: &Options,
-) -> Result<RowReport<VersionRows>, AllocError>
-    requires { number_of options.now.abis.oldest + length audited.findings < 2 ^ 64 }
-    ensures text { IfOk result (λ report. report.text ≡ rows_text options.now.shown
-        (number_of options.now.abis.oldest) (founds_in options.now.shown.explanations
-        audited.located.tree audited.located.trace audited.findings) audited.located.trace) }
-    ensures refused { IfOk result (λ report. report.refused
-        ≡ refused_under_some (founds_in options.now.shown.explanations
-        audited.located.tree audited.located.trace audited.findings) audited.located.trace) }
-{
-    let oldest = options.abis.oldest();
-    report_over(alloc, audited, options.shown, oldest.number())
-}
-
-/// The report as JSON over the versions that the options ask for.
-pub(crate) fn report_in_json(
-    audited: Audited,
-    alloc: Global,
-    options: &Options,
-) -> Result<RowReport<JsonRows<'static>>, AllocError>
-    requires { number_of options.now.abis.oldest + length audited.findings < 2 ^ 64 }
-    ensures { IfOk result (λ report. (versions : List Version)
-        → AreFound options.now.shown.explanations audited.located.tree audited.located.trace
-        versions audited.findings
-        → IsJsonReport options.now.shown audited.located.tree (number_of options.now.abis.oldest)
-        versions audited.located.trace VERSION.now report) }
-{
-    let oldest = options.abis.oldest();
-    json_report(alloc, audited, options.shown, oldest.number(), VERSION)
 }
