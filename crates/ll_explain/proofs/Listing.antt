@@ -7,11 +7,6 @@ use Rattle.ll_explain.specs.Buffers.{Buffered, adding}
 use Rattle.ll_explain.specs.Words.{behind, joined}
 use Rattle.ll_explain.proofs.Buffering.{adding_nothing, goes_on}
 
--- nothing is written yet
-abbrev pub is_none_yet : {A : Type 0} → List A → Bool
-is_none_yet [] = true
-is_none_yet (first ∷ more) = false
-
 module _ {X : Type 0} (test : X → Bool) (text_of : X → List ℕ) (separator : List ℕ) where
   -- what is to be written of items, where it is the first to be written or not
   unfoldable pub left : Bool → List X → List ℕ

@@ -131,9 +131,6 @@ module _ (layer : Layer) (port : ℕ) (one : network.NetRight) where
   unfoldable closed_there : network.NetRight → Bool
   closed_there right = network.has layer.handled_network right && not (granted_on_port layer port right)
 
-  asked_there : network.NetRight → Bool
-  asked_there right = network.has (network.only one) right && network.has layer.handled_network right && not (granted_on_port layer port right)
-
   lacks_one : lacks_on_port layer port (network.only one) ≡ closed_there one
   unfolding network.some_right closed_there
   lacks_one =

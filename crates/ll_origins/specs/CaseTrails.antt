@@ -18,7 +18,7 @@ use Rattle.ll_rulebook.specs.Settled.{met_by}
 use Rattle.ll_process.specs.Cases.{CaseValue}
 use Rattle.ll_reasons.specs.Explanations.{domain_at, objections_to, origins_at}
 use Rattle.ll_reasons.specs.Made.{enforced_at}
-use Rattle.ll_reasons.specs.Origins.{sources_at, no_sources, Origins}
+use Rattle.ll_reasons.specs.Origins.{sources_at, Origins}
 use Rattle.ll_origins.specs.declared.trail.ProcessOrigins.{ProcessOrigins}
 use Rattle.ll_origins.specs.declared.trail.TraceOrigins.{TraceOrigins}
 use Rattle.ll_origins.specs.TraceOrigins.{Follows, AreTrails}
@@ -26,10 +26,6 @@ use Rattle.ll_origins.specs.TraceOrigins.{Follows, AreTrails}
 -- what is kept says where all that the processes of a case have before the record at an index comes from
 abbrev pub AreTrailsAt : CaseValue → ℕ → TraceOrigins → Type 0
 AreTrailsAt case index trails = AreTrails trails.trails.items (sources_at case.tree case.abi case.records index)
-
--- what is kept of no process is what is kept before the first record, whichever the case
-abbrev pub TrailsBegin : Type 0
-TrailsBegin = (case : CaseValue) (trails : TraceOrigins) → AreTrails trails.trails.items no_sources → AreTrailsAt case 0 trails
 
 -- an answer is that to the record at an index
 abbrev pub IsAnswerAt : CaseValue → ℕ → Answer → Type 0

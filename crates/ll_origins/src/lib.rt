@@ -9,4 +9,4 @@ mod trail;
 
 pub use domain::domain_of;
 pub use openings::Openings;
-pub use trail::{ProcessOrigins, TraceOrigins, same_layers_object_to_the_same, trails_begin};
+pub use trail::{ProcessOrigins, TraceOrigins, same_layers_object_to_the_same};

@@ -3,7 +3,7 @@
 ghost use Rattle.std.specs.Prelude.{◌≡◌, ◌<◌, ◌+◌, ◌++◌, ◌∷◌, ℕ, [], Some, false, length, slice_get, IfOk, OnOk};
 ghost use Rattle.ll_trace.specs.{Entries.is_start, Borrowed.is_of_rights};
 ghost use Rattle.ll_reasons.specs.Origins.{Origins, Sources, no_origins, no_sources, sources_by, traced, with_next};
-ghost use Rattle.ll_origins.specs.CaseTrails.{AreTrailsAt, IsAnswerAt, ObjectToTheSame, TrailsBegin};
+ghost use Rattle.ll_origins.specs.CaseTrails.{AreTrailsAt, IsAnswerAt, ObjectToTheSame};
 ghost use Rattle.ll_origins.specs.TraceOrigins.{AreTrails, Follows};
 
 use crate::openings::Openings;
@@ -204,12 +204,6 @@ impl TraceOrigins {
         Ok(())
     }
 }
-
-/// What is kept of no process is what is kept before the first record, whichever the case.
-#[tactic(auto, using(crate::proofs::AtIndices::begins_at))]
-pub fn trails_begin()
-    ensures { TrailsBegin }
-{}
 
 /// Layers that are one by one the same object to the same in each call, so that a case's own layers of a process may
 /// be asked in place of those that the semantics gives it.

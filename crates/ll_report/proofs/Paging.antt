@@ -29,20 +29,6 @@ shows room skip part empty page low is_empty is =
       count = ap (λ (b : Buffered). b.count) found ∙ ap (λ n. min n most_counted) counts;
     }
 
--- a page that was settled
-pub settled : (page after : Buffered) → 0 < page.room → length page.held ≤ page.room → after ≡ holding page.room page.held → IsPage after ×
-    (after.held ≡ page.held)
-settled page after some fits is =
-    let room = ap (λ (b : Buffered). b.room) is in
-    let held = ap (λ (b : Buffered). b.held) is in (
-      record {
-        all = is ∙ ap₂ holding (sym room) (sym held);
-        room = subst (λ (n : ℕ). 0 < n) (sym room) some;
-        fits = omega (arith, room, ap length held, fits);
-      },
-      held,
-    )
-
 -- Of a part that was written up to a byte before, some more is written.
 pub record IsMidway (old new : Option (List ℕ)) (part : List ℕ) (skip written : ℕ) : Type 0 where
   pub sent : List ℕ

@@ -6,7 +6,6 @@ use Rattle.std.specs.List.{list_any, range_with_len}
 use Rattle.ll_trace.specs.declared.op.Record.{Record}
 use Rattle.ll_report.specs.declared.options.Shown.{Shown}
 use Rattle.ll_trace.specs.Operations.{op_name}
-use Rattle.ll_report.specs.declared.spans.Form.{Form}
 use Rattle.ll_report.specs.declared.spans.Form.TheVariants.{Answers, Explanations}
 use Rattle.ll_report.specs.Found.{Found, answer_at, explanation_at}
 use Rattle.ll_report.specs.Lines.{verdict_of}
@@ -24,14 +23,6 @@ answers_said founds index = map (λ found. verdict_text (verdict_of (answer_at f
 
 abbrev pub explanations_said : List Found → ℕ → List (List ℕ)
 explanations_said founds index = map (λ found. explanation_at found index) founds
-
--- the one or the other, as the form says, under one version and under each
-abbrev pub said_by : Form → ℕ → Found → List ℕ
-said_by Answers index found = verdict_text (verdict_of (answer_at found index))
-said_by Explanations index found = explanation_at found index
-
-abbrev pub said_under : Form → List Found → ℕ → List (List ℕ)
-said_under form founds index = map (said_by form index) founds
 
 -- some version refuses the record at an index
 abbrev pub is_refused_under_some : List Found → ℕ → Bool
