@@ -105,7 +105,7 @@ def read(status: int, text: str, old: str, new: str, abis: Iterable[int]) -> Sai
             other = old if one == new else new
             assert what in (f"pass what {other} refuses:", f"nothing pass that {other} refuses"), line
             here = found[one] if what.startswith("pass what") else None
-    assert rest and re.fullmatch(r"[0-9,]+ calls tried under each, at ABI [0-9-]+", rest[-1]), text
+    assert rest and re.fullmatch(r"[0-9,]+ calls compared, at ABI [0-9-]+", rest[-1]), text
     return Said(status, tuple(found[new]), tuple(found[old]))
 
 

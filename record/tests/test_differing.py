@@ -80,7 +80,7 @@ class Differing(InFolder):
     def test_the_same_policy(self) -> None:
         status, lines, _ = self.said(OLD, OLD)
         self.assertEqual((status, len(lines)), (0, 1))
-        self.assertRegex(lines[0], r"\Ano call differs: \d+ calls tried under each, at ABI 1-5\Z")
+        self.assertRegex(lines[0], r"\Ano call differs: \d+ calls compared, at ABI 1-5\Z")
 
     def test_a_policy_in_other_words(self) -> None:
         """Rules that are split or written twice; a layer that is there twice."""
@@ -477,7 +477,7 @@ class Differing(InFolder):
         printed = """new lets pass what old refuses:
   read_file under /a, but for /a/b
 old lets nothing pass that new refuses
-9 calls tried under each, at ABI 1-5"""
+9 calls compared, at ABI 1-5"""
         said = covering.read(1, printed, "old", "new", range(1, 6))
         inside, outside = (Call((), (Right("read_file", path, is_file=True),)) for path in ("/a/x", "/a/b/x"))
         every, none = frozenset(range(1, 6)), frozenset[int]()

@@ -49,7 +49,7 @@ def _lines(review: Review) -> Iterator[str]:
 
 def tried(review: Review) -> str:
     """What the comparison rests on."""
-    return f"{review.tried:,} calls tried{' under each' if review.old else ''}, at ABI {span(review.abis)}"
+    return f"{review.tried:,} calls compared, at ABI {span(review.abis)}"
 
 
 def sections(review: Review) -> Iterator[tuple[str, tuple[DifferenceRow, ...]]]:
