@@ -77,12 +77,12 @@ class Finding(unittest.TestCase):
 @unittest.skipUnless(landaudit_rules.BUILT.exists(), f"{landaudit_rules.BUILT} is not built")
 class Asking(unittest.TestCase):
     def line(self, root_is_file: str, *asked: str) -> str:
-        members = (f',"{name}":[]' for name in asked or ("regions", "objects", "single", "gains"))
+        members = (f',"{name}":[]' for name in asked or ("regions", "objects", "single", "gains", "moves"))
         return f'{{"files":[{root_is_file}],"ports":0{"".join(members)}}}'
 
     def test_a_comparison_has_to_say_what_it_asks(self) -> None:
         with self.assertRaises(Problem) as fault:
-            landaudit_rules.ask(landaudit_rules.BUILT, [self.line("false", "regions", "objects", "gains")])
+            landaudit_rules.ask(landaudit_rules.BUILT, [self.line("false", "regions", "objects", "gains", "moves")])
         self.assertEqual((fault.exception.status, str(fault.exception)), (UNREADABLE, "landaudit-rules: line 1: Field"))
 
     def test_an_input_that_does_not_read(self) -> None:
