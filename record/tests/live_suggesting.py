@@ -3,6 +3,7 @@
 from __future__ import annotations
 
 import json
+import os
 import shutil
 import subprocess
 import sys
@@ -30,6 +31,17 @@ made = os.open("/dev/ptmx", os.O_RDWR | os.O_NOCTTY)
 fcntl.ioctl(made, 0x40045431, struct.pack("i", 0))
 number, = struct.unpack("I", fcntl.ioctl(made, 0x80045430, struct.pack("I", 0)))
 os.write(os.open(f"/dev/pts/{number}", os.O_RDWR | os.O_NOCTTY), b"text")
+"""
+#: Makes a device and removes it, and reads what the kernel shows of it meanwhile (loop(4)).
+LOOP = """
+import fcntl, os
+control = os.open("/dev/loop-control", os.O_RDWR)
+fcntl.ioctl(control, 0x4C80, 987)
+try:
+    for path in ("/dev/loop987", "/sys/block/loop987/ro"):
+        os.close(os.open(path, os.O_RDONLY))
+finally:
+    fcntl.ioctl(control, 0x4C81, 987)
 """
 SHELL = ("mkdir d && sort -o d/out in && mv d/out out && ln out also && rm -r d && "
          f"{PYTHON} -I -c '{TERMINAL}' && cat also")
@@ -71,6 +83,17 @@ class LiveSuggesting(unittest.TestCase):
 
         confined = self.confined()
         self.assertEqual((confined.returncode, confined.stdout), (0, "a\nb\n"), confined.stderr)
+
+    @unittest.skipUnless(os.access("/dev/loop-control", os.W_OK), "no loop devices (loop(4)) for this user")
+    def test_a_program_may_read_what_the_kernel_makes_for_it(self) -> None:
+        recording, program = self.folder / "rec", [PYTHON, "-I", "-S", "-c", LOOP]
+        recorded = self.recorder("run", recording, "--", *program)
+        self.assertEqual(recorded.returncode, 0, recorded.stderr)
+        suggested = self.recorder("suggest", recording, "--policy", self.policy)
+        self.assertEqual(suggested.returncode, 0, suggested.stderr)
+        self.policy.write_text(DENY + suggested.stdout)
+        confined = self.run_in_work([sys.executable, CONFINER, "confine", self.policy, "--", *program])
+        self.assertEqual(confined.returncode, 0, confined.stderr)
 
     def test_fewer_rules_reach_secrets_last(self) -> None:
         """A rule on all of /etc has fewer objects than one on libraries, but would let the passwords be read."""

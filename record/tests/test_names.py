@@ -163,3 +163,9 @@ class Paths(unittest.TestCase):
             names = Names(Disk(0.0, DISK), before, ["/"], unlisted=unlisted)
             self.assertEqual(getattr(names.at("/w/moved/in"), "kind", None), expected)
             self.assertIsNone(names.at("/usr"))
+
+    def test_of_directories_that_were_listed_or_not_the_nearest_counts(self) -> None:
+        before = {"/w/in": Seen("dir"), "/w/in/f": Seen("reg")}
+        for unlisted, expected in ((["/w"], None), (["/w/in"], "reg"), (["/w", "/w/in/moved"], None)):
+            names = Names(Disk(0.0, {**DISK, "/w/in": Seen("dir"), "/w/in/g": Seen("reg")}), before, ["/w/in"], unlisted=unlisted)
+            self.assertEqual(getattr(names.at("/w/in/g"), "kind", None), expected, unlisted)

@@ -48,12 +48,12 @@ class Running(Untraced):
         self.assertEqual(error, f"landaudit-record: there is no directory {self.out} for deep: make it first\n")
 
     def listed(self, *words: str) -> list[str]:
-        """The directories that a run lists before that of the terminals, which each run lists."""
+        """The directories that a run lists before those in which the kernel makes objects, which each run lists."""
         with (mock.patch.object(recordings, "watch", side_effect=KeyboardInterrupt) as watch,
-              mock.patch.object(run, "TERMINALS", str(self.folder))):
+              mock.patch.object(run, "MADE_BY_KERNEL", (str(self.folder), "/no/such"))):
             said("run", str(self.out), *words, "--", "ls")
-        *listed, terminals = watch.call_args.args[1]
-        self.assertEqual(terminals, str(self.folder))
+        *listed, made_by_kernel = watch.call_args.args[1]
+        self.assertEqual(made_by_kernel, str(self.folder))
         return listed
 
     def test_the_root_is_listed_as_any_directory(self) -> None:

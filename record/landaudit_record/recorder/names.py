@@ -345,7 +345,9 @@ class Names:
         return self.whiteouts if seen == WHITEOUT else seen
 
     def _is_watched(self, path: str) -> bool:
-        return any(path.startswith(top) for top in self._watched) and not path.startswith(self._unlisted)
+        """Whether what was at a path was listed before the run: the nearest directory above that says so counts."""
+        listed = max((len(top) for top in self._watched if path.startswith(top)), default=0)
+        return listed > max((len(top) for top in self._unlisted if path.startswith(top)), default=0)
 
     def at_start(self, path: str) -> Node | None:
         """The object that is at a path when the run begins, as far as that is known."""

@@ -30,8 +30,9 @@ from . import audit, convert
 NAME = "run"
 HELP = "record a command: run it under strace, and write its tree and its trace"
 EXAMPLE = "landaudit-record run rec --watch /tmp/work -- tar xf archive.tar -C /tmp/work"
-#: The kernel makes and removes terminals there while a command runs, and says of none when it was made (pts(4)).
-TERMINALS = "/dev/pts"
+#: Where the kernel makes and removes objects while a command runs, and says of none when it was made: terminals and
+#: other devices (pts(4), loop(4)), network interfaces (sysfs(5)), and their settings (proc_sys_net(5)).
+MADE_BY_KERNEL = ("/dev", "/sys/devices/virtual", "/proc/sys/net")
 BEHIND_DASHES = "give a command after '--', as in 'landaudit-record run rec -- ls'"
 
 
@@ -293,20 +294,20 @@ def _watched(folder: Path, directories: list[str]) -> recordings.Watched:
     seen = recordings.watch(folder, directories)
     for directory in seen.too_large:
         convert.say(f"{directory} holds more than {recordings.MOST_WATCHED:,} objects and is not watched")
-    for directory in seen.unread:
+    for directory in (one for one in seen.unread if not f"{one}/".startswith(tuple(f"{top}/" for top in MADE_BY_KERNEL))):
         convert.say(f"{directory} can't be read: what the command overwrites, moves and removes there is not known")
     return seen
 
 
 def _directories(named: list[str]) -> list[str]:
-    """The directories to list: those that are named, the working directory, and that of the terminals."""
+    """The directories to list: those that are named, the working directory, and those where the kernel makes objects."""
     for name in named:
         if not os.path.isdir(name):
             raise Problem(f"--watch {name}: there is no such directory", USAGE)
         if not os.access(name, os.R_OK | os.X_OK):
             raise Problem(f"--watch {name}: it can't be read", USAGE)
-    terminals = [TERMINALS] if os.access(TERMINALS, os.R_OK | os.X_OK) else []
-    return list(dict.fromkeys([*(os.path.realpath(name) for name in named), _working_directory(), *terminals]))
+    kernels = (top for top in MADE_BY_KERNEL if os.access(top, os.R_OK | os.X_OK))
+    return list(dict.fromkeys([*(os.path.realpath(name) for name in named), _working_directory(), *kernels]))
 
 
 def _working_directory() -> str:
