@@ -54,6 +54,12 @@ class Objects(StraceLines):
         self.convert('rename("text", "f") = 0', reads("f"))
         self.assertEqual(self.listed()["/w/f~2~"], {"kind": "reg", "made": True, "same": "/w/text", "shown": "/w/f"})
 
+    def test_a_rename_of_a_path_with_itself_asks_to_remove_and_to_make_the_object(self) -> None:
+        for name, call in (("f", 'rename("f", "f") = 0'), ("d", 'rename("d", "./d") = 0')):
+            ((start, end),) = self.moves(call)
+            self.assertEqual((start, end), (f"/w/{name}", f"/w/{name}~new~"))
+        self.assertEqual(self.moves('rename("f", "f") = 0', 'rename("f", "new") = 0')[1], ("/w/f", "/w/new~new~"))
+
     def test_a_file_that_is_replaced_again_and_again_shares_one_name(self) -> None:
         found = self.paths(*[makes("new"), 'rename("new", "f") = 0', reads("f")] * 3)
         self.assertEqual([path for path in found if "new" not in path], ["/w/f~2~"] * 3)

@@ -44,6 +44,9 @@ def _rename(scene: Scene, thread: Thread, call: Call) -> None:
         target = arguments.object_at(scene, call, target, "reg", KINDS)
     elif call.ok and flags & RENAME_NOREPLACE:
         target = scene.absent(target.real)
+    if moved.node is not None and moved.node is target.node and moved.real == target.real:
+        _say_move(scene, thread, call, "rename", moved, scene.missing(target.real), False)
+        return
     if flags & RENAME_WHITEOUT and scene.names.whiteouts == "reg":
         _say_whiteout(scene, thread, call, moved)
     if call.ok and moved.node is not None and not exchange and scene.names.may_be_replaced(target.real):
