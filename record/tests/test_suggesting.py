@@ -393,6 +393,18 @@ class Ports(unittest.TestCase):
                  enumerate((("connect", 443), ("connect", 80), ("bind", 8080), ("connect", 80)), start=1)]
         self.assertEqual(rules(*calls), [((80, 443), ["connect_tcp"], 3), ((8080,), ["bind_tcp"], 1)])
 
+    def test_a_port_that_the_kernel_may_have_chosen_gets_a_warning(self) -> None:
+        """ip(7): the kernel chooses among the ports 32,768 to 60,999."""
+        for op, ports, told in (
+            ("connect", (32767, 61000), ()),
+            ("connect", (443, 32768, 60999), ("warning: 32768, 60999: if the kernel chose it (bind to port 0), it "
+                                              "differs in each run",)),
+            ("bind", (40000,), ()),
+        ):
+            calls = [({"op": op, "port": port, "call": port}, refused(closed_on(port, f"{op}_tcp"))) for port in ports]
+            (rule,) = suggested([*layer(), *calls]).rules[1]
+            self.assertEqual((rule.place, said(rule)), (ports, told))
+
 
 MOUNT = ({"op": "mount"}, refused(MOUNTING, error="EPERM"))
 

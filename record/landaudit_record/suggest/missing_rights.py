@@ -9,10 +9,14 @@ from typing import NamedTuple, TypeVar
 
 from ..common.rights import Rights
 from ..common.trees import Tree, upwards
+from ..common.wording import some_of
 from ..policy import sensitive
 from . import placing
 from .placing import Placing, RulePlace
 from .remarks import Remark, RemarkKind
+
+#: The ports of which the kernel chooses one for a program that names none, unless it is told otherwise (ip(7)).
+CHOSEN_BY_KERNEL = range(32_768, 61_000)
 
 
 class CallId(NamedTuple):
@@ -143,6 +147,9 @@ def _remarks(rule: SuggestedRule, serving: dict[str, list[RulePlace]], doubted: 
             doubted.add(found[0])
             yield found[1]
         yield from (Remark(RemarkKind.WARNING, text) for text in sensitive.warnings(rule.place, rule.rights))
+    elif "connect_tcp" in rule.rights and (chosen := [port for port in rule.place if port in CHOSEN_BY_KERNEL]):
+        named = some_of([str(port) for port in chosen])
+        yield Remark(RemarkKind.WARNING, f"{named}: if the kernel chose it (bind to port 0), it differs in each run")
 
 
 def port_rules(wants: dict[int, CallsByRight]) -> list[SuggestedRule]:
