@@ -47,13 +47,15 @@ class StraceLines(unittest.TestCase):
     errata = 0
     uid: int | None = None
     euid: int | None = None
+    mounts: list[list[str]] = []
 
     def setUp(self) -> None:
         self.out = Path(self.enterContext(tempfile.TemporaryDirectory()))
 
     def convert(self, *calls: str) -> list[jsonl.Record]:
         """The records that calls become, without those of the start and of the first program."""
-        about = recordings.About(["p"], "/w", 0.0, False, True, {}, errata=self.errata, uid=self.uid, euid=self.euid)
+        about = recordings.About(["p"], "/w", 0.0, False, True, {}, errata=self.errata, uid=self.uid, euid=self.euid,
+                                 mounts=self.mounts)
         if self.watched:
             about.watched.append("/w")
             jsonl.write(self.out / recordings.BEFORE, [line for line in DISK if line["path"].startswith("/w/")])

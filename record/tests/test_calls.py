@@ -6,7 +6,6 @@ was seen to answer.
 
 from __future__ import annotations
 
-
 from landaudit_record.recorder.calls import descriptors
 
 from .kept_logs import bare
@@ -14,6 +13,13 @@ from .strace_lines import CONFINED, CWD, StraceLines
 
 
 class Calls(StraceLines):
+    def test_no_open_makes_a_file_in_a_file_system_in_which_the_kernel_shows_what_it_has(self) -> None:
+        """A shell that writes there opens with O_CREAT and O_TRUNC; Linux 6.18 asks write_file and truncate."""
+        self.mounts = [["/", "8:1", "/", "ext4"], ["/proc", "0:5", "/", "proc"], ["/proc/w", "0:6", "/", "tmpfs"]]
+        for path, made in (("/proc/sys/new", None), ("/proc/w/new", True)):
+            opened = self.one(f'openat({CWD}, "{path}", 0x241 /* O_WRONLY|O_CREAT|O_TRUNC */, 0666) = 3<{path}>')
+            self.assertEqual((opened.get("create"), opened["trunc"]), (made, True), path)
+
     def test_a_file_without_a_name_asks_no_make_reg_and_no_truncate(self) -> None:
         opened = self.one(
             f'openat({CWD}, "d", 0x410202 /* O_RDWR|O_TRUNC|O_TMPFILE */, 0600) = 3</w/d/#7>(deleted)',

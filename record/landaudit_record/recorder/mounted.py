@@ -18,6 +18,8 @@ OF_KERNEL = frozenset(
     securityfs selinuxfs sysfs tracefs
     """.split()
 )
+#: Those of them in which no open makes a file: what is there is made by the kernel alone, or by mkdir(2).
+WITHOUT_MAKING = OF_KERNEL & frozenset("cgroup cgroup2 configfs debugfs proc securityfs sysfs tracefs".split())
 #: The file system that shows several directories as one.
 MERGED = "overlay"
 #: The type that one has here if it keeps an index of hard links (index=on), with which a file's names are one object.
@@ -79,6 +81,7 @@ class MountPlaces:
         of_type = {place: (device, root, kind) for place, device, root, kind in mounts}
         self._at = {place: (device, root) for place, (device, root, _) in of_type.items()}
         self._split = {place for place, (_, _, kind) in of_type.items() if kind == MERGED or _is_served(kind)}
+        self._fixed = {place for place, (_, _, kind) in of_type.items() if kind in WITHOUT_MAKING}
         self.procs = tuple(place for place, (_, _, kind) in of_type.items() if kind == "proc" and place != PROC)
         several = Counter(device for device, _ in self._at.values())
         self._several = {device for device, number in several.items() if number > 1}
@@ -89,6 +92,10 @@ class MountPlaces:
         So they are on an overlayfs without an index, and on one that a process serves by paths (seen on Linux 6.18).
         """
         return bool(self._split) and self._of(path) in self._split
+
+    def makes_files(self, path: str) -> bool:
+        """Whether an open may make a file at a path (open(2), O_CREAT)."""
+        return not self._fixed or self._of(path) not in self._fixed
 
     def _of(self, path: str) -> str:
         """The place of the mount that a path is in."""

@@ -196,6 +196,8 @@ def _say_for_ioctl(scene: Scene, thread: Thread, call: Call, opened: _Opened, fl
 def _opened_spot(scene: Scene, path: str, result: Descriptor, flags: int) -> _Opened:
     """The object that was opened, and whether the call made it."""
     node = scene.names.at(path)
+    if flags & O_CREAT and not scene.names.places.makes_files(path):
+        flags &= ~O_CREAT
     if flags & O_TMPFILE == O_TMPFILE:
         return _Opened(_without_name(scene, path))
     if flags & O_CREAT and flags & O_EXCL:
