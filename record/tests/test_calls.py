@@ -6,6 +6,7 @@ was seen to answer.
 
 from __future__ import annotations
 
+from landaudit_record.common import jsonl
 from landaudit_record.recorder.calls import descriptors
 
 from .kept_logs import bare
@@ -13,6 +14,11 @@ from .strace_lines import CONFINED, CWD, StraceLines
 
 
 class Calls(StraceLines):
+    def test_an_open_of_a_path_that_strace_does_not_show_is_counted(self) -> None:
+        self.assertEqual(self.convert('openat(-100 /* AT_FDCWD */, "far", 0 /* O_RDONLY */) = 3'), [])
+        (line,) = (line for _, line in jsonl.numbered(self.out / "unsaid.jsonl"))
+        self.assertEqual((line["class"], line["asks"]), ("a path of more than 4096 bytes", True))
+
     def test_no_open_makes_a_file_in_a_file_system_in_which_the_kernel_shows_what_it_has(self) -> None:
         """A shell that writes there opens with O_CREAT and O_TRUNC; Linux 6.18 asks write_file and truncate."""
         self.mounts = [["/", "8:1", "/", "ext4"], ["/proc", "0:5", "/", "proc"], ["/proc/w", "0:6", "/", "tmpfs"]]

@@ -32,6 +32,7 @@ MOST_OBJECTS = 65_536
 POLICY_RECORDS = 1 + 16 * 1_003
 POLICY_OBJECTS = 16 * 1_000
 LONGEST_PATH = 4_096
+TOO_LONG = f"a path of more than {LONGEST_PATH} bytes"
 LONGEST_CALL = 200
 DEEP = 100
 """For a path with more names than this, the directories above it are listed in steps of so many."""
@@ -526,7 +527,7 @@ def checked_path(path: str) -> str:
     except UnicodeEncodeError:
         raise CannotSay("a name that is not UTF-8") from None
     if length > LONGEST_PATH:
-        raise CannotSay(f"a path of more than {LONGEST_PATH} bytes")
+        raise CannotSay(TOO_LONG)
     if path != "/" and _NO_PATH.search(path):
         raise CannotSay("a path that landaudit does not read")
     return path

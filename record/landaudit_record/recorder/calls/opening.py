@@ -14,6 +14,7 @@ from ..processes import Handle, Thread
 from ..scene import PROC, Scene, Spot
 from ..strace_log import Call
 from ..values import Descriptor
+from ..writing import TOO_LONG
 from . import arguments
 
 O_CREAT = 0o100
@@ -100,6 +101,8 @@ def succeeded(
     `gone` is the object, if it has no name any more.
     """
     handle = thread.process.table[result.number]
+    if result.behind is None and not flags & O_PATH:
+        scene.leave_out(thread, call, TOO_LONG, asks=True)
     if result.path is None or flags & O_PATH:
         handle.adopted = "other"
         handle.node = gone or _found(scene, result, flags)
