@@ -6,9 +6,13 @@ was seen to answer.
 
 from __future__ import annotations
 
+from unittest import mock
+
 from landaudit_record.common import jsonl
+from landaudit_record.recorder import recordings
 from landaudit_record.recorder.calls import descriptors
 
+from . import strace_lines
 from .kept_logs import bare
 from .strace_lines import CONFINED, CWD, StraceLines
 
@@ -25,6 +29,21 @@ class Calls(StraceLines):
         for path, made in (("/proc/sys/new", None), ("/proc/w/new", True)):
             opened = self.one(f'openat({CWD}, "{path}", 0x241 /* O_WRONLY|O_CREAT|O_TRUNC */, 0666) = 3<{path}>')
             self.assertEqual((opened.get("create"), opened["trunc"]), (made, True), path)
+
+    def test_a_network_namespace_has_objects_of_its_own_in_proc(self) -> None:
+        path = "/proc/sys/net/ipv4/ip_forward"
+        listed = [{"path": over, "kind": "dir"} for over in ("/proc/sys", "/proc/sys/net", "/proc/sys/net/ipv4")]
+        self.enterContext(mock.patch.object(strace_lines, "DISK", [*strace_lines.DISK, *listed, {"path": path, "kind": "reg"}]))
+        jsonl.write(self.out / recordings.BEFORE, listed)
+        opened = f'openat({CWD}, "{path}", 1 /* O_WRONLY */) = 3<{path}>'
+        for call, other in (
+            ("unshare(0x40000000 /* CLONE_NEWNET */) = 0", True),
+            ("setns(4<net:[4026531840]>, 0) = 0", True),
+            ("unshare(0x8000000 /* CLONE_NEWIPC */) = 0", False),
+            ("unshare(0x40000000 /* CLONE_NEWNET */) = -1 EPERM (Operation not permitted)", False),
+        ):
+            first, second = (record for record in self.convert(opened, call, opened) if record["op"] == "open")
+            self.assertEqual((first["path"], second["path"] != path, second.get("shown", path)), (path, other, path), call)
 
     def test_a_file_without_a_name_asks_no_make_reg_and_no_truncate(self) -> None:
         opened = self.one(

@@ -525,6 +525,12 @@ class Names:
         self.put(start, None)
         self.put(end, node)
 
+    def renew(self, path: str) -> None:
+        """Puts others in the place of the directories that were listed in a directory before the run."""
+        for one in [one for one, seen in self._before.items() if seen.kind == "dir" and one.rpartition("/")[0] == path]:
+            if self.at(one) is not None:
+                self.put(one, Node("dir", origin=one))
+
     def exchange(self, one: str, other: str) -> None:
         """Exchanges two objects."""
         first, second = self.at(one), self.at(other)

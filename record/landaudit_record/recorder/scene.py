@@ -29,10 +29,13 @@ CLONE_FILES = 0x400
 CLONE_THREAD = 0x10000
 CLONE_NEWNS = 0x20000
 CLONE_NEWUSER = 0x10000000
+CLONE_NEWNET = 0x40000000
 #: The number of ended processes whose parents are kept.
 MOST_ENDED = 1_024
 #: The directory of processes.
 PROC = "proc"
+#: What the kernel shows there is that of the reader's network namespace, in objects of its own (proc_sys_net(5)).
+NETWORK = "/proc/sys/net"
 NO_PATH = "a file without a path"
 BY_UNSEEN_LAYER = "a call that a layer of an unknown ruleset may have refused"
 ERRORS_OF_LAYERS = frozenset({"EACCES", "EPERM", "EXDEV"})
@@ -452,6 +455,8 @@ class Scene:
             unseen_layer=maker.process.unseen_layer,
             user=maker.process.user if not birth.flags & CLONE_NEWUSER else NOBODY_KNOWN,
         )
+        if birth.flags & CLONE_NEWNET:
+            self.names.renew(NETWORK)
         process.table = {number: handle.copy() for number, handle in maker.process.table.items()}
         process.next_made_up = maker.process.next_made_up
         self._join(Thread(tid, process, directories, maker.layers))
