@@ -33,7 +33,8 @@ class Calls(StraceLines):
     def test_a_network_namespace_has_objects_of_its_own_in_proc(self) -> None:
         path = "/proc/sys/net/ipv4/ip_forward"
         listed = [{"path": over, "kind": "dir"} for over in ("/proc/sys", "/proc/sys/net", "/proc/sys/net/ipv4")]
-        self.enterContext(mock.patch.object(strace_lines, "DISK", [*strace_lines.DISK, *listed, {"path": path, "kind": "reg"}]))
+        disk = [*strace_lines.DISK, *listed, {"path": path, "kind": "reg"}]
+        self.enterContext(mock.patch.object(strace_lines, "DISK", disk))
         jsonl.write(self.out / recordings.BEFORE, listed)
         opened = f'openat({CWD}, "{path}", 1 /* O_WRONLY */) = 3<{path}>'
         for call, other in (
@@ -43,7 +44,8 @@ class Calls(StraceLines):
             ("unshare(0x40000000 /* CLONE_NEWNET */) = -1 EPERM (Operation not permitted)", False),
         ):
             first, second = (record for record in self.convert(opened, call, opened) if record["op"] == "open")
-            self.assertEqual((first["path"], second["path"] != path, second.get("shown", path)), (path, other, path), call)
+            found = (first["path"], second["path"] != path, second.get("shown", path))
+            self.assertEqual(found, (path, other, path), call)
 
     def test_a_file_without_a_name_asks_no_make_reg_and_no_truncate(self) -> None:
         opened = self.one(

@@ -167,5 +167,6 @@ class Paths(unittest.TestCase):
     def test_of_directories_that_were_listed_or_not_the_nearest_counts(self) -> None:
         before = {"/w/in": Seen("dir"), "/w/in/f": Seen("reg")}
         for unlisted, expected in ((["/w"], None), (["/w/in"], "reg"), (["/w", "/w/in/moved"], None)):
-            names = Names(Disk(0.0, {**DISK, "/w/in": Seen("dir"), "/w/in/g": Seen("reg")}), before, ["/w/in"], unlisted=unlisted)
+            disk = Disk(0.0, {**DISK, "/w/in": Seen("dir"), "/w/in/g": Seen("reg")})
+            names = Names(disk, before, ["/w/in"], unlisted=unlisted)
             self.assertEqual(getattr(names.at("/w/in/g"), "kind", None), expected, unlisted)

@@ -294,13 +294,14 @@ def _watched(folder: Path, directories: list[str]) -> recordings.Watched:
     seen = recordings.watch(folder, directories)
     for directory in seen.too_large:
         convert.say(f"{directory} holds more than {recordings.MOST_WATCHED:,} objects and is not watched")
-    for directory in (one for one in seen.unread if not f"{one}/".startswith(tuple(f"{top}/" for top in MADE_BY_KERNEL))):
+    of_kernel = tuple(f"{top}/" for top in MADE_BY_KERNEL)
+    for directory in (one for one in seen.unread if not f"{one}/".startswith(of_kernel)):
         convert.say(f"{directory} can't be read: what the command overwrites, moves and removes there is not known")
     return seen
 
 
 def _directories(named: list[str]) -> list[str]:
-    """The directories to list: those that are named, the working directory, and those where the kernel makes objects."""
+    """The directories to list: those that are named, the working one, and those where the kernel makes objects."""
     for name in named:
         if not os.path.isdir(name):
             raise Problem(f"--watch {name}: there is no such directory", USAGE)

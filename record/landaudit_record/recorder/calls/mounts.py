@@ -107,7 +107,7 @@ def from_a_place(handler: Handler, base: int | None) -> Handler:
 
 
 def _setns(scene: Scene, thread: Thread, call: Call) -> None:
-    """Another mount namespace has other objects under the same names, and another network namespace in /proc/sys/net."""
+    """Another mount namespace has other objects under the same names; another network namespace in /proc/sys/net."""
     behind = values.descriptor(call.arguments[0]).behind or ""
     ptrace.by_pidfd(scene, thread, call)
     if call.ok and (behind.startswith("user:") or _has(call, 1, CLONE_NEWUSER)):
