@@ -59,6 +59,12 @@ class Cards(InFolder):
         self.assertEqual(self.granted(card), {"/a/f": {"read_file"}})
         self.assertEqual(len(card.all("pre")), 1)
 
+    def test_an_indented_line_is_not_broken_before_its_path(self) -> None:
+        (card,) = self.cards(*(opened(f"/a/{name}") for name in "fg"), tree=Tree({"/a/f": "reg", "/a/g": "reg"}))
+        starts = [one.text(5) for one in card.all("span", "start")]
+        self.assertEqual(starts, ['    "'] * 2, card.text(5))
+        self.assertIn('\n    "/a/f",\n    "/a/g",\n', card.text(5))
+
     def test_a_group_has_a_rule_on_its_directory_and_exact_rules(self) -> None:
         (card,) = self.cards(*(opened(f"/x/y/f{number}") for number in range(5)))
         self.assertEqual(self.granted(card), {"/x/y": {"read_file"}})

@@ -64,6 +64,13 @@ class Directories(unittest.TestCase):
         found = groups(reads(["/etc/a", "/etc/b", "/etc/ssl/c"]))
         self.assertEqual(found, [(2, "read_file", "/etc", 2), (1, "read_file", "/etc/ssl/c", 1)])
 
+    def test_what_processes_have_under_their_numbers_stays_together(self) -> None:
+        """A rule on the number of a process helps no other run: that for all of them is on /proc."""
+        paths = ["/proc/10/stat", "/proc/11/stat", "/proc/11/task/12/status", "/proc/sys/vm/a", "/proc/sys/vm/b"]
+        self.assertEqual(groups(reads([*paths, "/etc/passwd"])), [
+            (3, "read_file", "/proc", 3), (2, "read_file", "/proc/sys/vm", 2), (1, "read_file", "/etc/passwd", 1)])
+        self.assertEqual(groups(reads(paths[:1])), [(1, "read_file", "/proc/10/stat", 1)])
+
 
 class Groups(unittest.TestCase):
     def test_the_earliest_comes_first_and_then_the_most_frequent(self) -> None:

@@ -1,7 +1,8 @@
 """Puts many kinds of refused calls into few groups: by the rights that are lacking and the directory above the paths.
 
 A reader would write one rule for a group. Its directory is the deepest one above all its paths. A group is split, while
-there are few groups, if its directory is near the root or if one directory below has most of the group.
+there are few groups, if its directory is near the root or if one directory below has most of the group. What processes
+have under their numbers in /proc stays together, since a rule on a number helps no other run.
 """
 
 from __future__ import annotations
@@ -15,8 +16,9 @@ from typing import NamedTuple
 
 from ..audit.summary import Refusal
 from ..common.rights import FILE_RIGHTS
-from ..common.trees import ROOT
+from ..common.trees import ROOT, joined
 from ..engine.answers import Closed, Gained, Kept, Missing, Objection
+from ..suggest import varying
 
 #: The most groups that splitting makes.
 FEW = 12
@@ -24,6 +26,8 @@ FEW = 12
 _NEAR_ROOT = 2
 #: A directory that has this share of a group says more than the one above it.
 _MOST = 0.75
+#: The one branch of all that is under the numbers of processes.
+_OF_A_PROCESS = "PID"
 
 
 class Lacked(NamedTuple):
@@ -187,6 +191,7 @@ def _branches(group: RefusedGroup) -> list[RefusedGroup]:
     start = len(group.directory.rstrip("/")) + 1
     for kind in group.kinds:
         branch, slash, _ = kind.spots[0][start:].partition("/")
-        found[branch if slash else ""].append(kind)
+        is_numbered = varying.of_process(joined(group.directory, branch)) is not None
+        found[_OF_A_PROCESS if is_numbered else branch if slash else ""].append(kind)
     inside = [RefusedGroup(group.lacking, group.directory, tuple(found.pop("")))] if "" in found else []
     return [*inside, *(_group(group.lacking, kinds) for kinds in found.values())]

@@ -82,8 +82,13 @@ def rule_text(text: str) -> Markup:
 
 
 def _line(line: str) -> Markup:
-    """A line of TOML or of a shell; comments are quiet."""
-    return element("span", line, kind="comment") if line.startswith("#") else together((line,))
+    """A line of TOML or of a shell; comments are quiet, and no line is broken after the spaces that it begins with."""
+    if line.startswith("#"):
+        return element("span", line, kind="comment")
+    if not line.startswith(" "):
+        return together((line,))
+    start = len(line) - len(line.lstrip(" ")) + 1
+    return together((element("span", line[:start], kind="start"), line[start:]))
 
 
 def _of_abi(summary: Summary, offering: Offering | None, tried: TriedPolicy | None) -> Iterator[Markup]:
