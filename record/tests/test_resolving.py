@@ -15,6 +15,7 @@ from landaudit_record.common import resolving, trees
 from landaudit_record.common.resolving import DISK, LinkLoop, NothingElse, Walked, walked
 from landaudit_record.common.trees import Tree
 from landaudit_record.policy import policies
+from landaudit_record.recorder import recordings
 
 from .drawn import by_chance
 from .recorded import write_lines
@@ -139,6 +140,23 @@ class OfARecording(unittest.TestCase):
     def test_on_this_machine_links_are_followed_as_they_are_now(self) -> None:
         led = self.recorded(surroundings.machine()).walked(f"{self.folder}/link/x")
         self.assertEqual((led.path, led.now, led.unknown), (f"{self.folder}/real/x", (f"{self.folder}/link",), None))
+
+    def test_in_a_listed_directory_is_what_was_there_before_the_run(self) -> None:
+        top = self.folder / "top"
+        (top / "mounted").mkdir(parents=True)
+        (top / "link").symlink_to("../real")
+        self.recorded(surroundings.machine())
+        recordings.watch(self.folder / "rec", [str(top)])
+        about = {"machine": surroundings.machine(), "watched": [str(top)], "unlisted": [str(top / "mounted")]}
+        (self.folder / "rec" / "recording.json").write_text(json.dumps(about))
+        (top / "link").unlink()
+        for link in ("link", "later", "mounted/link"):
+            (top / link).symlink_to(self.folder / "elsewhere")
+        known = surroundings.of(self.folder / "rec")
+        for written, led in (("link/x", f"{self.folder}/real/x"), ("later/x", f"{top}/later/x"),
+                             ("mounted/link", f"{self.folder}/elsewhere")):
+            with self.subTest(written):
+                self.assertEqual(walked(f"{top}/{written}", known).path, led)
 
     def test_elsewhere_only_what_is_kept_is_known(self) -> None:
         rule = f'[[layer.path_beneath]]\nallowed_access = ["read"]\nparent = "{self.folder}/link/x"\n'

@@ -1,7 +1,8 @@
 """What a recording knows of objects that its run did not touch, so that a rule on a link is on what the link leads to.
 
-`run` keeps what is in `/`, and what is on the way to each parent of the policy and of the groups of rules (START).
-Anything else is looked up on this machine if the recording was made on it, and is not known if it was not.
+`run` keeps what is in `/`, what is on the way to each parent of the policy and of the groups of rules (START), and what
+is in the watched directories. Anything else is looked up on this machine if the recording was made on it, and is not
+known if it was not.
 """
 
 from __future__ import annotations
@@ -13,7 +14,9 @@ import os
 import socket
 from collections.abc import Iterable, Iterator
 from dataclasses import dataclass
+from functools import cached_property
 from pathlib import Path
+from typing import Any
 
 from ..common import jsonl, resolving
 from ..common.finished import CONVERTED
@@ -21,7 +24,7 @@ from ..common.resolving import DISK, NOTHING, ROOT, KnownObjects, LinkLoop, Met,
 from ..common.rights import FS
 from ..policy import policies
 from ..policy.policies import Policy
-from ..recorder.recordings import ABOUT
+from ..recorder.recordings import ABOUT, BEFORE
 
 START = "start.jsonl"
 _MACHINE_ID = Path("/etc/machine-id")
@@ -101,6 +104,7 @@ class _Kept:
     """What a recording kept, and this disk if it is the one of the recording."""
 
     seen: dict[str, Met]
+    listed: _Listed
     here: bool
 
     def at(self, path: str) -> Met | None:
@@ -109,7 +113,37 @@ class _Kept:
             return self.seen[path]
         if self.seen and directory_of(path) == ROOT:
             return NOTHING
+        if self.listed.has(path):
+            return self.listed.there.get(path, NOTHING)
         return DISK.at(path) if self.here else None
+
+
+@dataclass(frozen=True)
+class _Listed:
+    """The directories that were listed before a run, but for those in them that were not; what was there is read late."""
+
+    folder: Path
+    watched: tuple[str, ...]
+    unlisted: tuple[str, ...]
+
+    @classmethod
+    def of(cls, folder: Path) -> _Listed:
+        """Those of a recording that is complete in its folder; a distilled one has none."""
+        about = _about(folder) if (folder / BEFORE).is_file() else {}
+        return cls(folder, *(tuple(str(top).rstrip("/") + "/" for top in about.get(name) or ())
+                             for name in ("watched", "unlisted")))
+
+    def has(self, path: str) -> bool:
+        """Whether it is known what was at a path: the nearest directory above that was listed, or was not, counts."""
+        listed, not_listed = (max((len(top) for top in tops if path.startswith(top)), default=0)
+                              for tops in (self.watched, self.unlisted))
+        return listed > not_listed
+
+    @cached_property
+    def there(self) -> dict[str, Met]:
+        """What was in the directories."""
+        return {line["path"]: Met(line["kind"], line.get("target"))
+                for _, line in jsonl.numbered(self.folder / BEFORE)}
 
 
 def of(folder: Path) -> KnownObjects:
@@ -121,7 +155,7 @@ def of(folder: Path) -> KnownObjects:
     if where is None:
         return NothingElse()
     seen = {line["path"]: Met(line["kind"], line.get("target")) for line in lines_of(folder)}
-    return _Kept(seen, here=where == machine())
+    return _Kept(seen, _Listed.of(folder), here=where == machine())
 
 
 def lines_of(folder: Path) -> Iterator[jsonl.Record]:
@@ -138,16 +172,16 @@ def write(folder: Path, where: str, lines: Iterable[jsonl.Record]) -> None:
 
 def machine_of(folder: Path) -> str | None:
     """The machine of a recording, "" if it is not known; None for a tree and a trace that are taken as they are."""
-    about = folder / ABOUT
-    if about.is_file():
-        return _machine_of(about) or ""
+    if (folder / ABOUT).is_file():
+        said = _about(folder).get("machine")
+        return said if isinstance(said, str) else ""
     return "" if (folder / CONVERTED).is_file() else None
 
 
-def _machine_of(about: Path) -> str | None:
-    """The machine that a recording says; those of older versions don't say it."""
+def _about(folder: Path) -> dict[str, Any]:
+    """How a recording was made; those of older versions say less."""
     try:
-        said = json.loads(about.read_text(encoding="utf-8")).get("machine")
-    except (ValueError, AttributeError):
-        return None
-    return said if isinstance(said, str) else None
+        said = json.loads((folder / ABOUT).read_text(encoding="utf-8"))
+    except ValueError:
+        return {}
+    return said if isinstance(said, dict) else {}
