@@ -306,6 +306,32 @@ class Checking(unittest.TestCase):
             self.assertEqual(self.question(only, here)[1][2], '- "read_file under @/closed"')
         self.assertEqual((self.question(nothing, on_file)[0], self.question(only, here)[0]), (0, 0))
 
+    def test_what_is_mounted_where_a_rule_is(self) -> None:
+        """What a question is about has other paths by bind mounts, below a directory with a rule (Linux 6.18)."""
+        for name in ("closed/in", "open/all", "open/in", "run/all"):
+            (self.folder / name).mkdir(parents=True)
+        mounted = [["/", "8:1", "/", "ext4"], ["@/open/all", "8:1", "@/closed", "ext4"],
+                   ["@/open/in", "8:1", "@/closed/in", "ext4"], ["@/open/name", "8:1", "@/work/file", "ext4"],
+                   ["@/run/all", "8:1", "@/closed", "ext4"]]
+        places = MountPlaces([[field.replace("@", str(self.folder)) for field in mount] for mount in mounted])
+        run = '[[layer.path_beneath]]\nallowed_access = ["execute"]\nparent = "@/run"\n'
+        read = f'[[layer]]\nhandled_access_fs = ["all"]\n[[layer.path_beneath]]\nallowed_access = ["read_file"]\nparent = "@/open"\n{run}'
+        both = ['- "read_file under @/open/all"', '- "execute under @/run/all"', '- "read_file under @/open/in"']
+        for asked, passes in (
+            ('[[nothing]]\nrights = ["read_file"]\nunder = "@/closed"\n', ['- "read_file under @/open/all"', '- "read_file under @/open/in"']),
+            ('[[nothing]]\nrights = ["read_file"]\nunder = "@/closed/in"\n', ['- "read_file under @/open/all/in"', '- "read_file under @/open/in"']),
+            ('[[nothing]]\nrights = ["read_file"]\nunder = "@/work/file"\n', ['- "read_file under @/open/name"']),
+            ('[[never]]\nboth = ["read_file", "execute"]\n', both),
+            ('[[never]]\nboth = ["read_file", "execute"]\nunder = "@/closed"\n', both),
+            ('[[never]]\nboth = ["read_file", "execute"]\nunder = "@/work"\n', []),
+        ):
+            with self.subTest(asked):
+                with mock.patch.object(parents, "_places", lambda: places):
+                    status, lines = self.question(asked, read)
+                found = [line for line in lines if " under @" in line and line.startswith("- ")]
+                self.assertEqual((status, found), (int(bool(passes)), passes))
+                self.assertEqual(self.question(asked, read)[0], 0)
+
     def test_cases_and_questions(self) -> None:
         status, lines, _ = self.checked('[[never]]\nboth = ["truncate", "execute"]\nabi = 5\n[[refused]]\ncall = "mount"\n')
         self.assertEqual((status, lines[1], [line for line in lines if line.startswith(("ok", "not ok"))]), (

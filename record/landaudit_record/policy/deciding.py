@@ -21,7 +21,7 @@ from ..recorder import disk
 from . import fitting, parents, ruling
 from .fitting import FittedLayer
 from .granting import Grant
-from .over_sets import ALL_ABIS, SetQuestion, Together
+from .over_sets import ALL_ABIS, NEVER, SetQuestion, Together
 from .policies import Policy
 from .regions import Area, Region, Regions, areas, as_named
 from .ruling import Comparison, Layers, RuleOnObjects, Ruled, RuledObjects
@@ -61,12 +61,17 @@ def decisions(policy: Policy, questions: Sequence[SetQuestion]) -> list[Decision
     if not questions:
         return []
     policy = parents.by_all_mounts(policy)
+    questions = [replace(one, elsewhere=parents.elsewhere(one.under)) for one in questions]
     rules = [rule for layer in policy.layers for rule in layer.path_beneath]
-    named = {as_named(parent) for rule in rules for parent in rule.parents}.union(*(one.under for one in questions))
+    several = parents.shown_twice() if any(one.kind == NEVER for one in questions) else ()
+    named = {as_named(parent) for rule in rules for parent in rule.parents}.union(*several)
+    named = named.union(*((*one.under, *one.elsewhere) for one in questions))
     places = _Places.of(sorted((named | {ROOT}) - {NOWHERE}))
     policy = parents.under_all_names(policy, places.kinds)
     by_abi = {abi: [_Granting.of(layer, policy, places) for layer in fitting.fit(policy, abi)[0]] for abi in ALL_ABIS}
-    asked = list(dict.fromkeys((abi, rights) for one in questions for abi in one.abis for rights in one.asked_at(abi)))
+    asked = list(dict.fromkeys((abi, rights) for one in questions for abi in one.abis
+                               for together in one.asked_at(abi)
+                               for rights in (together, *((right,) for right in together if several))))
     objects = RuledObjects.of([path for path in places.kinds if path != ROOT])
     ruled = {abi: _on_objects(layers, objects) for abi, layers in by_abi.items()}
     comparisons = [_comparison(ruled[abi], rights) for abi, rights in asked]
@@ -101,9 +106,13 @@ class _Places:
         return tuple(path for path in self.kinds if not self.is_file(path) or (
             of_files and (path in differing) != (self._around(path) in differing)))
 
+    def region(self, path: str) -> str:
+        """The path that stands for a path."""
+        return next(over for over in upwards(path) if over in self.kinds)
+
     def _around(self, path: str) -> str:
         """The path that stands for what is around a file."""
-        return next(over for over in upwards(directory_of(path)) if over in self.kinds)
+        return self.region(directory_of(path))
 
 
 def _kind(path: str) -> str | None:
@@ -184,8 +193,29 @@ def _breaches(
         regions = {Region(path) for path in paths if path in differing}
         for area in areas(Regions(paths, ()), regions, of_files=False):
             by_area[replace(area, as_file=places.is_file(area.path))] += rights
+    if question.kind == NEVER:
+        for path, right in _by_several_paths(question, abi, places, passing):
+            by_area[Area(path, as_file=places.is_file(path))].append(right)
     return tuple(Breach(tuple(rights), area, tuple(_grants(layers, area.path, rights)))
                  for area, rights in by_area.items())
+
+
+def _by_several_paths(
+    question: SetQuestion, abi: int, places: _Places, passing: PassingPaths
+) -> Iterator[tuple[str, str]]:
+    """Rights of which each passes on another path of an object, where mounts show it, with these paths."""
+    (both,) = question.asked
+    found: dict[tuple[str, str], None] = {}
+    of_files = FILE_RIGHTS.issuperset(both)
+    for path in places.kinds if (abi, both[:1]) in passing else ():
+        for there in parents.shown_at(path) if of_files or not places.is_file(path) else ():
+            regions = places.region(path), places.region(there)
+            if not any(map(question.is_about, (path, there))) or not passing[abi, both].isdisjoint(regions):
+                continue
+            for first, second in (both, both[::-1]):
+                if regions[0] in passing[abi, (first,)] and regions[1] in passing[abi, (second,)]:
+                    found |= {(path, first): None, (there, second): None}
+    yield from (one for one in found if not any((over, one[1]) in found for over in list(upwards(one[0]))[1:]))
 
 
 def _grants(layers: Sequence[_Granting], path: str, rights: Sequence[str]) -> Iterator[Grant]:

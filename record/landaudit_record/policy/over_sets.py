@@ -42,6 +42,7 @@ class SetQuestion:
     """A question: what may not pass on an object, at or under some paths or, of `only`, elsewhere, at some ABIs.
 
     `asked` has rights that may not pass together, `grouped` those that are asked only where an ABI knows them.
+    `elsewhere` has other paths at which mounts show what is under its paths; of `only`, these are elsewhere too.
     """
 
     kind: str
@@ -50,6 +51,7 @@ class SetQuestion:
     grouped: Rights
     under: tuple[str, ...]
     abis: range
+    elsewhere: tuple[str, ...] = ()
 
     @property
     def text(self) -> str:
@@ -60,7 +62,9 @@ class SetQuestion:
 
     def is_about(self, path: str) -> bool:
         """Whether it is about the objects at a path."""
-        return (self.kind != ONLY) == any(one in self.under for one in upwards(path))
+        if self.kind == ONLY:
+            return not any(one in self.under for one in upwards(path))
+        return any(one in self.under or one in self.elsewhere for one in upwards(path))
 
     def asked_at(self, abi: int) -> tuple[Together, ...]:
         """What is asked at an ABI."""

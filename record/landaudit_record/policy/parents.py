@@ -5,12 +5,13 @@ from __future__ import annotations
 import os
 import stat
 from collections import Counter
-from collections.abc import Callable, Iterable, Iterator
+from collections.abc import Callable, Iterable, Iterator, Sequence
 from dataclasses import dataclass, field, replace
 from functools import cache
 
 from ..common.problems import Problem
 from ..common.resolving import NOWHERE, ROOT, KnownObjects, LinkLoop, Met, Walked, walked
+from ..common.trees import upwards
 from ..recorder import mounted
 from .policies import PathRule, Policy
 
@@ -95,10 +96,26 @@ def by_all_mounts(policy: Policy) -> Policy:
     """The policy with each rule under all names that its object has by mounts of this machine (bind mounts)."""
     def all_names(rule: PathRule) -> tuple[str, ...]:
         there = (parent for parent in rule.parents if _identity(parent) is not None)
-        others = (name for parent in there for name in _places().shown_at(parent.rstrip("/") or ROOT))
+        others = (name for parent in there for name in shown_at(parent.rstrip("/") or ROOT))
         return (*rule.parents, *dict.fromkeys(name for name in others if name not in rule.parents))
 
     return _with_parents(policy, all_names)
+
+
+def shown_at(path: str) -> list[str]:
+    """All other paths at which mounts of this machine show an object."""
+    return _places().shown_at(path)
+
+
+def elsewhere(paths: Sequence[str]) -> tuple[str, ...]:
+    """Where else mounts of this machine show what is at or under some paths."""
+    found = dict.fromkeys(place for path in paths if path != ROOT for place in _places().shown_beneath(path))
+    return tuple(place for place in found if not any(over in paths for over in upwards(place)))
+
+
+def shown_twice() -> list[tuple[str, str]]:
+    """Pairs of paths at which mounts of this machine show one object."""
+    return _places().pairs()
 
 
 def with_other_names(policy: Policy, paths: Iterable[str]) -> list[str]:

@@ -137,6 +137,28 @@ class MountPlaces:
                 found.append(_beneath(place, rest))
         return found
 
+    def shown_beneath(self, path: str) -> list[str]:
+        """All other paths by mounts at which an object is, or some of what is beneath it."""
+        found: list[str] = []
+        for top in (path, *(place for place in self._at if _inside(path, place))) if self._several else ():
+            found += self.shown_at(top)
+            here = self._of(top)
+            device, root = self._at.get(here, ("", ""))
+            inner = _beneath(root, _inside(here, top) or "")
+            found += (place for place, (on, shown) in self._at.items()
+                      if on == device and place != here and _inside(inner, shown))
+        return list(dict.fromkeys(found))
+
+    def pairs(self) -> list[tuple[str, str]]:
+        """Pairs of paths at which two mounts of a file system show one object, each pair with all that is beneath."""
+        found: list[tuple[str, str]] = []
+        for one, (device, root) in self._at.items() if self._several else ():
+            for other, (on, shown) in self._at.items():
+                rest = _inside(shown, root) if on == device and other != one else None
+                if rest is not None and self._of(_beneath(other, rest)) == other:
+                    found.append((one, _beneath(other, rest)))
+        return found
+
 
 def _inside(top: str, path: str) -> str | None:
     """The rest of a path below a directory; None if it is not there."""
