@@ -5,8 +5,11 @@ from __future__ import annotations
 import tempfile
 import unittest
 from pathlib import Path
+from unittest import mock
 
 from landaudit_record import cli
+from landaudit_record.policy import parents
+from landaudit_record.recorder.mounted import MountPlaces
 
 from .calling import called
 
@@ -92,6 +95,43 @@ class Linting(unittest.TestCase):
         self.assertEqual(self.found(text), [
             "layer 1, path_beneath 1, parent o: warning: write_file without effect: layer 2 grants it neither there "
             "nor beneath"])
+
+    def test_an_object_with_several_paths(self) -> None:
+        """Each path of it counts: a bind mount shows o at d/e, and g/f is o/f by a hard link (Linux 6.18)."""
+        (self.folder / "g").mkdir()
+        (self.folder / "g/f").hardlink_to(self.folder / "o/f")
+        mounts = [["/", "8:1", "/", "ext4"], [f"{self.folder}/d/e", "8:1", f"{self.folder}/o", "ext4"]]
+        layer = '[[layer]]\nhandled_access_fs = ["read_file", "write_file"]\n'
+        both = '[[layer]]\nhandled_access_fs = ["write_file", "execute"]\n'
+        run = "files {} may be both written and executed"
+        for text, mounted, alone in (
+            # The rule on d grants as much at d/e, but not at o; nor does a rule on o, at g.
+            (LAYER + self.rule('"read"', "d", "d/e"), [], ["d/e"]),
+            (LAYER + self.rule('"read_file"', "o", "g/f"), [], []),
+            # Each layer grants it by another path of the object, or by a path in what the other one is on.
+            (layer + self.rule('"read_file"', "d/e") + layer + self.rule('"read_file"', "o"), [], ["d/e", "o"]),
+            (layer + self.rule('"read_file"', "d") + layer + self.rule('"read_file"', "o"), [], ["d", "o"]),
+            (layer + self.rule('"read_file"', "g/f") + layer + self.rule('"read_file"', "o/f"), [], []),
+            (both + self.rule('"write_file"', "d") + self.rule('"execute"', "o"), [run.format("at d/e and beneath")], []),
+            (both + self.rule('"write_file"', "o/f") + self.rule('"execute"', "g/f"), [run.format("at g/f"), run.format("at o/f")],
+             [run.format("at g/f"), run.format("at o/f")]),
+        ):
+            with self.subTest(text):
+                with mock.patch.object(parents, "_places", lambda: MountPlaces(mounts)):
+                    self.assert_said(text, mounted)
+                self.assert_said(text, alone)
+
+    def assert_said(self, text: str, said: list[str]) -> None:
+        """Checks that each remark has one of some texts, all of which occur."""
+        found = [line for line in self.found(text) if ": warning: " in line]
+        self.assertEqual(len(found), len(said), found)
+        for line, part in zip(found, said):
+            self.assertIn(part, line)
+
+    def test_a_secret_by_another_path(self) -> None:
+        places = MountPlaces([["/", "8:1", "/", "ext4"], [f"{self.folder}/d", "8:1", "/etc", "ext4"]])
+        with mock.patch.object(parents, "_places", lambda: places):
+            self.assertIn("this reaches /etc/shadow", self.found(LAYER + self.rule('"read"', "d"))[0])
 
     def test_ports(self) -> None:
         second = '[[layer]]\nhandled_access_net = ["connect_tcp"]\n'

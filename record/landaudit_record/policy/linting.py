@@ -65,10 +65,12 @@ class LintRemark:
 
 @dataclass(frozen=True)
 class _RuleOnObject:
-    """A rule on one object of this machine: `path` is where its parent leads, `rights` what it can grant there."""
+    """A rule on one object of this machine: `path` is where its parent leads, `places` are all paths of the object that
+    are known, and `rights` is what it can grant there."""
 
     parent: Parent
     path: str
+    places: tuple[str, ...]
     is_file: bool
     rights: Rights
 
@@ -93,7 +95,7 @@ class _Layer:
     def granted(self, path: str, but: _RuleOnObject | None = None) -> Rights:
         """The rights that its rules grant on a path, without one of them."""
         over = set(upwards(path))
-        return NONE.union(*(on.rights for on in self.rules if on is not but and on.path in over))
+        return NONE.union(*(on.rights for on in self.rules if on is not but and not over.isdisjoint(on.places)))
 
     def lets_pass(self, path: str) -> Rights:
         """The rights that it does not refuse on a path."""
@@ -101,7 +103,7 @@ class _Layer:
 
     def grants_near(self, path: str, right: str) -> bool:
         """Whether it does not refuse a right on a path, or on something beneath it."""
-        beneath = (on for on in self.rules if path in upwards(on.path))
+        beneath = (on for on in self.rules if any(path in upwards(place) for place in on.places))
         return right in self.lets_pass(path) or any(right in on.rights for on in beneath)
 
 
@@ -114,17 +116,18 @@ class Linting:
     @cached_property
     def _layers(self) -> list[_Layer]:
         by_number: dict[int, list[_RuleOnObject]] = {layer.number: [] for layer in self.policy.layers}
-        for parent in parents.each(self.policy, DISK):
-            if parent.led.blocked is None:
-                by_number[parent.layer].append(self._on(parent))
+        found = [parent for parent in parents.each(self.policy, DISK) if parent.led.blocked is None]
+        names = parents.by_object((*(parent.led.path for parent in found), *sensitive.SECRETS))
+        for parent in found:
+            by_number[parent.layer].append(self._on(parent, parents.places(parent.led.path, names)))
         return [_Layer(layer, by_number[layer.number]) for layer in self.policy.layers]
 
-    def _on(self, parent: Parent) -> _RuleOnObject:
+    def _on(self, parent: Parent, places: tuple[str, ...]) -> _RuleOnObject:
         seen = disk.look(parent.led.path)
         is_file = seen is not None and seen.kind != "dir"
         handled = self.policy.layers[parent.layer - 1].handled_access_fs.rights
         rights = parent.rule.allowed_access.rights & handled
-        return _RuleOnObject(parent, parent.led.path, is_file, rights & FILE_RIGHTS if is_file else rights)
+        return _RuleOnObject(parent, parent.led.path, places, is_file, rights & FILE_RIGHTS if is_file else rights)
 
     def remarks(self) -> Iterator[LintRemark]:
         """All remarks: those on each rule in the order of the policy, then those on all of it."""
@@ -168,25 +171,32 @@ class Linting:
             yield self._warning(on.parent, NO_RIGHT, "is no directory, and the rule has no right that a file can have")
         if named or not on.rights:
             return
-        for text in sensitive.warnings(on.path, on.rights) if on.rule.group not in group_names() else ():
+        texts = (text for place in on.places for text in sensitive.warnings(place, on.rights))
+        for text in dict.fromkeys(texts) if on.rule.group not in group_names() else ():
             yield self._warning(on.parent, SECRET, text)
         if on.rule.group is None:
             yield from self._without_effect(layer, index, on)
 
     def _without_effect(self, layer: _Layer, index: int, on: _RuleOnObject) -> Iterator[LintRemark]:
         """What a rule grants that other rules of its layer grant too, and what another layer refuses anyway."""
-        left, others = on.rights, list[_RuleOnObject]()
-        for at, one in enumerate(layer.rules):
-            if (one.path != on.path or at < index) and one.path in upwards(on.path) and left & one.rights:
-                left -= one.rights
-                others.append(one)
-        if not left:
+        others = dict[_RuleOnObject, None]()
+        for place in on.places:
+            left, over = on.rights, set(upwards(place))
+            for at, one in enumerate(layer.rules):
+                is_other = on.path not in one.places or at < index
+                if is_other and left & one.rights and not over.isdisjoint(one.places):
+                    left -= one.rights
+                    others[one] = None
+            if left:
+                break
+        else:
             names = ", ".join(dict.fromkeys(f"{one.rule.place} on {one.parent.written}" for one in others))
             say = self._note if on.parent.led.now else self._warning
             yield say(on.parent, IDLE, f"without effect unless it is moved or linked: {names} grants as much")
         for other in self._layers:
             if other is not layer:
-                none = [right for right in FS.ordered(on.rights) if not other.grants_near(on.path, right)]
+                none = [right for right in FS.ordered(on.rights)
+                        if not any(other.grants_near(place, right) for place in on.places)]
                 if none:
                     yield self._warning(on.parent, IDLE, f"{', '.join(none)} without effect: layer "
                                         f"{other.layer.number} grants it neither there nor beneath")
@@ -209,7 +219,7 @@ class Linting:
 
     def _written_and_run(self) -> Iterator[LintRemark]:
         """Where files may be written and executed: the topmost places."""
-        places = {ROOT, *(on.path for layer in self._layers for on in layer.rules)}
+        places = {ROOT, *(place for layer in self._layers for on in layer.rules for place in on.places)}
         told: set[str] = set()
         for path in sorted(places, key=lambda path: (path.count("/"), path)):
             over = set(upwards(path))

@@ -5,7 +5,7 @@ from __future__ import annotations
 import os
 import stat
 from collections import Counter
-from collections.abc import Callable, Iterable, Iterator, Sequence
+from collections.abc import Callable, Iterable, Iterator, Mapping, Sequence
 from dataclasses import dataclass, field, replace
 from functools import cache
 
@@ -14,6 +14,10 @@ from ..common.resolving import NOWHERE, ROOT, KnownObjects, LinkLoop, Met, Walke
 from ..common.trees import upwards
 from ..recorder import mounted
 from .policies import PathRule, Policy
+
+
+#: Device and inode of an object, and its path if another name of that inode may be another object.
+_Identity = tuple[int, int, str | None]
 
 
 @dataclass(frozen=True)
@@ -79,10 +83,7 @@ def under_all_names(policy: Policy, paths: Iterable[str]) -> Policy:
     A file has several names by hard links, and a directory by bind mounts. The policy's parents are as `followed` has
     them, and there is no link on the way of a path.
     """
-    names: dict[_Identity, list[str]] = {}
-    for path in dict.fromkeys(paths):
-        if (of := _identity(path)) is not None:
-            names.setdefault(of, []).append(path)
+    names = by_object(paths)
 
     def all_names(rule: PathRule) -> tuple[str, ...]:
         others = (name for parent in rule.parents if (of := _identity(parent)) for name in names.get(of, ()))
@@ -100,6 +101,21 @@ def by_all_mounts(policy: Policy) -> Policy:
         return (*rule.parents, *dict.fromkeys(name for name in others if name not in rule.parents))
 
     return _with_parents(policy, all_names)
+
+
+def by_object(paths: Iterable[str]) -> dict[_Identity, list[str]]:
+    """Some paths of this disk by the objects that they lead to; there is no link on the way of one."""
+    names: dict[_Identity, list[str]] = {}
+    for path in dict.fromkeys(paths):
+        if (of := _identity(path)) is not None:
+            names.setdefault(of, []).append(path)
+    return names
+
+
+def places(path: str, names: Mapping[_Identity, Sequence[str]]) -> tuple[str, ...]:
+    """A path, and the others of its object: those by mounts of this machine, and those among the names of objects."""
+    of = _identity(path)
+    return tuple(dict.fromkeys((path, *shown_at(path), *(names.get(of, ()) if of is not None else ()))))
 
 
 def shown_at(path: str) -> list[str]:
@@ -138,10 +154,6 @@ def _links(path: str) -> int:
     """How many names an object has; a directory has one."""
     status = os.lstat(path)
     return 1 if stat.S_ISDIR(status.st_mode) else status.st_nlink
-
-
-#: Device and inode of an object, and its path if another name of that inode may be another object.
-_Identity = tuple[int, int, str | None]
 
 
 def _identity(path: str) -> _Identity | None:
