@@ -146,6 +146,21 @@ class Checking(unittest.TestCase):
         self.assertEqual(status, 0, lines)
         self.assertIn("parent @/none/../open: no rule, since @/none is no directory on this machine", errors)
 
+    def test_a_link_of_a_process_leads_elsewhere_for_each(self) -> None:
+        """The confined program has another directory, program and root than this one (proc(5))."""
+        for path in ("/proc/self/exe", "/proc/thread-self/cwd/x", "@/own/f"):
+            (self.folder / "own").is_symlink() or (self.folder / "own").symlink_to("/proc/self/cwd")
+            status, _, errors = self.checked(f'[[refused]]\ncall = "open r"\npath = "{path}"\nkind = "reg"\n')
+            self.assertEqual((status, f"not known where {path} leads: name what it leads to" in errors), (3, True), errors)
+        for parent, asked, wanted in (
+            ("/proc/self/cwd", '[[nothing]]\nrights = ["read_file"]\nunder = "@/closed"\n', NOT_ALL_JUDGED),
+            ("@/own/closed", '[[refused]]\ncall = "open r"\npath = "@/closed/file"\n', NOT_ALL_JUDGED),
+            ("@/own/closed", '[[allowed]]\ncall = "open r"\npath = "@/open/file"\n', 0),
+            ("/proc/self/net", '[[nothing]]\nrights = ["read_file"]\nunder = "@/closed"\n', 0),
+        ):
+            status, _, errors = self.checked(asked, POLICY.replace("/nowhere", parent))
+            self.assertEqual((status, "leads elsewhere for each process" in errors), (wanted, bool(wanted)), parent + errors)
+
     def test_abis_that_differ(self) -> None:
         self.assertEqual(
             self.point('[[refused]]\ncall = "truncate"\npath = "@/work/file"\nabi = "2-5"\n'),

@@ -2,6 +2,7 @@
 
 from __future__ import annotations
 
+import os
 import tempfile
 import time
 import unittest
@@ -227,6 +228,13 @@ class Differing(InFolder):
         status, lines, _ = self.said(self.linked("link"), self.linked("../"))
         self.assertEqual(status, 1)
         self.assertIn(f"  read_dir under {self.folder.parent}, but for real", lines)
+
+    def test_a_link_of_a_process_is_compared_by_its_name(self) -> None:
+        """It leads elsewhere for the program that is confined than for this one."""
+        rule = '[[layer]]\nhandled_access_fs = ["read_file"]\n[[layer.path_beneath]]\nallowed_access = ["read_file"]\nparent = "{}"\n'
+        status, lines, errors = self.said(rule.format(os.getcwd()), rule.format("/proc/self/cwd"))
+        self.assertEqual((status, lines[1]), (1, "  read_file under /proc/self/cwd"))
+        self.assertIn("/proc/self/cwd: not known where it leads, so it is compared by its name", errors)
 
     def test_above_what_is_behind_a_link(self) -> None:
         """`..` after a link leads to what is above the link's target, and not to what is above the link."""

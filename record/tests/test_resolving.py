@@ -95,6 +95,11 @@ class AsTheKernel(unittest.TestCase):
         for path in ("/proc/self", "/proc/thread-self", own, "/proc/1/fd/0", "/proc/1/task/1/cwd"):
             self.assertEqual(walked(path, DISK).unknown, path)
         self.assertIsNone(walked(f"/proc/{os.getpid()}", DISK).unknown)
+        # This process's own links are not followed: another process has others.
+        for path, varies in (("/proc/self/cwd/x", True), ("/proc/thread-self/exe", True), ("/proc/1/root/x", True),
+                             ("/proc/self/task/1/fd/0", True), ("/proc/self/comm", False), ("/proc/self/fd", False)):
+            led = walked(path, DISK)
+            self.assertEqual((led.path, led.varies, led.now), (path, varies, ()), path)
 
 
 class OfATree(unittest.TestCase):

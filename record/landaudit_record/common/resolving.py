@@ -19,8 +19,11 @@ ROOT = "/"
 MOST_LINKS = 40
 #: A path that no object has, for a rule that is on no object.
 NOWHERE = "/~new~"
-#: What leads elsewhere for each process, so that only the process that a policy confines knows where (proc(5)).
-_OF_A_PROCESS = re.compile(r"/proc/(self|thread-self|[0-9]+(/task/[0-9]+)?/(exe|cwd|root|(fd|ns|map_files)/[^/]+))")
+#: The links of a process to what it has, and paths that go on from them (proc(5)).
+_LINKS = r"(/task/[0-9]+)?/(exe|cwd|root|(fd|ns|map_files)/[^/]+)(/.*)?"
+_BY_PROCESS = re.compile(rf"/proc/(self|thread-self|[0-9]+){_LINKS}")
+#: What is another object for each process, so that only the process that a policy confines knows which.
+_OF_A_PROCESS = re.compile(rf"/proc/((self|thread-self)(/.*)?|[0-9]+{_LINKS})")
 #: The errors by which the kernel says that nothing is at a path.
 _ABSENT = (errno.ENOENT, errno.ENOTDIR)
 
@@ -113,6 +116,11 @@ class Walked:
     def is_sure(self) -> bool:
         """Whether the path is known to be where the kernel gets."""
         return self.unknown is None and self.blocked is None
+
+    @property
+    def varies(self) -> bool:
+        """Whether it goes by a link of a process, so that its name does not tell the object."""
+        return self.unknown is not None and _BY_PROCESS.fullmatch(self.path) is not None
 
 
 def walked(path: str, known: KnownObjects) -> Walked:

@@ -220,12 +220,14 @@ class _CaseReader:
         if not isinstance(path, str) or not path.startswith("/") or "\0" in path or len(path.encode()) > LONGEST_PATH:
             (self.place / key).fault(f"{path!r} is not an absolute path: write it as \"/usr\"")
         directory, _, name = path.rstrip("/").rpartition("/")
+        whole = follows or name in ("", ".", "..")
         try:
-            if follows or name in ("", ".", ".."):
-                return resolving.walked(path, DISK).path
-            return joined(resolving.walked(directory or ROOT, DISK).path, name)
+            led = resolving.walked(path if whole else directory or ROOT, DISK)
         except LinkLoop:
             (self.place / key).fault(f"{path} is a loop of symbolic links: name another path")
+        if led.varies:
+            (self.place / key).fault(f"not known where {path} leads: name what it leads to")
+        return led.path if whole else joined(led.path, name)
 
     def _list(self, path: str, kind: str, key: str) -> None:
         """Lists an object and the directories above it; one path has one kind in all cases."""

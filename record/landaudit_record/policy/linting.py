@@ -123,7 +123,7 @@ class Linting:
         return [_Layer(layer, by_number[layer.number]) for layer in self.policy.layers]
 
     def _on(self, parent: Parent, places: tuple[str, ...]) -> _RuleOnObject:
-        seen = disk.look(parent.led.path)
+        seen = None if parent.led.varies else disk.look(parent.led.path)
         is_file = seen is not None and seen.kind != "dir"
         handled = self.policy.layers[parent.layer - 1].handled_access_fs.rights
         rights = parent.rule.allowed_access.rights & handled

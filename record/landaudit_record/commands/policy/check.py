@@ -52,7 +52,7 @@ def run(arguments: argparse.Namespace) -> int:
     given = cases.read(arguments.cases, values)
     written = policies.read(arguments.policy, values)
     values.check_used()
-    policy = _on_objects(written)
+    policy, varying = _on_objects(written)
     checked = checking.check(program, policy, given)
     if arguments.format == reporting.JSON:
         print(json.dumps(checking_data.as_data(checked), indent=2))
@@ -66,7 +66,11 @@ def run(arguments: argparse.Namespace) -> int:
     if given.questions and unasked:
         note([f"NOT ALL IS ASKED: {some_of(unasked)} has other names (hard links), on which the rule is too: name them "
               "in the policy or as the path of a question"], POLICIES)
-    return 1 if checked.failed else NOT_ALL_JUDGED if given.questions and unasked else 0
+    of_refusal = bool(given.questions) or any(case.refused for case in given.cases)
+    if of_refusal and varying:
+        note([f"NOT ALL IS ASKED: {some_of(varying)} leads elsewhere for each process: name what it leads to"], POLICIES)
+    is_whole = not (given.questions and unasked) and not (of_refusal and varying)
+    return 1 if checked.failed else 0 if is_whole else NOT_ALL_JUDGED
 
 
 def _print(checked: Checked) -> None:
@@ -78,10 +82,11 @@ def _print(checked: Checked) -> None:
             print(line)
 
 
-def _on_objects(policy: Policy) -> Policy:
-    """The policy with what its parents lead to on this machine, with a note on each that leads nowhere."""
+def _on_objects(policy: Policy) -> tuple[Policy, list[str]]:
+    """The policy with what its parents lead to on this machine, with a note on each that leads nowhere; and the parents
+    that lead elsewhere for each process, so that a rule may be on any object."""
     found = list(parents.each(policy, DISK))
     for parent in found:
         if parent.led.blocked is not None:
             note([f"{parent.place}: no rule, since {parent.led.blocked} is no directory on this machine"], POLICIES)
-    return parents.followed(policy, found)
+    return parents.followed(policy, found), list(dict.fromkeys(it.written for it in found if it.led.varies))
