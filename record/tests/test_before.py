@@ -4,6 +4,7 @@ from __future__ import annotations
 
 import unittest
 
+from landaudit_record.common import trees
 from landaudit_record.common.jsonl import numbered
 from landaudit_record.recorder.calls import descriptors, inexpressible, landlock, opening, ptrace
 from landaudit_record.recorder import mounted
@@ -152,9 +153,49 @@ class SplitLinks(WrittenLogs):
         with_index, without = mounted.mounts(shown)
         self.assertEqual([self.same("ext4"), self.same(with_index.kind), self.same(without.kind)], ["/m/a", "/m/a", None])
 
+    def test_an_index_by_default(self) -> None:
+        """mountinfo shows the option where it differs from the default of the module (Linux 6.18)."""
+        shown, default = (self.out.with_name(name) for name in ("mountinfo", "index"))
+        line = "49 27 0:9 / /m rw,relatime - overlay none rw,lowerdir=l,upperdir=u,workdir=w{}\n"
+        shown.write_text(line.format(",index=on") + line.format("") + line.format(",index=off"))
+        found = {}
+        for text in ("Y\n", "N\n", None):
+            default.unlink(missing_ok=True) if text is None else default.write_text(text)
+            found[text] = [self.same(mount.kind) for mount in mounted.mounts(shown, default)]
+        self.assertEqual(found["Y\n"], ["/m/a", "/m/a", None])
+        self.assertEqual([found["N\n"], found[None]], [["/m/a", None, None]] * 2)
+
     def test_names_of_objects_apart(self) -> None:
         for kind in ("overlay", "fuse", "fuse.bindfs"):
             self.assertIsNone(self.same(kind))
+
+
+class BoundDirectories(WrittenLogs):
+    """A directory is bound without what is mounted below it: a rule on it is on both, and not what is in it."""
+
+    mounts = [*TWICE, ["/w/d/in", "8:3", "/", "xfs"]]
+    disk = [*DISK, *({"path": path, "kind": "dir"} for path in ("/b", "/b/in", "/w/d", "/w/d/in")),
+            *({"path": path, "kind": "reg"} for path in ("/b/x", "/b/in/y", "/w/d/x", "/w/d/in/y"))]
+
+    def test_a_rule_is_on_both(self) -> None:
+        """As Linux 6.18 answers: a file in either directory is below a rule on the other one."""
+        opens = [f'openat({CWD}, "{path}", 0 /* O_RDONLY */) = 3<{path}>' for path in ("/b/x", "/w/d/in/y", "/b/in/y")]
+        for calls in (opens, opens[::-1]):
+            with self.subTest(calls[0]):
+                self.convert(*calls)
+                tree = trees.read(self.out / "tree.jsonl")
+                names = {path: sorted(tree.names(path)) for path in ("/w/d", "/w/d/in", "/b/in", "/w/d/in/y", "/b/in/y")}
+                apart = {path: [path] for path in names if path != "/w/d"}
+                self.assertEqual(names, {"/w/d": ["/b", "/w/d"], **apart})
+
+    def test_the_rule_of_a_program_is_on_both(self) -> None:
+        rule = "{allowed_access=0x4 /* LANDLOCK_ACCESS_FS_READ_FILE */, parent_fd=5</w/d>}"
+        trace = self.convert(
+            f'openat({CWD}, "/w/d", 0x200000 /* O_PATH */) = 5</w/d>', MADE,
+            f"landlock_add_rule(3{RULESET}, 0x1 /* LANDLOCK_RULE_PATH_BENEATH */, {rule}, 0) = 0",
+            f'openat({CWD}, "/b/x", 0 /* O_RDONLY */) = 6</b/x>',
+        )
+        self.assertEqual([path for op, path in told(trace, "op", "path") if op == "add_path"], ["/w/d", "/b"])
 
 
 class OtherProc(WrittenLogs):
@@ -188,6 +229,15 @@ class SeveralPaths(unittest.TestCase):
         places = MountPlaces([*TWICE, ["/w/d/in", "8:3", "/", "xfs"]])
         self.assertEqual((places.others("/b"), places.others("/b/in"), places.others("/b/x")), ([], [], ["/w/d/x"]))
         self.assertEqual((places.shown_at("/b"), places.shown_at("/b/in"), places.shown_at("/")), (["/w/d"], [], []))
+
+    def test_mounts_that_are_bound_with_all_below_them(self) -> None:
+        """As `mount --rbind` does it; Linux 6.18 finds a rule on either directory from the other."""
+        below = [["/w/d/in", "8:3", "/", "xfs"], ["/b/in", "8:3", "/", "xfs"]]
+        places = MountPlaces([*TWICE, *below])
+        for path, others in {"/b": ["/w/d"], "/w/d/in": ["/b/in"], "/b/in/x": ["/w/d/in/x"], "/w": []}.items():
+            self.assertEqual(places.others(path), others, path)
+        for other in (["/b/in", "8:3", "/x", "xfs"], ["/b/in", "8:4", "/", "xfs"], ["/b/on", "8:3", "/", "xfs"]):
+            self.assertEqual(MountPlaces([*TWICE, below[0], other]).others("/b"), [], other)
 
     def test_a_directory_that_is_mounted_in_itself(self) -> None:
         places = MountPlaces([["/", "8:1", "/", "ext4"], ["/w/d", "8:1", "/w", "ext4"]])

@@ -51,6 +51,10 @@ class Identities:
         """An object is known by the paths by which events name it, and by no others."""
         return []
 
+    def bound(self, node: Node) -> list[Node]:
+        """A directory is one object wherever it is mounted."""
+        return []
+
     def at_start(self, path: str) -> Node | None:
         """The object that was at a path when the run began, as far as that is known."""
         return self._starts.get(path)

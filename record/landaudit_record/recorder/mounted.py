@@ -4,7 +4,8 @@ from __future__ import annotations
 
 from collections import Counter
 from collections.abc import Iterable, Sequence
-from dataclasses import dataclass
+from contextlib import suppress
+from dataclasses import dataclass, replace
 from pathlib import Path
 
 from .values import unescaped
@@ -22,8 +23,10 @@ OF_KERNEL = frozenset(
 WITHOUT_MAKING = OF_KERNEL & frozenset("cgroup cgroup2 configfs debugfs proc securityfs sysfs tracefs".split())
 #: The file system that shows several directories as one.
 MERGED = "overlay"
-#: The type that one has here if it keeps an index of hard links (index=on), with which a file's names are one object.
+#: The type that one has here if it keeps an index of hard links (index=on), with which a file's names are one object,
+#: and where its module says whether it does if the options of a mount say nothing.
 INDEXED = "overlay.index"
+INDEX_DEFAULT = Path("/sys/module/overlay/parameters/index")
 #: File systems that a process serves; the type may say which (`fuse.sshfs`).
 SERVED = ("fuse", "fuseblk")
 
@@ -40,17 +43,26 @@ class Mount:
     options: tuple[str, ...]
 
 
-def mounts(file: Path = MOUNTS) -> list[Mount]:
+def mounts(file: Path = MOUNTS, index_default: Path = INDEX_DEFAULT) -> list[Mount]:
     """All mounts of a process, those of this one if no file of another one is named."""
     with open(file, encoding="latin-1") as lines:
-        return [_mount(line.split(" ")) for line in lines.read().split("\n") if " - " in line]
+        found = [_mount(line.split(" ")) for line in lines.read().split("\n") if " - " in line]
+    return [replace(one, kind=INDEXED) if _has_index(one, index_default) else one for one in found]
 
 
 def _mount(fields: list[str]) -> Mount:
     """A line's mount; the escapes of a name stand for its bytes."""
     root, place = (_name(field) for field in fields[3:5])
-    kind, options = fields[fields.index("-") + 1], tuple(fields[-1].split(","))
-    return Mount(place, fields[2], root, INDEXED if kind == MERGED and "index=on" in options else kind, options)
+    return Mount(place, fields[2], root, fields[fields.index("-") + 1], tuple(fields[-1].split(",")))
+
+
+def _has_index(mount: Mount, default: Path) -> bool:
+    """Whether a mount is an overlayfs with an index; its options say so only where the default is another one."""
+    if mount.kind != MERGED or "index=off" in mount.options:
+        return False
+    with suppress(OSError):
+        return "index=on" in mount.options or default.read_text(encoding="ascii").strip() == "Y"
+    return False
 
 
 def _name(field: str) -> str:
@@ -115,11 +127,15 @@ class MountPlaces:
     def others(self, path: str) -> list[str]:
         """The other paths of an object, which it has by other mounts of its file system (mount(2), MS_BIND).
 
-        A directory that does not show the same at all of them, because something is mounted below it, has none.
+        A directory that does not show the same at all of them, because other mounts are below it, has none.
         """
         found = self.shown_at(path)
-        below = tuple(f"{one.rstrip('/')}/" for one in (path, *found))
-        return [] if found and any(place.startswith(below) for place in self._at if place != "/") else found
+        return found if found and len({self._below(one) for one in (path, *found)}) == 1 else []
+
+    def _below(self, path: str) -> frozenset[tuple[str, tuple[str, str]]]:
+        """What is mounted below a path, each with the rest of its place."""
+        top = f"{path.rstrip('/')}/"
+        return frozenset((at[len(top) :], what) for at, what in self._at.items() if at.startswith(top) and at != "/")
 
     def shown_at(self, path: str) -> list[str]:
         """All other paths of an object by mounts, whatever is mounted below it there: a rule on it is on each."""

@@ -242,6 +242,13 @@ class Names:
         others = self.places.others(node.start) if node.start else []
         return [path for path in others if self.at_start(path) is node]
 
+    def bound(self, node: Node) -> list[Node]:
+        """What a directory is at its other paths if it does not show the same there: rules on it are on all of them."""
+        if node.kind != "dir" or not node.start or self.places.others(node.start):
+            return []
+        found = (self.at_start(path) for path in self.places.shown_at(node.start))
+        return [one for one in found if one is not None and one is not node and one.kind == "dir"]
+
     def _seen(self, node: Node, name: str, start: str | None) -> Seen | None:
         """What a listing says about a name, or the disk as it was seen later."""
         if start is not None and self._is_watched(start):

@@ -64,6 +64,9 @@ class MetObjects(Protocol):
     def further(self, node: Node) -> list[str]:
         """The other paths that an object has by other mounts when the run begins."""
 
+    def bound(self, node: Node) -> list[Node]:
+        """What a directory is at its other paths if it does not show the same there."""
+
 
 class ListedTree:
     """The names under which a recording lists objects; an object that is moved or linked has several.
@@ -141,7 +144,7 @@ class ListedTree:
 
     def names_of(self, node: Node) -> list[str]:
         """The names that an object of its own has in the tree."""
-        return self._several.get(node, ["/"])
+        return [name for one in (node, *self._names.bound(node)) for name in self._several.get(one, ["/"])]
 
     def gap(self, over: str, names: Sequence[str]) -> str:
         """The name of what is missing in an object: a name that no object ever has, with the names after it.
@@ -204,9 +207,12 @@ class ListedTree:
             self._owners[text] = owner
             if owner is node:
                 self._several.setdefault(node, []).append(text)
-                node.first = node.first or text
+                listed = (one.first for one in self._names.bound(node))
+                node.first = node.first or next(filter(None, listed), text)
         if text not in self._lines:
             self._list(text, real, node)
+            for bound in self._names.bound(node):
+                self._list_start(bound)
         return text
 
     def _free(self, wanted: str, owner: Node | str) -> str:
