@@ -9,7 +9,7 @@ from landaudit_record.common.jsonl import numbered
 from landaudit_record.recorder.calls import descriptors, inexpressible, landlock, opening, ptrace
 from landaudit_record.recorder import mounted
 from landaudit_record.recorder.mounted import MountPlaces
-from landaudit_record.recorder.names import OF_KIND, UNKNOWN_WAY
+from landaudit_record.recorder.names import MADE_OR_THERE, OF_KIND, UNKNOWN_WAY
 
 from .written_logs import CWD, DISK, WrittenLogs, told
 
@@ -294,6 +294,37 @@ class OpenedInside(WrittenLogs):
         trace = self.convert(f'openat({CWD}, "{register}", 0x1 /* O_WRONLY */) = 3<{register}>')
         self.assertEqual(told(trace, "op", "path"), [("open", register)])
         self.assertEqual(self.unsaid(), [(opening.BY_WRITING, True)])
+
+
+class AppendOnly(WrittenLogs):
+    """Linux 6.18 says EPERM of ftruncate(2): of an append-only file before it asks Landlock, of an immutable one after."""
+
+    EPERM = "-1 EPERM (Operation not permitted)"
+
+    def test_the_call_may_be_refused_or_not_be_asked_about(self) -> None:
+        trace = self.convert(
+            f'openat({CWD}, "f", 0x401 /* O_WRONLY|O_APPEND */) = 3</w/f>', f"ftruncate(3</w/f>, 0) = {self.EPERM}"
+        )
+        self.assertEqual(
+            told(trace[1:], "op", "fd", "path", "unknown", "otherwise"),
+            [("ftruncate", 3, None, descriptors.FIXED, None), ("truncate", None, "/w/f~new~", descriptors.FIXED, True)],
+        )
+
+    def test_what_else_is_not_known_stays(self) -> None:
+        """The file was made by the open, or was there: then it may be refused to truncate that one."""
+        self.disk = [line for line in DISK if line["path"] != "/w/f"] + [{"path": "/w/f", "kind": "reg", "new": None}]
+        trace = self.convert(
+            f'openat({CWD}, "f", 0x441 /* O_WRONLY|O_CREAT|O_APPEND */, 0600) = 3</w/f>',
+            f"ftruncate(3</w/f>, 0) = {self.EPERM}",
+        )
+        cut = [record for record in trace if record["op"] in ("ftruncate", "truncate")]
+        self.assertEqual([record["path"] for record in cut[1:]], ["/w/f~2~", "/w/f~new~"])
+        self.assertEqual({record["unknown"] for record in cut}, {MADE_OR_THERE})
+
+    def test_files_in_memory_are_never_refused(self) -> None:
+        memfd = "</memfd:m>(deleted)"
+        trace = self.convert(f'memfd_create("m", 0) = 3{memfd}', f"ftruncate(3{memfd}, 0) = {self.EPERM}")
+        self.assertEqual(told(trace, "op", "unknown"), [("adopt", None), ("ftruncate", None)])
 
 
 class Rulesets(WrittenLogs):

@@ -27,6 +27,8 @@ F_DUPFD_CLOEXEC = 1030
 FD_CLOEXEC = 1
 CLOSE_RANGE_UNSHARE, CLOSE_RANGE_CLOEXEC = 2, 4
 SOCK_CLOEXEC = 0o2000000
+#: What is not known of a file that ftruncate(2) may not change.
+FIXED = "append-only or immutable"
 AF_UNSPEC, AF_INET, AF_INET6 = 0, 2, 10
 SOCK_STREAM, SOCK_DGRAM, SOCK_RAW, SOCK_TYPE = 1, 2, 3, 0xF
 IPPROTO_TCP = 6
@@ -256,6 +258,9 @@ def _opened_peer(scene: Scene, thread: Thread, call: Call) -> None:
 
 
 def _ftruncate(scene: Scene, thread: Thread, call: Call) -> None:
+    """Of an append-only file the kernel says EPERM before it asks Landlock, as if nothing were there to truncate; of an
+    immutable one the file system says it afterwards.
+    """
     if call.error == "EINVAL" and is_invalid(call):
         raise NotAsked("EINVAL before Landlock is asked")
     of = values.descriptor(call.arguments[0])
@@ -266,13 +271,14 @@ def _ftruncate(scene: Scene, thread: Thread, call: Call) -> None:
         raise CannotSay(FOREIGN)
     scene.adopt(thread, call, of.number, handle)
     node = handle.node
-    if node is None or not node.others or of.path is None:
-        scene.say(thread, call, "ftruncate", fd=of.number)
-        return
-    others = [scene.there(of.path, other) for other in node.others]
-    scene.say(thread, call, "ftruncate", fd=of.number, unknown=node.doubt)
-    asked: list[dict[str, Any]] = [{"path": spot.path, **arguments.shown(spot)} for spot in others]
-    scene.say_instead(thread, call, "truncate", *({**members, "unknown": node.doubt} for members in asked))
+    others = [scene.there(of.path, other) for other in node.others] if node is not None and of.path is not None else []
+    unknown = {"unknown": node.doubt} if node is not None and others else {}
+    if call.error == "EPERM" and node is not None and of.path is not None:
+        others.append(scene.missing(of.path))
+        unknown = unknown or {"unknown": FIXED}
+    scene.say(thread, call, "ftruncate", fd=of.number, **unknown)
+    asked: list[dict[str, Any]] = [{"path": spot.path, **arguments.shown(spot), **unknown} for spot in others]
+    scene.say_instead(thread, call, "truncate", *asked)
 
 
 HANDLERS = {
