@@ -76,6 +76,13 @@ class Looks(WrittenLogs):
         self.assertEqual(self.counted('access("/proc/1/fdinfo", 0 /* F_OK */) = 0'), [LOOK])
         self.assertEqual(self.counted('stat("/proc/1/fdinfo", 0x7ffd) = 0'), [])
 
+    def test_directories_that_are_listed(self) -> None:
+        """Linux 6.18 lets any of them be opened but `fdinfo`; under a layer, getdents64(2) of `map_files` is EACCES."""
+        for name, counted in {"fdinfo": [LOOK], "map_files": [LOOK], "fd": [], "ns": [], "task": []}.items():
+            opened = f'openat({CWD}, "/proc/1/{name}", 0x10000 /* O_RDONLY|O_DIRECTORY */) = 3</proc/1/{name}>'
+            self.assertEqual(self.counted(opened), counted, name)
+            self.assertEqual(self.counted(f'stat("/proc/1/{name}", 0x7ffd) = 0'), [], name)
+
     def test_files_that_anyone_may_look_at(self) -> None:
         for name in ("", "/status", "/environ", "/fd", "/ns", "/task", "/mem"):
             with self.subTest(name):

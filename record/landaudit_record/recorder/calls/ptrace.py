@@ -33,11 +33,11 @@ OF_PATHS, OF_CALLS = "EACCES", "EPERM"
 #: what only they may reach.
 _LINK = re.compile(r"/proc/(\d+)/(?:task/\d+/)?(?:cwd|exe|root|(?:fd|map_files|ns)/[^/\"\\]+)(?!\w)")
 _REACHED = re.compile(r"/proc/(\d+)/(?:task/\d+/)?fdinfo/.")
-#: The directory of a process, and its files and the directory that only those may open who may trace it.
+#: The directory of a process, and its files and directories that only those may open, or read, who may trace it.
 _OF_PROCESS = re.compile(r"/proc/(\d+)(?=/|$)")
 _OPENED = re.compile(
-    r"/proc/(\d+)/(?:task/\d+/)?(?:auxv|environ|fdinfo|io|maps|mem|numa_maps|pagemap|personality|smaps|smaps_rollup|"
-    r"stack|syscall|timers)"
+    r"/proc/(\d+)/(?:task/\d+/)?(?:auxv|environ|fdinfo|io|map_files|maps|mem|numa_maps|pagemap|personality|smaps|"
+    r"smaps_rollup|stack|syscall|timers)"
 )
 #: Calls by which the kernel asks whether what is in a directory may be reached.
 _SEARCHES = frozenset({"access", "faccessat", "faccessat2", "chdir", "inotify_add_watch", "getxattr", "lgetxattr"})
