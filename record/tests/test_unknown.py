@@ -8,7 +8,7 @@ from pathlib import Path
 
 from landaudit_record.audit.comparing import agree
 from landaudit_record.audit.kernel_calls import judged_calls
-from landaudit_record.common import jsonl
+from landaudit_record.common import jsonl, trees
 from landaudit_record.common.finished import Finished
 from landaudit_record.engine import reports
 from landaudit_record.engine.answers import ALLOWED, MOOT, REFUSED, Answer, Refusing
@@ -120,6 +120,27 @@ class Making(Unknown):
             failed = f'openat({CWD}, "/s/f", {CUTS}) = -1 {error}'
             found = self.doubts([seen("/s/f", "reg", new=None)], CONFINED, failed)
             self.assertEqual(found, {MADE_OR_THERE: 1}, error)
+
+
+class MadeByOthers(Unknown):
+    """What the kernel, or a process outside of the recording, makes in the run: no recorded call makes it."""
+
+    def made(self, objects: list[jsonl.Record], *calls: str) -> set[str]:
+        """The names of the tree that were not there when the run began."""
+        self.run_over(objects, *calls)
+        return trees.read(self.out / "tree.jsonl").made
+
+    def test_what_was_missing_when_it_was_looked_at_in_time(self) -> None:
+        """As loop(4) makes it in debugfs: no rule of a policy can be on it."""
+        self.assertEqual(self.made([seen("/s/f", None, FIRST - 1)], opens("/s/f")), {"/s/f", "/s/f~2~"})
+        self.assertEqual(self.made([seen("/s/n", None, FIRST - 1)], opens("/s/n/f", "0x1 /* O_WRONLY */")),
+                         {"/s/n", "/s/n/f"})
+
+    def test_what_was_looked_at_too_late_or_in_another_directory(self) -> None:
+        missing = [seen("/s/f", None, FIRST), seen("/s/v1/f", None, FIRST - 1)]
+        self.assertEqual(self.made(missing, opens("/s/f", "0x1 /* O_WRONLY */")), set())
+        moved = ('rename("/s/v1", "/s/v3") = 0', 'rename("/s/v2", "/s/v1") = 0', opens("/s/v1/f", "0x1 /* O_WRONLY */"))
+        self.assertNotIn("/s/v2/f", self.made(missing, *moved))
 
 
 class Others(Unknown):

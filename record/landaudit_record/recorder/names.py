@@ -228,9 +228,18 @@ class Names:
             if inode is not None:
                 self._linked[inode] = found
             found.over, found.name = node, name
-        if start is not None and (found is not None or self._is_watched(start)):
+        if start is not None and (found is not None or self._is_watched(start) or self._was_missing(node, start)):
             self._starts[start] = found
         return found
+
+    def _was_missing(self, directory: Node, path: str) -> bool:
+        """Whether a look has shown, before the current call, that nothing was at a path: what the call meets there is
+        none that was there when the run began. The look counts if the directory was at its place all the time.
+        """
+        if directory.looked_up() != (directory.start, 0) or path in self.doubts.objects:
+            return False
+        found = self._disk.observed(path)
+        return found.seen is None and found.until < self.line
 
     def _first_of(self, path: str | None) -> str | None:
         """What stands for an object that has several paths by several mounts: the first of them."""
