@@ -240,14 +240,29 @@ class Hidden(WrittenLogs):
         self.convert('stat("/proc/cpuinfo", 0x7ffd) = 0', 'stat("/proc/self/status", 0x7ffd) = 0')
         self.assertEqual(self.unsaid(), [])
 
+    def test_nothing_is_hidden_from_a_group(self) -> None:
+        """Linux 6.18: from the group of the option `gid`, which is 0 by default, while a process is in it."""
+        look = 'stat("/proc/1/status", 0x7ffd) = 0'
+        self.hidepid_group = self.euid = 0
+        for calls, counted in {
+            (look,): [],
+            ("setgid(5) = 0", look): [LOOK],
+            ("setgid(5) = 0", "setgroups(2, [4, 0]) = 0", look): [],
+            ("setns(3<user:[7]>, 0) = 0", look): [LOOK],
+        }.items():
+            with self.subTest(calls):
+                self.convert(*calls)
+                self.assertEqual(self.unsaid(), counted)
+
     def test_what_the_mounts_say(self) -> None:
         mounts = self.out / "mountinfo"
         begin = "22 1 0:21 / /proc rw,relatime - proc proc rw"
-        said = {"": False, ",hidepid=off": False, ",hidepid=invisible": True, ",hidepid=2": True}
+        said = {"": (False, None), ",hidepid=off": (False, None), ",hidepid=invisible": (True, 0), ",hidepid=2": (True, 0),
+                ",gid=7,hidepid=1": (True, 7), ",gid=7,hidepid=ptraceable": (True, None), ",hidepid=4": (True, None)}
         for options, hides in said.items():
             with self.subTest(options):
                 mounts.write_text(f"21 1 254:0 / / rw - ext4 /dev/vda rw,hidepid=2\n{begin}{options}\n")
-                self.assertIs(recordings.hides_processes(mounts), hides)
+                self.assertEqual(recordings.hides_processes(mounts), hides)
 
 
 class WithoutReadlink(WrittenLogs):

@@ -35,12 +35,15 @@ DISK: list[jsonl.Record] = [
 class WrittenLogs(unittest.TestCase):
     """A test on lines; a line without a thread's number is of the first process, 10.
 
-    `readlink` says whether the recording was made with readlink(2), `hidepid` whether /proc has this option; `formats`
-    are those that binfmt_misc had, `descriptors` those that the command was given, `mounts` those of its namespace.
+    `readlink` says whether the recording was made with readlink(2), `hidepid` whether /proc has this option, which does
+    not concern `hidepid_group`; `euid` is the user of the command; `formats` are those that binfmt_misc had,
+    `descriptors` those that the command was given, `mounts` those of its namespace.
     """
 
     readlink = True
     hidepid = False
+    hidepid_group: int | None = None
+    euid: int | None = None
     formats: list[dict[str, Any]] | None = None
     disk = DISK
     descriptors: dict[str, dict[str, Any]] = {}
@@ -61,7 +64,8 @@ class WrittenLogs(unittest.TestCase):
     def conversion(self, *lines: str) -> Converted:
         """What the conversion of lines says of itself."""
         about = recordings.About(["p"], "/w", 0.0, False, True, self.descriptors, looks=True, readlink=self.readlink)
-        replace(about, formats=self.formats, hidepid=self.hidepid, mounts=self.mounts).write(self.out)
+        about = replace(about, hidepid=self.hidepid, hidepid_group=self.hidepid_group, euid=self.euid)
+        replace(about, formats=self.formats, mounts=self.mounts).write(self.out)
         jsonl.write(self.out / recordings.OBJECTS, self.disk)
         whole = [FIRST, *(line if line[:1].isdigit() else f"10  {line}" for line in lines)]
         (self.out / "strace.txt").write_text("".join(line + "\n" for line in whole), encoding="ascii")

@@ -57,7 +57,8 @@ def _convert(
     names = Names(kept, read_before(folder), about.watched, about.whiteouts, about.unlisted, doubts, places)
     with Recording(folder, ListedTree(names), limits) as recording, Progress("records") as progress:
         births = strace_log.births(log)
-        scene = Scene(names, kept, recording, births, ports, reads_links=about.readlink, hides=about.hidepid)
+        scene = Scene(names, kept, recording, births, ports, reads_links=about.readlink)
+        scene.hides, scene.hides_not_from = about.hidepid, about.hidepid_group
         for event in strace_log.events(log, births.ends, scene.near):
             if isinstance(event, Call):
                 _take_call(scene, about, event)

@@ -47,8 +47,9 @@ class About:
     `ended` says that the tracer ended by itself, so that the log is complete; it is set after the run. `looks` says
     that calls which only look at an object and calls which send signals were traced, `readlink` that calls which read
     links were traced. `formats` are those that binfmt_misc had, None if they are not known; `hidepid` says that /proc
-    is mounted with this option (proc(5)), and `taken` has the places of file systems that were taken from their servers
-    during the run. `too_large` are directories that were to be listed and hold too many objects. `machine` tells the
+    is mounted with this option (proc(5)), which does not concern `hidepid_group`, and `taken` has the places of file
+    systems that were taken from their servers during the run. `too_large` are directories that were to be listed and
+    hold too many objects. `machine` tells the
     machine from others, "" if it is not known. `mounts` are those of the command's namespace when the run began, each
     with its place, its device, the directory of the file system that it shows, and its type.
     `by` is the recorder: STRACE or WITNESS.
@@ -72,6 +73,7 @@ class About:
     readlink: bool = False
     formats: list[dict[str, Any]] | None = None
     hidepid: bool = False
+    hidepid_group: int | None = None
     euid: int | None = None
     taken: list[str] = field(default_factory=list)
     too_large: list[str] = field(default_factory=list)
@@ -163,11 +165,14 @@ def errata() -> int:
     return max(0, mended)
 
 
-def hides_processes(mounts: Path = mounted.MOUNTS) -> bool:
-    """Whether /proc is mounted so that the directory of a process is not visible to all (proc(5), `hidepid`)."""
-    options = [mount.options for mount in mounted.mounts(mounts) if mount.place == "/proc"]
-    hidepid = [option for option in (options[-1] if options else ()) if option.startswith("hidepid=")]
-    return bool(hidepid) and hidepid[-1] not in ("hidepid=0", "hidepid=off")
+def hides_processes(mounts: Path = mounted.MOUNTS) -> tuple[bool, int | None]:
+    """Whether /proc is mounted so that the directory of a process is not visible to all (proc(5), `hidepid`), and the
+    group to which all are visible nevertheless, if there is one."""
+    places = [mount.options for mount in mounted.mounts(mounts) if mount.place == "/proc"]
+    options = dict(option.partition("=")[::2] for option in (places[-1] if places else ()))
+    hides = options.get("hidepid", "off") not in ("0", "off")
+    has_group = hides and options["hidepid"] not in ("4", "ptraceable")
+    return hides, int(options.get("gid", ROOT_USER)) if has_group else None
 
 
 def is_admin() -> bool:

@@ -95,9 +95,9 @@ class Scene:
     result is to be doubted.
     `placeless` says whether there was a descriptor that is in a mount without a place. `through` are the processes
     whose links in /proc a path of this call goes through, `near` says which paths may, `reads_links` whether
-    readlink(2) was traced, and `hides` whether all of a process in /proc is only for those who may trace it. `sockets`
-    has the makers of UNIX sockets, each with the moment, and `abstract` those of the sockets that have an abstract name
-    (None if nobody knows who made it); `ended` are the processes that ended last.
+    readlink(2) was traced, and `hides` whether all of a process in /proc is only for those who may trace it, and for
+    the group `hides_not_from`. `sockets` has the makers of UNIX sockets, each with the moment, and `abstract` those of
+    the sockets that have an abstract name (None if nobody knows who made it); `ended` are the processes that ended last.
     """
 
     def __init__(
@@ -109,7 +109,6 @@ class Scene:
         ports: Ports,
         *,
         reads_links: bool = False,
-        hides: bool = False,
     ) -> None:
         self.names = names
         self.call: Call | None = None
@@ -126,7 +125,8 @@ class Scene:
         self.near = Near(elsewhere=tuple(place.rpartition("/")[2] for place in names.places.procs))
         self.through: set[int] = set()
         self.reads_links = reads_links
-        self.hides = hides
+        self.hides = False
+        self.hides_not_from: int | None = None
         self.sockets: dict[str, tuple[int, int]] = {}
         self.abstract: dict[str, tuple[int, int] | None] = {}
         self.ended: dict[int, Process] = {}
@@ -134,6 +134,11 @@ class Scene:
         self.handles: dict[str, str] = {}
         self._walked: set[tuple[str, str, str]] = set()
         self._links: ThreadLinks | None = None
+
+    def hides_from(self, process: Process) -> bool:
+        """Whether all of another process in /proc is hidden from a process that may not trace it."""
+        user, group = process.user, self.hides_not_from
+        return self.hides and not (user.known and group is not None and group in user.groups | {user.gid})
 
     # What is said
 

@@ -319,6 +319,7 @@ def _working_directory() -> str:
 
 
 def _about(command: list[str], seen: recordings.Watched, strace: str = "") -> recordings.About:
+    hidepid, group = recordings.hides_processes()
     return recordings.About(
         command=command,
         directory=os.getcwd(),
@@ -338,7 +339,8 @@ def _about(command: list[str], seen: recordings.Watched, strace: str = "") -> re
         ended=False,
         looks=True,
         formats=formats.registered(),
-        hidepid=recordings.hides_processes(),
+        hidepid=hidepid,
+        hidepid_group=group,
         machine=surroundings.machine(),
         mounts=[[mount.place, mount.device, mount.root, mount.kind] for mount in mounted.mounts()],
     )

@@ -81,7 +81,7 @@ def look(scene: Scene, thread: Thread, call: Call) -> bool:
     opened = _opened(scene, call)
     pids = {pid for argument, path in led for pid in _kept(call, path, follows=argument.follows_last(call))}
     pids |= scene.through | _numbers([_OPENED.fullmatch(opened)])
-    if scene.hides:
+    if scene.hides_from(thread.process):
         pids |= _numbers(_OF_PROCESS.match(path) for path in [opened, *(path for _, path in led)])
     if any(may_refuse(scene, thread, pid) for pid in pids):
         _count(scene, thread, call, pids)
@@ -129,7 +129,7 @@ def passed_by_links(scene: Scene, thread: Thread, call: Call) -> None:
 
 def _may_be_refused(scene: Scene, thread: Thread, call: Call) -> bool:
     """Whether a call succeeded, or a layer may have refused it; without a layer, no policy refused it."""
-    refused = ("EACCES", "EPERM") if scene.hides else ("EACCES",)
+    refused = ("EACCES", "EPERM") if scene.hides_from(thread.process) else ("EACCES",)
     return call.ok or (thread.process.confined and call.error in refused)
 
 
