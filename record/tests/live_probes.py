@@ -144,8 +144,8 @@ class LiveProbes(unittest.TestCase):
 
     def fill_state(self, state: Path) -> None:
         """A folder beside that one, which is not listed before the run."""
-        places = [state / name for name in ("ram", "merged", "shown")]
-        subprocess.run(["umount", *places], stderr=subprocess.DEVNULL, check=False)
+        places = [state / name for name in ("ram", "merged", "shown", "whole", "second/below")]
+        subprocess.run(["umount", "-R", *places], stderr=subprocess.DEVNULL, check=False)
         shutil.rmtree(state, ignore_errors=True)
         layers = [state / "layers" / name for name in ("low/lower", "up", "work")]
         for folder in (*(state / name for name in ("directory", "first", "second")), *places, *layers):
@@ -156,12 +156,14 @@ class LiveProbes(unittest.TestCase):
         layers = "lowerdir={0}/layers/low,upperdir={0}/layers/up,workdir={0}/layers/work".format(state)
         self.mount(state / "ram", "-t", "ramfs", "none")
         self.mount(state / "merged", "-t", "overlay", "-o", layers, "none")
+        self.mount(state / "second" / "below", "-t", "ramfs", "none")
         self.mount(state / "shown", "--bind", state / "second")
+        self.mount(state / "whole", "--rbind", state / "second")
 
     def mount(self, place: Path, *words: str | Path) -> None:
         """Mounts a file system for a test, if this user may."""
         if subprocess.run(["mount", *words, place], stderr=subprocess.DEVNULL, check=False).returncode == 0:
-            self.addCleanup(subprocess.run, ["umount", place], stderr=subprocess.DEVNULL, check=False)
+            self.addCleanup(subprocess.run, ["umount", "-R", place], stderr=subprocess.DEVNULL, check=False)
 
     def run_recorded(
         self, out: str, *command: str, options: tuple[str, ...] = (), stdin: socket.socket | None = None

@@ -689,8 +689,10 @@ def merged() -> None:
 
 
 def shown_twice() -> None:
-    """A directory that is mounted a second time: a rule on it counts at both places."""
-    for place in ("second", "shown"):
+    """A directory that is mounted a second and a third time, with and without what is mounted below it: a rule on it
+    counts at all places.
+    """
+    for place in ("second", "shown", "whole"):
         attempt(f"make in {place}", lambda: (STATE / place / f"made-{place}").mkdir())
 
 
