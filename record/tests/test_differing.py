@@ -10,6 +10,7 @@ from pathlib import Path
 from unittest import mock
 
 from landaudit_record import cli
+from landaudit_record.engine import landaudit_rules
 from landaudit_record.engine.landaudit import BUILT
 from landaudit_record.policy import parents, policies
 from landaudit_record.policy.regions import Region, Regions, areas, as_named
@@ -105,6 +106,14 @@ class Differing(InFolder):
         status, lines, _ = self.said(OLD, file, "--abi", "5")
         line = "  read_file by the rule on /data/in/f, wherever that is moved or linked (refused by layer 1)"
         self.assertEqual((status, lines[1]), (1, line))
+
+    def test_what_depends_on_no_answer_is_asked_together(self) -> None:
+        """As paths are named, then once objects are moved, and then without those by which alone something passes."""
+        beside = OLD + '[[layer.path_beneath]]\nallowed_access = ["read_dir"]\nparent = "/srv/x"\n'
+        for new, times in ((OLD, 2), (OLD.replace("/data/shared", "/data/other"), 2), (beside, 3)):
+            with mock.patch.object(landaudit_rules, "ask", wraps=landaudit_rules.ask) as asked:
+                self.said(OLD, new)
+            self.assertEqual(sum("--calls" not in call.args for call in asked.call_args_list), times)
 
     def test_rules_of_two_layers_on_objects_that_may_be_in_one_another(self) -> None:
         layer = '[[layer]]\nhandled_access_fs = ["read_file"]\n[[layer.path_beneath]]\nallowed_access = ["read_file"]\n'

@@ -153,13 +153,14 @@ class _Filling:
             return self.table(value, place / key)
         if isinstance(value, list):
             return [self.table(item, place / Numbered(key, number)) if isinstance(item, dict)
-                    else self._text(item, (place / key).at(number - 1), key)
-                    for number, item in enumerate(value, start=1)]
-        return self._text(value, place / key, key)
+                    else self._text(item, place, key, number - 1) for number, item in enumerate(value, start=1)]
+        return self._text(value, place, key)
 
-    def _text(self, value: Any, place: DocumentPlace, key: str) -> Any:
-        """A text with values; a port that is a variable is a number."""
-        filled = _USE.sub(lambda use: self._use(use, place), value) if isinstance(value, str) else value
+    def _text(self, value: Any, place: DocumentPlace, key: str, within: int | None = None) -> Any:
+        """A text under a key, or an item of its list, with values; a port that is a variable is a number."""
+        filled = value
+        if isinstance(value, str):
+            filled = _USE.sub(lambda use: self._use(use, DocumentPlace(place.path, (*place.steps, key), within)), value)
         if key == "port" and filled != value and filled.isdecimal():
             filled = int(filled)
         if key in _WRITTEN and type(filled) in (str, int):

@@ -7,9 +7,9 @@ import os
 import shutil
 import subprocess
 import sys
-from collections.abc import Iterator, Sequence
+from collections.abc import Sequence
 from concurrent.futures import ThreadPoolExecutor
-from itertools import chain
+from itertools import zip_longest
 from pathlib import Path
 from typing import Any
 
@@ -42,23 +42,29 @@ def find() -> Path:
 def ask(program: Path, asked: Sequence[str], *words: str, first: str | None = None) -> list[list[Any]]:
     """The values that the program answers to each of some lines. An answer begins with the operation `first`, or is one
     value; a fault of a run is a Problem. Several lines are answered by several runs at a time."""
-    found: list[list[Any]] = []
-    with ThreadPoolExecutor() as runs:
-        texts = runs.map(lambda part: _run([str(program), *words], part), _parts(asked))
-    for value in map(json.loads, chain.from_iterable(map(str.splitlines, texts))):
-        if first is None or value.get("op") == first:
-            found.append([])
-        found[-1].append(value)
+    runs = min(len(asked), len(os.sched_getaffinity(0)))
+    with ThreadPoolExecutor() as pool:
+        texts = pool.map(lambda run: _run([str(program), *words], _part(asked, run, runs)), range(runs))
+    turns = zip_longest(*(_answers(text, first) for text in texts))
+    found = [answer for turn in turns for answer in turn if answer is not None]
     if len(found) != len(asked):
         raise Problem(f"{NAME} answers {len(found)} of {len(asked)} lines: use programs of one version", WANTING)
     return found
 
 
-def _parts(asked: Sequence[str]) -> Iterator[str]:
-    """The input of a run for each processor; blank lines stand for those of the runs before it, for a fault's number."""
-    size = -(-len(asked) // len(os.sched_getaffinity(0))) or 1
-    for first in range(0, len(asked), size):
-        yield "\n" * first + "".join(f"{line}\n" for line in asked[first:first + size])
+def _part(asked: Sequence[str], run: int, runs: int) -> str:
+    """The input of a run: runs take lines in turn, with blank ones in place of the others', for a fault's number."""
+    return "".join(f"{line if number % runs == run else ''}\n" for number, line in enumerate(asked))
+
+
+def _answers(text: str, first: str | None) -> list[list[Any]]:
+    """The values of each answer of a run."""
+    found: list[list[Any]] = []
+    for value in map(json.loads, text.splitlines()):
+        if first is None or value.get("op") == first:
+            found.append([])
+        found[-1].append(value)
+    return found
 
 
 def _run(command: Sequence[str], text: str) -> str:

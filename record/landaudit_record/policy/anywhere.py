@@ -9,17 +9,16 @@ only the rest is told.
 from __future__ import annotations
 
 from collections.abc import Collection, Iterable, Iterator, Mapping, Sequence
-from dataclasses import dataclass, field, replace
-from pathlib import Path
+from dataclasses import dataclass, field
+from functools import cached_property
 
-from ..common.rights import FILE_RIGHTS, FS, SCOPES, Rights
-from . import ruling
+from ..common.rights import FILE_RIGHTS, FS, NONE, SCOPES
 from .differing_layers import Abis, MountChanges, Room, Unscoped
 from .moving import MAKING
 from .policies import Policy
 from .regions import Region
-from .ruling import Comparison, ComparisonAnswer, Layers, Numbers, Ruled, RuledObjects
-from .sides import OF_OPENED, REFER, Sides, united
+from .ruling import CHAINS, GAINS, REFER, Comparison, Layers, Numbers, Objects, Ruled, Ruling
+from .sides import OF_OPENED, Gone, Sides, united
 
 _NOTHING: Abis = frozenset()
 
@@ -50,17 +49,25 @@ class Gain:
     sources: tuple[Region, ...]
 
 
-Named = Mapping[tuple[str, Region], Abis]
-"""At which ABIs a right differs in a region, as paths are named."""
-
 FoundAnywhere = Chain | Gain | MountChanges | Unscoped | Room
 
 
 @dataclass
-class _Telling:
-    """What is found so far, by what the numbers of objects stand for."""
+class Direction:
+    """One policy and another, the old one of `sides`, and what is found that passes under the one alone.
 
+    `named` are the rights that differ at each ABI as paths are named, with the objects on which they do, and `moved`
+    the paths to under which moves do, with the ABIs. `kinds` are the rights at each ABI to make objects of the kinds
+    that can be moved to other directories.
+    """
+
+    one: Policy
+    other: Policy
+    sides: Sequence[Sides]
     objects: Sequence[Region]
+    named: Mapping[int, Gone] = field(default_factory=dict)
+    moved: Mapping[str, Abis] = field(default_factory=dict)
+    kinds: Mapping[int, Collection[str]] = field(default_factory=dict)
     found: dict[FoundAnywhere, Abis] = field(default_factory=dict)
     _paths: dict[Numbers, tuple[tuple[str, ...], str | None]] = field(default_factory=dict)
 
@@ -81,81 +88,64 @@ class _Telling:
         return [self.objects[number] for number in sorted(set(chain)) if number != 0]
 
 
-def more(
-    program: Path, one: Policy, other: Policy, objects: RuledObjects, sides: Sequence[Sides], named: Named,
-    moved: Mapping[str, Abis],
-) -> dict[FoundAnywhere, Abis]:
-    """What passes under one policy and not under the other beside what differs as paths are named, with the ABIs.
-
-    `sides` have the other policy as the old one, and `moved` are the paths under which moves differ as paths are named.
-    """
-    telling = _Telling(objects.named)
-    sides = [replace(of, named=_gone(objects, named, of.abi)) for of in sides]
-    kinds = _movable(program, objects, sides)
-    told_by_moves = frozenset[int]().union(*moved.values())
-    everywhere = {abi: {OF_OPENED} | ({REFER} if of and abi not in told_by_moves else set()) for abi, of in kinds.items()}
-    _tell_chains(program, objects, sides, telling, everywhere)
-    _tell_gains(program, objects, sides, telling, kinds, moved)
-    _tell_layers(program, one, other, sides, telling)
-    return telling.found
+def asked_first(of: Direction) -> list[Comparison]:
+    """What is asked before it is known what differs as paths are named."""
+    return [*(sides.moved(making) for sides in of.sides for making in MAKING.values()),
+            *(comparison for _, comparison in _of_layers(of))]
 
 
-def _gone(objects: RuledObjects, named: Named, abi: int) -> dict[int, Rights]:
-    """The rights that differ at an ABI as paths are named, by objects."""
-    gone: dict[int, Rights] = {}
-    for (right, region), at in named.items():
-        if abi in at:
-            number = objects.file(region.path) if region.as_file else objects.directory(region.path)
-            gone[number] = gone.get(number, frozenset()) | {right}
-    return gone
+def tell(ruling: Ruling, directions: Sequence[Direction]) -> None:
+    """Finds what passes beside what differs as paths are named. What is asked of all directions is asked together."""
+    for of in directions:
+        of.kinds = _movable(ruling, of)
+    gained = [comparison for of in directions for *_, comparison in _gained(of)]
+    beyond = [_Beyond(of, sides, of.named.get(sides.abi, {})) for of in directions for sides in of.sides]
+    while beyond:
+        ruling.ask([*gained, *(comparison for one in beyond for comparison in one.comparisons)])
+        beyond = [further for one in beyond for further in one.told(ruling)]
+    for of in directions:
+        _tell_gains(ruling, of)
+        _tell_layers(ruling, of)
 
 
 # ---- what passes on objects
 
-Everywhere = Mapping[int, Collection[str]]
-"""The rights at each ABI that are told where they pass everywhere; any other right differs there as paths are named."""
 
+@dataclass(frozen=True)
+class _Beyond:
+    """What passes on objects at an ABI beside what is gone."""
 
-def _tell_chains(
-    program: Path, objects: RuledObjects, sides: Sequence[Sides], telling: _Telling, everywhere: Everywhere
-) -> None:
-    """Tells each object by which alone something passes, and then those by which it does together without these."""
-    gone: list[tuple[Sides, Mapping[int, Rights]]] = [(of, {}) for of in sides]
-    while gone:
-        answered = list(_asked(program, objects, gone))
-        told = [(of, before, _tell_answers(of, answers, telling, everywhere)) for of, before, answers in answered]
-        gone = [(of, united(before, alone)) for of, before, alone in told if alone]
+    of: Direction
+    sides: Sides
+    gone: Gone
 
+    @cached_property
+    def comparisons(self) -> list[Comparison]:
+        """What is asked of each right."""
+        return [self.sides.beyond(rights, self.gone) for rights in self.sides.asked]
 
-def _asked(
-    program: Path, objects: RuledObjects, gone: Sequence[tuple[Sides, Mapping[int, Rights]]]
-) -> Iterator[tuple[Sides, Mapping[int, Rights], list[ComparisonAnswer]]]:
-    """The answers on all rights, and then on OF_OPENED for each right to open, if a layer handles it."""
-    asked = [[of.beyond(less), *(of.opened(opening, less) for opening in of.openings)] for of, less in gone]
-    found = iter(ruling.answers(program, objects, [comparison for each in asked for comparison in each]))
-    for (of, less), comparisons in zip(gone, asked):
-        yield of, less, [next(found) for _ in comparisons]
+    def told(self, ruling: Ruling) -> Iterator[_Beyond]:
+        """Tells each object by which alone something passes, else those by which it does together. What is asked then
+        is what passes without the former."""
+        alone: dict[str, Objects] = {}
+        for (right, *_), comparison in zip(self.sides.asked, self.comparisons):
+            answer = ruling.answer(comparison)
+            for layer, single, chain in zip(self.sides.old, answer.single, answer.chains):
+                if 0 in single:
+                    if right in self._everywhere:
+                        self.of.add_chain(right, layer.number, (), self.sides.abi)
+                elif chain is not None:
+                    for told in _alone(single) or [chain]:
+                        self.of.add_chain(right, layer.number, told, self.sides.abi)
+                    alone[right] = alone.get(right, frozenset()).union(single)
+        if any(alone.values()):
+            yield _Beyond(self.of, self.sides, united(self.gone, alone))
 
-
-def _tell_answers(
-    of: Sides, answers: Sequence[ComparisonAnswer], telling: _Telling, everywhere: Everywhere
-) -> dict[int, Rights]:
-    """Tells what answers found, and gives the objects by which alone something passes."""
-    gone: dict[int, Rights] = {}
-    for answer, is_opened in zip(answers, (False, True, True)):
-        rights = [right for right in FS.since if is_opened == (right == OF_OPENED)]
-        found = ((right, each) for right in rights for each in zip(of.old, answer.single[right], answer.chains[right]))
-        for right, (layer, single, chain) in found:
-            if chain is None:
-                continue
-            if 0 in single:
-                if right in everywhere[of.abi]:
-                    telling.add_chain(right, layer.number, (), of.abi)
-                continue
-            for told in _alone(single) or [chain]:
-                telling.add_chain(right, layer.number, told, of.abi)
-            gone = united(gone, dict.fromkeys(single, frozenset({right})))
-    return gone
+    @cached_property
+    def _everywhere(self) -> Collection[str]:
+        """The rights that are told where they pass everywhere; any other differs there as paths are named."""
+        by_moves = any(self.sides.abi in abis for abis in self.of.moved.values())
+        return {OF_OPENED, REFER} if self.of.kinds[self.sides.abi] and not by_moves else {OF_OPENED}
 
 
 def _alone(single: Numbers) -> list[Numbers]:
@@ -166,49 +156,48 @@ def _alone(single: Numbers) -> list[Numbers]:
 # ---- what may pass of moves
 
 
-def _movable(program: Path, objects: RuledObjects, sides: Sequence[Sides]) -> dict[int, Collection[str]]:
+def _movable(ruling: Ruling, of: Direction) -> dict[int, Collection[str]]:
     """The rights at each ABI to make objects of the kinds that the new policy lets be moved to other directories."""
-    asked = [of.moved(making) for of in sides for making in MAKING.values()]
-    found = iter(ruling.answers(program, objects, asked))
-    return {of.abi: [making for making in MAKING.values() if next(found).chains[REFER][0] is not None] for of in sides}
+    return {sides.abi: [making for making in MAKING.values()
+                        if ruling.answer(sides.moved(making)).chains[0] is not None] for sides in of.sides}
 
 
-def _tell_gains(
-    program: Path,
-    objects: RuledObjects,
-    sides: Sequence[Sides],
-    telling: _Telling,
-    kinds: Mapping[int, Collection[str]],
-    moved: Mapping[str, Abis],
-) -> None:
-    """Tells what objects may gain by moves of the kinds that can be moved, of rights that pass nowhere else."""
-    able = [of for of in sides if kinds[of.abi]]
-    for of, answer in zip(able, ruling.answers(program, objects, [of.wholly() for of in able])):
-        rights = FS.since if MAKING["dir"] in kinds[of.abi] else FS.ordered(FILE_RIGHTS)
-        for right in rights:
-            for layer, gain, chain in zip(of.old, answer.gains[right], answer.chains[right]):
-                if gain is not None and chain is None:
-                    to, sources = telling.objects[gain.directory].path, tuple(telling.on(gain.chain))
-                    if of.abi not in moved.get(to, _NOTHING):
-                        telling.add(Gain(right, layer.number, to, sources), of.abi)
+def _gained(of: Direction) -> Iterator[tuple[Sides, str, Comparison]]:
+    """What is asked of the rights that objects may gain by moves of the kinds that can be moved."""
+    for sides in of.sides:
+        if kinds := of.kinds[sides.abi]:
+            for right in FS.since if MAKING["dir"] in kinds else FS.ordered(FILE_RIGHTS):
+                yield sides, right, sides.on_both(right, {CHAINS, GAINS})
+
+
+def _tell_gains(ruling: Ruling, of: Direction) -> None:
+    """Tells what objects may gain of rights that pass nowhere else."""
+    for sides, right, comparison in _gained(of):
+        answer = ruling.answer(comparison)
+        for layer, gain, chain in zip(sides.old, answer.gains, answer.chains):
+            if gain is not None and chain is None:
+                to, sources = of.objects[gain.directory].path, tuple(of.on(gain.chain))
+                if sides.abi not in of.moved.get(to, _NOTHING):
+                    of.add(Gain(right, layer.number, to, sources), sides.abi)
 
 
 # ---- mounts, scopes, and the number of layers
 
 
-def _tell_layers(program: Path, one: Policy, other: Policy, sides: Sequence[Sides], telling: _Telling) -> None:
-    """Tells restrictions that are lost, and layers that are left for the program's own.
+def _of_layers(of: Direction) -> list[tuple[int, Comparison]]:
+    """What is asked of the layers at each ABI: a kernel may know scopes or not."""
+    return [(it.abi, Comparison(_scoped(of.other, it.old, scopes=scopes), _scoped(of.one, it.new, scopes=scopes)))
+            for it in of.sides for scopes in (False, True)]
 
-    A kernel may know scopes or not.
-    """
-    both = [(of.abi, Comparison(_scoped(other, of.old, scopes=scopes), _scoped(one, of.new, scopes=scopes)))
-            for of in sides for scopes in (False, True)]
-    answers = ruling.answers(program, RuledObjects({}), [comparison for _, comparison in both])
-    for (abi, comparison), answer in zip(both, answers):
+
+def _tell_layers(ruling: Ruling, of: Direction) -> None:
+    """Tells restrictions that are lost, and layers that are left for the program's own."""
+    for abi, comparison in _of_layers(of):
+        answer = ruling.answer(comparison)
         if answer.spare_layers:
-            telling.add(Room(len(comparison.new), len(comparison.old)), abi)
+            of.add(Room(len(comparison.new), len(comparison.old)), abi)
         for lost in sorted(answer.lost):
-            telling.add(Unscoped(lost) if lost in SCOPES else MountChanges(), abi)
+            of.add(Unscoped(lost) if lost in SCOPES else MountChanges(), abi)
 
 
 def _scoped(policy: Policy, layers: Layers, *, scopes: bool) -> Layers:
@@ -217,6 +206,5 @@ def _scoped(policy: Policy, layers: Layers, *, scopes: bool) -> Layers:
     `layers` are those that handle some right.
     """
     handled = {layer.number: layer.handled for layer in layers}
-    return tuple(Ruled(layer.number, handled.get(layer.number, frozenset()), (),
-                       frozenset(layer.scoped) if scopes else frozenset())
+    return tuple(Ruled(layer.number, handled.get(layer.number, NONE), (), frozenset(layer.scoped) if scopes else NONE)
                  for layer in policy.layers if layer.number in handled or (scopes and layer.scoped))

@@ -8,6 +8,7 @@ from __future__ import annotations
 
 import json
 from collections.abc import Iterable, Sequence
+from concurrent.futures import ThreadPoolExecutor
 from dataclasses import dataclass, field
 from typing import Any
 
@@ -87,6 +88,12 @@ def ask(policies: Iterable[Policy], abi: int) -> None:
         answers = landaudit_rules.ask(landaudit_rules.find(), lines, "--calls", str(abi), first="nnp")
         for (handled, rules), calls in zip(asked.items(), answers):
             _said.setdefault((abi, handled), Calls()).add(rules, calls)
+
+
+def ask_at_each(policies: Sequence[Policy], abis: Iterable[int]) -> None:
+    """The same at several ABIs, with several runs at a time."""
+    with ThreadPoolExecutor() as runs:
+        list(runs.map(lambda abi: ask(policies, abi), abis))
 
 
 def _handled(layer: Layer) -> _Handled:

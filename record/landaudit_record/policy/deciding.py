@@ -18,17 +18,16 @@ from ..common.rights import FILE_RIGHTS, FS, NONE, Rights
 from ..common.trees import ROOT, directory_of, upwards
 from ..engine import landaudit_rules
 from ..recorder import disk
-from . import fitting, parents, ruling
+from . import called, fitting, parents
 from .fitting import FittedLayer
 from .granting import Grant
 from .over_sets import ALL_ABIS, NEVER, SetQuestion, Together
 from .policies import Policy
 from .regions import Area, Region, Regions, areas, as_named
-from .ruling import Comparison, Layers, RuleOnObjects, Ruled, RuledObjects
-from .sides import REFER
+from .ruling import REFER, SINGLE, Comparison, Granting, Layers, Ruled, RuledObjects, RuleOnObjects, Ruling
 
-_EVERYTHING = Ruled(1, FS.groups["all"], ())
-"""A layer that refuses everything: what other layers let pass, they let pass more."""
+_EVERYTHING = Granting(True)
+"""A layer that refuses a right everywhere: where other layers let it pass, they let more pass."""
 
 
 @dataclass(frozen=True)
@@ -68,17 +67,19 @@ def decisions(policy: Policy, questions: Sequence[SetQuestion]) -> list[Decision
     named = named.union(*((*one.under, *one.elsewhere) for one in questions))
     places = _Places.of(sorted((named | {ROOT}) - {NOWHERE}))
     policy = parents.under_all_names(policy, places.kinds)
+    called.ask_at_each([policy], ALL_ABIS)
     by_abi = {abi: [_Granting.of(layer, policy, places) for layer in fitting.fit(policy, abi)[0]] for abi in ALL_ABIS}
     asked = list(dict.fromkeys((abi, rights) for one in questions for abi in one.abis
                                for together in one.asked_at(abi)
                                for rights in (together, *((right,) for right in together if several))))
     objects = RuledObjects.of([path for path in places.kinds if path != ROOT])
     ruled = {abi: _on_objects(layers, objects) for abi, layers in by_abi.items()}
-    comparisons = [_comparison(ruled[abi], rights) for abi, rights in asked]
-    answers = ruling.answers(landaudit_rules.find(), objects, comparisons)
+    about = {(abi, rights): _question(ruled[abi], rights) for abi, rights in asked}
+    ruling = Ruling(landaudit_rules.find(), objects)
+    ruling.ask(about.values())
     regions = objects.named
-    passing = {of: frozenset(regions[number].path for number in answer.single[of[1][0]][0])
-               for of, answer in zip(asked, answers)}
+    passing = {of: frozenset(regions[number].path for number in ruling.answer(question).single[0])
+               for of, question in about.items()}
     breaches = ({abi: _breaches(one, abi, by_abi[abi], places, passing) for abi in one.abis} for one in questions)
     return [Decision(one, tuple(_together(found))) for one, found in zip(questions, breaches)]
 
@@ -167,10 +168,10 @@ def _on_objects(layers: Sequence[_Granting], objects: RuledObjects) -> Layers:
     )) for layer in layers)
 
 
-def _comparison(layers: Layers, rights: Together) -> Comparison:
-    """What landaudit-rules is asked about a right, or about several together under the name of the first."""
-    together = tuple(layer.only(right, rights[0]) for right in rights for layer in layers)
-    return Comparison((_EVERYTHING,), layers if len(rights) == 1 else together, single=frozenset(rights[:1]))
+def _question(layers: Layers, rights: Together) -> Comparison:
+    """What landaudit-rules is asked about a right, or about several together."""
+    together = tuple(layer.of[right] for right in rights for layer in layers)
+    return Comparison((_EVERYTHING,), together, frozenset({SINGLE}))
 
 
 # ---- what passes, in as few areas as there are

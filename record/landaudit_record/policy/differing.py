@@ -9,19 +9,21 @@ each of them does. So it does for moves between regions (`moving`).
 
 from __future__ import annotations
 
+from collections import defaultdict
 from collections.abc import Iterator, Mapping
 from dataclasses import dataclass, field
+from itertools import chain
 
 from ..common.rights import FILE_RIGHTS, FS, NET
 from ..engine import landaudit_rules
-from . import anywhere, moving, ruling, sides
-from .anywhere import Chain, Gain, Named
+from . import anywhere, moving, sides
+from .anywhere import Chain, Direction, Gain
 from .differing_layers import Abis, OfLayers
 from .moving import Move
 from .policies import Policy
 from .regions import Region, Regions
-from .ruling import Comparison, ComparisonAnswer, Passing, RuledObjects
-from .sides import OF_OPENED, OPENING, REFER, Sides
+from .ruling import REFER, REGIONS, Comparison, ComparisonAnswer, Objects, Passing, RuledObjects, Ruling
+from .sides import OF_OPENED, OPENING, Sides
 
 _NONE: Abis = frozenset()
 
@@ -61,29 +63,37 @@ class Differences:
 
 def differences(old: Policy, new: Policy, abis: range) -> Differences:
     """All differences of two policies at some ABIs."""
-    rules = landaudit_rules.find()
     regions = Regions.of((old, new))
     objects = RuledObjects.of(regions.ruled)
+    ruling = Ruling(landaudit_rules.find(), objects)
     both = [sides.at(regions, objects, abi) for abi in abis]
-    found = Differences(regions)
-    answers = ruling.answers(rules, objects, [_asked(of, objects, regions) for of in both])
-    for of, answer in zip(both, answers):
-        for right, is_new in _rights(objects, regions, answer):
-            found.add(right, of.abi, is_new)
-        for move, is_new in moving.differing(objects, answer):
-            found.add(move, of.abi, is_new)
-    found.tried = _tried(objects, regions)
+    asked = [_asked(of, objects, regions) for of in both]
     turned = [of.turned() for of in both]
-    for differing, one, other, seen in ((found.more, new, old, both), (found.less, old, new, turned)):
-        rest = anywhere.more(rules, one, other, objects, seen, _named(differing), _moved_to(differing))
-        differing.update(rest.items())
+    directions = Direction(new, old, both, objects.named), Direction(old, new, turned, objects.named)
+    ruling.ask(chain(*(one.values() for one in asked), *map(anywhere.asked_first, directions)))
+    found = Differences(regions, tried=_tried(objects, regions))
+    for of, comparisons in zip(both, asked):
+        answers = {about: ruling.answer(one) for about, one in comparisons.items()}
+        for right, is_new in _rights(objects, regions, answers):
+            found.add(right, of.abi, is_new)
+        for move, is_new in moving.differing(objects, answers[_ALL]):
+            found.add(move, of.abi, is_new)
+    for direction, differing in zip(directions, (found.more, found.less)):
+        direction.named, direction.moved = _named(objects, differing), _moved_to(differing)
+    anywhere.tell(ruling, directions)
+    for direction, differing in zip(directions, (found.more, found.less)):
+        differing.update(direction.found.items())
     return found
 
 
-def _named(differing: Mapping[Differing, Abis]) -> Named:
-    """The rights that differ in regions, with the ABIs at which they do."""
-    return {(subject.right, subject.region): abis for subject, abis in differing.items()
-            if isinstance(subject, RightAt) and subject.region is not None}
+def _named(objects: RuledObjects, differing: Mapping[Differing, Abis]) -> dict[int, dict[str, Objects]]:
+    """The objects on which rights differ, by ABIs and rights."""
+    found = defaultdict[int, defaultdict[str, set[int]]](lambda: defaultdict(set))
+    for subject, abis in differing.items():
+        if isinstance(subject, RightAt) and subject.region is not None:
+            for abi in abis:
+                found[abi][subject.right].add(objects.number(subject.region))
+    return {abi: {right: frozenset(on) for right, on in of.items()} for abi, of in found.items()}
 
 
 def _moved_to(differing: Mapping[Differing, Abis]) -> Mapping[str, Abis]:
@@ -97,11 +107,17 @@ def _moved_to(differing: Mapping[Differing, Abis]) -> Mapping[str, Abis]:
 
 # ---- what landaudit-rules answers
 
+_ALL = "all"
+"""What is asked of all rights together."""
 
-def _asked(of: Sides, objects: RuledObjects, regions: Regions) -> Comparison:
-    """The policies, with the regions and a port of each group; one more port stands for those without a rule."""
-    return Comparison(of.old, of.new, objects.parents, len(regions.numbered_ports), regions=FS.groups["all"] - {REFER},
-                      moves=frozenset(moving.MAKING.values()))
+
+def _asked(of: Sides, objects: RuledObjects, regions: Regions) -> dict[str, Comparison]:
+    """What is asked: of each right, in which regions it passes, and of all, which moves do, and what on a port of each
+    group; one more port stands for those without a rule."""
+    of_all = Comparison(of.old, of.new, parents=objects.parents, ports=len(regions.numbered_ports),
+                        moves=frozenset(moving.MAKING.values()))
+    of_each = (right for right in FS.since if right != REFER)
+    return {_ALL: of_all, **{right: of.on_both(right, {REGIONS}, objects.parents) for right in of_each}}
 
 
 def _tried(objects: RuledObjects, regions: Regions) -> int:
@@ -114,22 +130,24 @@ def _tried(objects: RuledObjects, regions: Regions) -> int:
     return of_files + moves + len(NET.since) * len(regions.numbered_ports)
 
 
-def _rights(objects: RuledObjects, regions: Regions, answer: ComparisonAnswer) -> Iterator[tuple[RightAt, bool]]:
+def _rights(
+    objects: RuledObjects, regions: Regions, answers: Mapping[str, ComparisonAnswer]
+) -> Iterator[tuple[RightAt, bool]]:
     """Each right in each region and on each port where one policy alone lets it pass, and whether the new one does."""
     named, ports = objects.named, regions.numbered_ports
     for right in FS.since:
         if right != REFER:
-            for number, is_new in _alone(answer.regions[right]):
+            for number, is_new in _alone(answers[right].regions):
                 region = named[number]
-                if (not region.as_file or right in FILE_RIGHTS) and _can_be_told(right, number, answer):
+                if (not region.as_file or right in FILE_RIGHTS) and _can_be_told(right, number, answers):
                     yield RightAt(right, region), is_new
-    for right in NET.since:
-        yield from ((RightAt(right, port=ports[number]), is_new) for number, is_new in _alone(answer.ports[right]))
+    for right, passing in answers[_ALL].ports.items():
+        yield from ((RightAt(right, port=ports[number]), is_new) for number, is_new in _alone(passing))
 
 
-def _can_be_told(right: str, number: int, answer: ComparisonAnswer) -> bool:
+def _can_be_told(right: str, number: int, answers: Mapping[str, ComparisonAnswer]) -> bool:
     """Whether a right can be told from a call: OF_OPENED is asked of what both policies let be opened."""
-    return right != OF_OPENED or any(number in answer.regions[opening].both for opening in OPENING)
+    return right != OF_OPENED or any(number in answers[opening].regions.both for opening in OPENING)
 
 
 def _alone(passing: Passing) -> Iterator[tuple[int, bool]]:

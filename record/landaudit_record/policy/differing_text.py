@@ -7,7 +7,8 @@ from collections.abc import Iterable, Iterator
 from ..common.wording import plain, runs, span, spans
 from .differing_rows import DifferenceRow, Gains, Moves, RightsInArea, RightsOnMoved, RightsOnPorts, What
 from .reviewing import EVERYTHING, Review
-from .sides import OF_OPENED, REFER
+from .ruling import REFER
+from .sides import OF_OPENED
 
 _KINDS = {
     "reg": "regular files",

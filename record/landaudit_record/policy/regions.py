@@ -12,14 +12,14 @@ from __future__ import annotations
 
 from collections import defaultdict
 from collections.abc import Iterable, Iterator, Mapping, Sequence
-from dataclasses import dataclass
+from dataclasses import dataclass, replace
 from functools import cache, cached_property
 
 from ..common.rights import FILE_RIGHTS, NEWEST_ABI, NONE, OLDEST_ABI, Rights
 from ..common.trees import ROOT, Tree, upwards
-from . import fitting
+from . import called, fitting
 from .fitting import FittedLayer
-from .policies import HIGHEST_PORT, Layer, Policy
+from .policies import HIGHEST_PORT, Access, Layer, PathRule, Policy
 
 ALL_ABIS = range(OLDEST_ABI, NEWEST_ABI + 1)
 
@@ -45,7 +45,8 @@ class Regions:
         layers = [layer for policy in policies for layer in policy.layers]
         rules = [rule for layer in layers for rule in layer.path_beneath]
         paths = {as_named(parent) for rule in rules for parent in rule.parents}
-        fitted = tuple({abi: fitting.fit(policy, abi)[0] for abi in ALL_ABIS} for policy in policies)
+        called.ask_at_each(policies, ALL_ABIS)
+        fitted = tuple({abi: fitting.fit(policy, abi)[0] for abi in ALL_ABIS} for policy in map(_together, policies))
         return cls(tuple(sorted(paths | {ROOT})), _ports_alike(layers), frozenset(_directories(fitted)), fitted)
 
     @property
@@ -80,6 +81,21 @@ class Regions:
     def _above(self) -> Mapping[str, str | None]:
         known = frozenset(self.paths)
         return {path: next((over for over in list(upwards(path))[1:] if over in known), None) for path in self.paths}
+
+
+def _together(policy: Policy) -> Policy:
+    """The policy with one rule for all parents of rules that allow the same in a layer."""
+    return replace(policy, layers=tuple(
+        replace(layer, path_beneath=tuple(_united(layer.path_beneath))) for layer in policy.layers))
+
+
+def _united(rules: Iterable[PathRule]) -> Iterator[PathRule]:
+    """One rule for all parents of rules that allow the same."""
+    alike: defaultdict[tuple[Access, str | None], list[PathRule]] = defaultdict(list)
+    for rule in rules:
+        alike[rule.allowed_access, rule.group].append(rule)
+    for each in alike.values():
+        yield replace(each[0], parents=tuple(parent for rule in each for parent in rule.parents))
 
 
 def _ports_alike(layers: Sequence[Layer]) -> tuple[tuple[int, ...], ...]:

@@ -1,17 +1,17 @@
-"""Asks landaudit-rules what two policies let pass.
+"""Asks landaudit-rules what two policies let pass (landaudit-rules(1)), with rules on objects by number.
 
-A comparison has the layers of both policies with rules on objects by number (landaudit-rules(1)).
+Where a right passes depends on what each layer says of this right alone (`granting`, of `ll_policy`). So a comparison
+about a right does not name it: it is the same for all rights of which layers say the same, at whatever ABI.
 """
 
 from __future__ import annotations
 
 import json
-from collections import defaultdict
 from collections.abc import Iterable, Mapping, Sequence
 from dataclasses import dataclass, field
 from functools import cache, cached_property
 from pathlib import Path
-from typing import Any
+from typing import Any, NamedTuple
 
 from ..common.rights import FS, NET, NONE, Rights
 from ..common.trees import ROOT, upwards
@@ -19,6 +19,7 @@ from ..engine import landaudit_rules
 from .regions import Region, as_named
 
 Numbers = tuple[int, ...]
+Objects = frozenset[int]
 Parents = tuple[str, ...]
 Files = tuple[tuple[str, int], ...]
 
@@ -42,6 +43,10 @@ class RuledObjects:
     def file(self, path: str) -> int:
         """The number of a path as a file."""
         return 2 * self.paths[path] + 2
+
+    def number(self, region: Region) -> int:
+        """The number of what a region is of."""
+        return self.file(region.path) if region.as_file else self.directory(region.path)
 
     def beneath(self, parents: Parents) -> tuple[Numbers, Files]:
         """The numbers of the parents of a rule as directories, and of those that may be files with their paths."""
@@ -68,21 +73,15 @@ class RuledObjects:
         return [Region(ROOT), *(Region(path, as_file) for path in self.paths for as_file in (False, True))]
 
 
+# ---- what layers say
+
+
 @dataclass(frozen=True)
 class RuleOnObjects:
     """What a rule grants on objects by their numbers."""
 
     rights: Rights
     objects: Numbers
-
-    def less(self, gone: Mapping[int, Rights]) -> Iterable[RuleOnObjects]:
-        """The rule without some rights on some objects."""
-        if gone.keys().isdisjoint(self.objects):
-            return (self,)
-        left: defaultdict[Rights, list[int]] = defaultdict(list)
-        for number in self.objects:
-            left[self.rights - gone.get(number, NONE)].append(number)
-        return (RuleOnObjects(rights, tuple(objects)) for rights, objects in left.items())
 
 
 @dataclass(frozen=True)
@@ -91,6 +90,22 @@ class RuleOnPorts:
 
     rights: Rights
     ports: Numbers
+
+
+class Granting(NamedTuple):
+    """What a layer says of one right: whether it handles it, and the objects on which its rules grant it."""
+
+    handles: bool
+    on: Objects = frozenset()
+
+    def less(self, gone: Objects) -> Granting:
+        """The same without a grant on some objects."""
+        return Granting(self.handles, self.on - gone)
+
+    def record(self) -> dict[str, Any]:
+        """A layer that says this of the right that is asked about."""
+        rules = [{"objects": sorted(self.on), "fs": [_ASKED]}] if self.on else []
+        return {"fs": [_ASKED] if self.handles else [], "object_rules": rules}
 
 
 @dataclass(frozen=True)
@@ -104,28 +119,32 @@ class Ruled:
     handled_net: Rights = NONE
     port_rules: tuple[RuleOnPorts, ...] = ()
 
-    def less(self, gone: Mapping[int, Rights]) -> Ruled:
-        """The layer without some rights on some objects."""
-        return Ruled(self.number, self.handled, tuple(one for rule in self.rules for one in rule.less(gone)), self.scoped)
+    @cached_property
+    def of(self) -> Mapping[str, Granting]:
+        """What it says of each right for files. As in the kernel, `refer` is handled with any other right."""
+        return {right: Granting(bool(self.handled) if right == REFER else right in self.handled, frozenset(
+            number for rule in self.rules if right in rule.rights for number in rule.objects)) for right in FS.since}
 
-    def only(self, right: str, named: str | None = None) -> Ruled:
-        """The layer with one right alone, which gets another name if one is given."""
-        rights = frozenset({named or right})
-        rules = tuple(RuleOnObjects(rights, rule.objects) for rule in self.rules if right in rule.rights)
-        return Ruled(self.number, rights if right in self.handled else frozenset(), rules)
-
-    def record(self, *, of_ports: bool) -> dict[str, Any]:
-        """The layer as a comparison has it, with its rules on ports if that is about ports."""
-        rules = [{"objects": rule.objects, "fs": _names(rule.rights)}
-                 for rule in self.rules if rule.rights and rule.objects]
-        record = {"fs": _names(self.handled), "object_rules": rules}
-        if of_ports:
-            record["net"] = NET.ordered(self.handled_net)
-            record["port_rules"] = [{"ports": rule.ports, "net": NET.ordered(rule.rights)} for rule in self.port_rules]
-        return {**record, **{scope: True for scope in sorted(self.scoped)}}
+    def record(self) -> dict[str, Any]:
+        """The layer as a comparison has it."""
+        return {
+            "fs": _names(self.handled),
+            "object_rules": [{"objects": rule.objects, "fs": _names(rule.rights)} for rule in self.rules],
+            "net": NET.ordered(self.handled_net),
+            "port_rules": [{"ports": rule.ports, "net": NET.ordered(rule.rights)} for rule in self.port_rules],
+            **{scope: True for scope in sorted(self.scoped)},
+        }
 
 
 Layers = tuple[Ruled, ...]
+Grantings = tuple[Granting, ...]
+
+#: What asks for a move to another directory: `refer`, and the right to make an object of the kind there.
+REFER = "refer"
+#: The name of the right that is asked about; it is the first in an answer.
+_ASKED = next(iter(FS.since))
+#: What is asked of a right.
+PARTS = REGIONS, CHAINS, SINGLE, GAINS = "regions", "objects", "single", "gains"
 
 
 @cache
@@ -134,31 +153,28 @@ def _names(rights: Rights) -> list[str]:
     return FS.ordered(rights)
 
 
+# ---- what is asked, and what is answered
+
+
 @dataclass(frozen=True)
 class Comparison:
-    """The layers of two policies, and what is asked: in which regions rights pass, by what each object is in; which pass
-    on objects together and by themselves, and which are gained; which moves of objects that these rights make; and on
-    which of so many ports rights do."""
+    """Two policies by their layers, and what is asked of them: on which of so many ports rights pass, and which moves of
+    objects that these rights make, by what each object is in; or, by what layers say of one right, `parts` of where
+    it passes: in which regions, on which objects together and by themselves, and by which moves it is gained."""
 
-    old: Layers
-    new: Layers
+    old: Layers | Grantings
+    new: Layers | Grantings
+    parts: frozenset[str] = frozenset()
     parents: Numbers = ()
     ports: int = 0
-    regions: Rights = NONE
-    objects: Rights = NONE
-    single: Rights = NONE
-    gains: Rights = NONE
     moves: Rights = NONE
 
     def line(self, objects: RuledObjects) -> str:
         """The comparison as a line of JSON."""
-        sides = {name: [layer.record(of_ports=self.ports > 0) for layer in side]
-                 for name, side in (("old", self.old), ("new", self.new))}
-        about = {"files": objects.files, "parents": self.parents, "ports": self.ports}
-        asked = {"regions": self.regions, "objects": self.objects, "single": self.single, "gains": self.gains,
-                 "moves": self.moves}
-        return json.dumps({**about, **{name: _names(of) for name, of in asked.items()}, **sides},
-                          separators=(",", ":"))
+        asked = {part: [_ASKED] if part in self.parts else [] for part in PARTS}
+        sides = {name: [layer.record() for layer in side] for name, side in (("old", self.old), ("new", self.new))}
+        about = {"files": objects.files, "parents": self.parents, "ports": self.ports, "moves": _names(self.moves)}
+        return json.dumps({**about, **asked, **sides}, separators=(",", ":"))
 
 
 @dataclass(frozen=True)
@@ -190,31 +206,30 @@ class Passing:
 
 @dataclass(frozen=True)
 class ComparisonAnswer:
-    """What landaudit-rules found: where each right passes; for each kind of objects the moves that pass under one policy
-    alone; and, for each right for files and each old layer by its index, what passes once objects are moved. Of what is
-    about files it is only what was asked."""
+    """What landaudit-rules found of the right that was asked about: where it passes and, for each old layer by its
+    index, what passes once objects are moved; on which ports each right passes; and for each kind of objects the moves
+    that pass under one policy alone. Of what is about files it is only what was asked."""
 
-    regions: Mapping[str, Passing]
+    regions: Passing
+    chains: list[Numbers | None]
+    single: list[Numbers]
+    gains: list[Into | None]
     ports: Mapping[str, Passing]
     moves: list[list[Moved]]
-    single: Mapping[str, list[Numbers]]
-    chains: Mapping[str, list[Numbers | None]]
-    gains: Mapping[str, list[Into | None]]
     lost: frozenset[str]
     spare_layers: int
 
     @classmethod
     def read(cls, found: Mapping[str, Any]) -> ComparisonAnswer:
         """The answer on a line."""
-        of = {name: dict(zip(FS.since, found[name])) for name in ("single", "objects", "gains")}
+        regions, chains, single, gains = (found[part][0] for part in PARTS)
         return cls(
-            _passing(FS.since, found["regions"]),
-            _passing(NET.since, found["ports"]),
+            _passing(regions),
+            [None if one is None else tuple(one) for one in chains],
+            [tuple(one) for one in single],
+            [None if one is None else Into(one["directory"], tuple(one["chain"])) for one in gains],
+            dict(zip(NET.since, map(_passing, found["ports"]))),
             [_moved(by_region) for by_region in found["moves"]],
-            {right: [tuple(one) for one in row] for right, row in of["single"].items()},
-            {right: [None if one is None else tuple(one) for one in row] for right, row in of["objects"].items()},
-            {right: [None if one is None else Into(one["directory"], tuple(one["chain"])) for one in row]
-             for right, row in of["gains"].items()},
             frozenset(name for name, layer in found["lost"].items() if layer is not None),
             found["spare_layers"],
         )
@@ -226,15 +241,25 @@ def _moved(by_region: Sequence[Mapping[str, Mapping[str, list[int]]] | None]) ->
             for to, moved in enumerate(by_region) if moved is not None for policy, movers in moved.items()]
 
 
-def _passing(rights: Iterable[str], found: Sequence[Mapping[str, list[int]]]) -> dict[str, Passing]:
-    """Where each right passes."""
-    return {right: Passing(*(frozenset(where[policies]) for policies in ("both", "new", "old")))
-            for right, where in zip(rights, found)}
+def _passing(found: Mapping[str, list[int]]) -> Passing:
+    """Where a right passes."""
+    return Passing(*(frozenset(found[policies]) for policies in ("both", "new", "old")))
 
 
-def answers(program: Path, objects: RuledObjects, comparisons: Sequence[Comparison]) -> list[ComparisonAnswer]:
-    """What is found of comparisons; those that are the same are asked about once."""
-    lines = [comparison.line(objects) for comparison in comparisons]
-    asked = list(dict.fromkeys(lines))
-    found = dict(zip(asked, landaudit_rules.ask(program, asked)))
-    return [ComparisonAnswer.read(found[line][0]) for line in lines]
+@dataclass(frozen=True)
+class Ruling:
+    """The answers to comparisons over some objects; each is asked once."""
+
+    program: Path
+    objects: RuledObjects
+    _known: dict[Comparison, ComparisonAnswer] = field(default_factory=dict)
+
+    def ask(self, comparisons: Iterable[Comparison]) -> None:
+        """Asks what is not known, all together."""
+        asked = [one for one in dict.fromkeys(comparisons) if one not in self._known]
+        found = landaudit_rules.ask(self.program, [one.line(self.objects) for one in asked])
+        self._known.update((one, ComparisonAnswer.read(values[0])) for one, values in zip(asked, found))
+
+    def answer(self, asked: Comparison) -> ComparisonAnswer:
+        """The answer to a comparison that was asked."""
+        return self._known[asked]

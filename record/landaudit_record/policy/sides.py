@@ -6,75 +6,66 @@ A path with a rule is two objects, a directory and a file. None is in force on a
 from __future__ import annotations
 
 from collections import defaultdict
-from collections.abc import Mapping, Sequence
-from dataclasses import dataclass, field, replace
+from collections.abc import Iterable, Mapping, Sequence
+from dataclasses import dataclass
 
 from ..common.rights import FILE_RIGHTS, FS, Rights
 from .fitting import FittedLayer
 from .regions import Regions
-from .ruling import Comparison, Layers, RuleOnObjects, RuleOnPorts, Ruled, RuledObjects
+from .ruling import (
+    CHAINS, REFER, SINGLE, Comparison, Granting, Layers, Numbers, Objects, Ruled, RuledObjects, RuleOnObjects,
+    RuleOnPorts,
+)
 
 #: A right that no call asks alone: the device must be opened first, for reading or for writing.
 OF_OPENED = "ioctl_dev"
 OPENING = ("read_file", "write_file")
-#: What is opened, and what is not.
-_OPENED = frozenset({OF_OPENED})
-_OTHERS = FS.groups["all"] - _OPENED
-#: What asks for a move to another directory: `refer`, and the right to make an object of the kind there.
-REFER = "refer"
+
+Gone = Mapping[str, Objects]
+"""The objects on which a right is left out, by rights."""
+
+_NOTHING: Objects = frozenset()
 
 
 @dataclass(frozen=True)
 class Sides:
-    """The layers of both policies at an ABI, and what differs there as paths are named."""
+    """The layers of both policies at an ABI."""
 
     abi: int
     old: Layers
     new: Layers
-    named: Mapping[int, Rights] = field(default_factory=dict)
 
     @property
-    def openings(self) -> Sequence[str]:
-        """The rights to open what OF_OPENED is asked of, if an old layer handles that."""
-        return OPENING if any(OF_OPENED in layer.handled for layer in self.old) else ()
+    def asked(self) -> list[tuple[str, ...]]:
+        """Each right with what has to pass too: OF_OPENED is asked of what was opened, if an old layer handles it."""
+        opened = any(OF_OPENED in layer.handled for layer in self.old)
+        return [*((right,) for right in FS.since if right != OF_OPENED),
+                *((OF_OPENED, opening) for opening in OPENING if opened)]
 
     def turned(self) -> Sides:
         """The policies the other way round."""
         return Sides(self.abi, self.new, self.old)
 
-    def beyond(self, gone: Mapping[int, Rights]) -> Comparison:
-        """The policies without what differs as paths are named, nor some rights on some objects."""
-        return Comparison(self.old, self._less(self.new, gone), objects=_OTHERS, single=_OTHERS)
+    def on_both(self, right: str, parts: Iterable[str], parents: Numbers = ()) -> Comparison:
+        """What is asked of a right under both policies."""
+        old, new = (tuple(layer.of[right] for layer in side) for side in (self.old, self.new))
+        return Comparison(old, new, frozenset(parts), parents)
 
-    def opened(self, opening: str, gone: Mapping[int, Rights]) -> Comparison:
-        """The same of OF_OPENED where the new policy lets an object be opened."""
-        new = [layer.only(OF_OPENED) for layer in self.new]
-        new += [layer.only(opening, OF_OPENED) for layer in self.new]
-        old = tuple(layer.only(OF_OPENED) for layer in self.old)
-        return Comparison(old, self._less(new, gone), objects=_OPENED, single=_OPENED)
+    def beyond(self, rights: Sequence[str], gone: Gone) -> Comparison:
+        """On which objects the new policy lets rights pass, and the old one does not the first, beside what is gone."""
+        right, less = rights[0], gone.get(rights[0], _NOTHING)
+        new = tuple(layer.of[each].less(less) for each in rights for layer in self.new)
+        return Comparison(tuple(layer.of[right] for layer in self.old), new, frozenset({CHAINS, SINGLE}))
 
     def moved(self, making: str) -> Comparison:
-        """Whether the new policy lets some object be made by a move: the old layer refuses it everywhere.
-
-        A layer that handles some right for files handles REFER.
-        """
-        new = [replace(layer.only(REFER), handled=frozenset({REFER})) for layer in self.new if layer.handled]
-        new += [layer.only(making, REFER) for layer in self.new]
-        return Comparison((Ruled(1, frozenset({REFER}), ()),), tuple(new), objects=frozenset({REFER}))
-
-    def wholly(self) -> Comparison:
-        """The policies as they are, and what objects gain."""
-        return Comparison(self.old, self.new, objects=FS.groups["all"], gains=FS.groups["all"])
-
-    def _less(self, layers: Sequence[Ruled], gone: Mapping[int, Rights]) -> Layers:
-        both = united(self.named, gone)
-        return tuple(layer.less(both) for layer in layers)
+        """Whether the new policy lets some object be made by a move: the old layer refuses it everywhere."""
+        new = tuple(layer.of[right] for right in (REFER, making) for layer in self.new)
+        return Comparison((Granting(True),), new, frozenset({CHAINS}))
 
 
-def united(one: Mapping[int, Rights], other: Mapping[int, Rights]) -> dict[int, Rights]:
-    """The rights of both on each object."""
-    none = frozenset[str]()
-    return {number: one.get(number, none) | other.get(number, none) for number in one.keys() | other.keys()}
+def united(one: Gone, other: Gone) -> Gone:
+    """What is gone in either."""
+    return {right: one.get(right, _NOTHING) | other.get(right, _NOTHING) for right in one.keys() | other.keys()}
 
 
 def at(regions: Regions, objects: RuledObjects, abi: int) -> Sides:

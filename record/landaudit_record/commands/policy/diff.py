@@ -21,7 +21,6 @@ from ...policy.parents import Parent
 from ...policy.policies import Policy
 from ...policy.reviewing import EVERYTHING, NOTHING, Review
 from ...summaries import reporting
-from ...summaries.reporting import compared
 
 NAME = "diff"
 HELP = "show what a new policy allows and an old one refuses, and the reverse, whatever files exist"
@@ -64,6 +63,8 @@ def run(arguments: argparse.Namespace) -> int:
     if arguments.format == reporting.JSON:
         print(json.dumps(differing_data.as_data(review), indent=2))
     elif arguments.format != reporting.TEXT:
+        from ...summaries.reporting import compared  # as below
+
         reporting.show(compared.report(review, new), arguments.format)
     else:
         for line in differing_text.lines(review):

@@ -3,16 +3,13 @@
 from __future__ import annotations
 
 import argparse
-from collections.abc import Callable, Iterator, Mapping
+import importlib
 
 from ...common.findings import Report
-from . import github, junit, markdown, sarif
 
 TEXT, JSON = "text", "json"
-_LINES: Mapping[str, Callable[[Report], Iterator[str]]] = {
-    "sarif": sarif.lines, "junit": junit.lines, "markdown": markdown.lines, "github": github.lines,
-}
-FORMATS = (TEXT, JSON, *_LINES)
+#: Each of the others is printed by the module of its name.
+FORMATS = (TEXT, JSON, "sarif", "junit", "markdown", "github")
 
 
 def add_format(parser: argparse.ArgumentParser, text: str = "text for a person") -> None:
@@ -29,6 +26,6 @@ def add_format(parser: argparse.ArgumentParser, text: str = "text for a person")
 
 
 def show(report: Report, chosen: str) -> None:
-    """Prints a report in a format."""
-    for line in _LINES[chosen](report):
+    """Prints a report in a format; importing all of them takes longer than most reports."""
+    for line in importlib.import_module(f"{__name__}.{chosen}").lines(report):
         print(line)
