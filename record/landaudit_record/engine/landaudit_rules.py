@@ -9,7 +9,6 @@ import subprocess
 import sys
 from collections.abc import Sequence
 from concurrent.futures import ThreadPoolExecutor
-from itertools import zip_longest
 from pathlib import Path
 from typing import Any
 
@@ -42,19 +41,30 @@ def find() -> Path:
 def ask(program: Path, asked: Sequence[str], *words: str, first: str | None = None) -> list[list[Any]]:
     """The values that the program answers to each of some lines. An answer begins with the operation `first`, or is one
     value; a fault of a run is a Problem. Several lines are answered by several runs at a time."""
+    found: dict[int, list[Any]] = {}
+    parts = _parts(asked)
+    with ThreadPoolExecutor() as runs:
+        texts = runs.map(lambda part: _run([str(program), *words], _input(asked, part)), parts)
+        for part, text in zip(parts, texts):
+            answers = _answers(text, first)
+            if len(answers) != len(part):
+                said = f"{NAME} answers {len(answers)} of {len(part)} lines"
+                raise Problem(f"{said}: use programs of one version", WANTING)
+            found.update(zip(part, answers))
+    return [found[number] for number in range(len(asked))]
+
+
+def _parts(asked: Sequence[str]) -> list[list[int]]:
+    """The numbers of the lines for each run, one for each processor: the longest lines are given to them in turn."""
     runs = min(len(asked), len(os.sched_getaffinity(0)))
-    with ThreadPoolExecutor() as pool:
-        texts = pool.map(lambda run: _run([str(program), *words], _part(asked, run, runs)), range(runs))
-    turns = zip_longest(*(_answers(text, first) for text in texts))
-    found = [answer for turn in turns for answer in turn if answer is not None]
-    if len(found) != len(asked):
-        raise Problem(f"{NAME} answers {len(found)} of {len(asked)} lines: use programs of one version", WANTING)
-    return found
+    longest_first = sorted(range(len(asked)), key=lambda number: -len(asked[number]))
+    return [sorted(longest_first[run::runs]) for run in range(runs)]
 
 
-def _part(asked: Sequence[str], run: int, runs: int) -> str:
-    """The input of a run: runs take lines in turn, with blank ones in place of the others', for a fault's number."""
-    return "".join(f"{line if number % runs == run else ''}\n" for number, line in enumerate(asked))
+def _input(asked: Sequence[str], part: Sequence[int]) -> str:
+    """The lines of a run; blank ones are in place of the others, for a fault's number."""
+    mine = frozenset(part)
+    return "".join(f"{line if number in mine else ''}\n" for number, line in enumerate(asked))
 
 
 def _answers(text: str, first: str | None) -> list[list[Any]]:

@@ -17,7 +17,7 @@ from .differing_layers import Abis, MountChanges, Room, Unscoped
 from .moving import MAKING
 from .policies import Policy
 from .regions import Region
-from .ruling import CHAINS, GAINS, REFER, Comparison, Layers, Numbers, Objects, Ruled, Ruling
+from .ruling import CHAINS, GAINS, NOTHING, REFER, Comparison, Layers, Numbers, Objects, Ruled, Ruling
 from .sides import OF_OPENED, Gone, Sides, united
 
 _NOTHING: Abis = frozenset()
@@ -77,11 +77,12 @@ class Direction:
 
     def add_chain(self, right: str, layer: int, chain: Numbers, abi: int) -> None:
         """Adds a chain by the numbers of its objects; many rights and ABIs have the same chain."""
-        if chain not in self._paths:
+        paths = self._paths.get(chain)
+        if paths is None:
             on = self.on(chain)
             file = next((one.path for one in on if one.as_file), None)
-            self._paths[chain] = tuple(one.path for one in on if not one.as_file), file
-        self.add(Chain(right, layer, *self._paths[chain]), abi)
+            paths = self._paths[chain] = tuple(one.path for one in on if not one.as_file), file
+        self.add(Chain(right, layer, *paths), abi)
 
     def on(self, chain: Iterable[int]) -> list[Region]:
         """What a chain is of besides the root."""
@@ -137,7 +138,7 @@ class _Beyond:
                 elif chain is not None:
                     for told in _alone(single) or [chain]:
                         self.of.add_chain(right, layer.number, told, self.sides.abi)
-                    alone[right] = alone.get(right, frozenset()).union(single)
+                    alone[right] = alone.get(right, NOTHING).union(single)
         if any(alone.values()):
             yield _Beyond(self.of, self.sides, united(self.gone, alone))
 

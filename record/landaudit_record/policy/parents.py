@@ -84,9 +84,10 @@ def under_all_names(policy: Policy, paths: Iterable[str]) -> Policy:
     them, and there is no link on the way of a path.
     """
     names = by_object(paths)
+    identity = cache(_identity)
 
     def all_names(rule: PathRule) -> tuple[str, ...]:
-        others = (name for parent in rule.parents if (of := _identity(parent)) for name in names.get(of, ()))
+        others = (name for parent in rule.parents if (of := identity(parent)) for name in names.get(of, ()))
         written = {parent.rstrip("/") for parent in rule.parents}
         return (*rule.parents, *dict.fromkeys(name for name in others if name.rstrip("/") not in written))
 
@@ -138,8 +139,9 @@ def with_other_names(policy: Policy, paths: Iterable[str]) -> list[str]:
     """The parents that are files of this disk with names (hard links) beside those of the policy and some paths."""
     written = dict.fromkeys(it.rstrip("/") or ROOT for layer in policy.layers for rule in layer.path_beneath
                             for it in rule.parents)
-    known = Counter(_identity(path) for path in written | dict.fromkeys(paths))
-    return [path for path in written if (of := _identity(path)) is not None and _links(path) > known[of]]
+    identities = {path: _identity(path) for path in written | dict.fromkeys(paths)}
+    known = Counter(identities.values())
+    return [path for path in written if (of := identities[path]) is not None and _links(path) > known[of]]
 
 
 def has_other_names(path: str) -> bool:

@@ -45,8 +45,9 @@ class Regions:
         layers = [layer for policy in policies for layer in policy.layers]
         rules = [rule for layer in layers for rule in layer.path_beneath]
         paths = {as_named(parent) for rule in rules for parent in rule.parents}
-        called.ask_at_each(policies, ALL_ABIS)
-        fitted = tuple({abi: fitting.fit(policy, abi)[0] for abi in ALL_ABIS} for policy in map(_together, policies))
+        together = list(map(_together, policies))
+        called.ask_at_each(together, ALL_ABIS)
+        fitted = tuple({abi: fitting.fit(policy, abi)[0] for abi in ALL_ABIS} for policy in together)
         return cls(tuple(sorted(paths | {ROOT})), _ports_alike(layers), frozenset(_directories(fitted)), fitted)
 
     @property

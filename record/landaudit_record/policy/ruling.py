@@ -20,6 +20,7 @@ from .regions import Region, as_named
 
 Numbers = tuple[int, ...]
 Objects = frozenset[int]
+NOTHING: Objects = frozenset()
 Parents = tuple[str, ...]
 Files = tuple[tuple[str, int], ...]
 
@@ -96,7 +97,7 @@ class Granting(NamedTuple):
     """What a layer says of one right: whether it handles it, and the objects on which its rules grant it."""
 
     handles: bool
-    on: Objects = frozenset()
+    on: Objects = NOTHING
 
     def less(self, gone: Objects) -> Granting:
         """The same without a grant on some objects."""
@@ -122,8 +123,9 @@ class Ruled:
     @cached_property
     def of(self) -> Mapping[str, Granting]:
         """What it says of each right for files. As in the kernel, `refer` is handled with any other right."""
-        return {right: Granting(bool(self.handled) if right == REFER else right in self.handled, frozenset(
-            number for rule in self.rules if right in rule.rights for number in rule.objects)) for right in FS.since}
+        handled = self.handled | {REFER} if self.handled else NONE
+        return {right: Granting(right in handled, NOTHING.union(
+            *(rule.objects for rule in self.rules if right in rule.rights))) for right in FS.since}
 
     def record(self) -> dict[str, Any]:
         """The layer as a comparison has it."""

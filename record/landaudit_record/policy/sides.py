@@ -13,7 +13,7 @@ from ..common.rights import FILE_RIGHTS, FS, Rights
 from .fitting import FittedLayer
 from .regions import Regions
 from .ruling import (
-    CHAINS, REFER, SINGLE, Comparison, Granting, Layers, Numbers, Objects, Ruled, RuledObjects, RuleOnObjects,
+    CHAINS, NOTHING, REFER, SINGLE, Comparison, Granting, Layers, Numbers, Objects, Ruled, RuledObjects, RuleOnObjects,
     RuleOnPorts,
 )
 
@@ -23,8 +23,6 @@ OPENING = ("read_file", "write_file")
 
 Gone = Mapping[str, Objects]
 """The objects on which a right is left out, by rights."""
-
-_NOTHING: Objects = frozenset()
 
 
 @dataclass(frozen=True)
@@ -53,7 +51,7 @@ class Sides:
 
     def beyond(self, rights: Sequence[str], gone: Gone) -> Comparison:
         """On which objects the new policy lets rights pass, and the old one does not the first, beside what is gone."""
-        right, less = rights[0], gone.get(rights[0], _NOTHING)
+        right, less = rights[0], gone.get(rights[0], NOTHING)
         new = tuple(layer.of[each].less(less) for each in rights for layer in self.new)
         return Comparison(tuple(layer.of[right] for layer in self.old), new, frozenset({CHAINS, SINGLE}))
 
@@ -65,7 +63,7 @@ class Sides:
 
 def united(one: Gone, other: Gone) -> Gone:
     """What is gone in either."""
-    return {right: one.get(right, _NOTHING) | other.get(right, _NOTHING) for right in one.keys() | other.keys()}
+    return {right: one.get(right, NOTHING) | other.get(right, NOTHING) for right in one.keys() | other.keys()}
 
 
 def at(regions: Regions, objects: RuledObjects, abi: int) -> Sides:
