@@ -77,93 +77,91 @@ ports_network layer [] = refl
 ports_network layer (rule ∷ others) = ports_network _ others
 
 module _ (tree : List Entry) (older newer : Abi) (le : number_of older ≤ number_of newer) (missing : List ℕ) (rs : ℕ) (layer : policies.Layer) where
-  module _ (known : files.has (listed layer.handled_files) files.other ≡ false) where
-    -- ---- all rules for files
+  -- ---- all rules for files
 
-    same_rule : (own : Layer) (numbered : ℕ × PathRule) → own.handled_files ≡ handled_files older layer →
-        All (λ (rule : FittedPathRule). IsListed tree rule.parent) (fitted_path_rule newer layer numbered)
-        → IsSame tree older missing rs own numbered.1.parent (rights_on newer layer numbered.1) (rights_on older layer numbered.1)
-    unfolding fitted_path_rule rights_on
-    same_rule own numbered handles listed =
-        let rule : PathRule = numbered.1 in
-        record {
-          keeps = older_rights older newer le layer rule rule.parent;
-          listed = listed_of tree (files.is_empty (rights_at newer layer rule rule.parent)) numbered.0 rule.parent
-              (rights_at newer layer rule rule.parent) listed;
-          within = ap (λ (handled : Fs). files.is_within (rights_at older layer rule rule.parent) handled) handles
-              ∙ on_within older layer known rule rule.parent;
-        }
+  same_rule : (known : files.has (listed layer.handled_files) files.other ≡ false) (own : Layer) (numbered : ℕ × PathRule) → own.handled_files ≡ handled_files older layer →
+      All (λ (rule : FittedPathRule). IsListed tree rule.parent) (fitted_path_rule newer layer numbered)
+      → IsSame tree older missing rs own numbered.1.parent (rights_on newer layer numbered.1) (rights_on older layer numbered.1)
+  unfolding fitted_path_rule rights_on
+  same_rule known own numbered handles listed =
+      let rule : PathRule = numbered.1 in
+      record {
+        keeps = older_rights older newer le layer rule rule.parent;
+        listed = listed_of tree (files.is_empty (rights_at newer layer rule rule.parent)) numbered.0 rule.parent
+            (rights_at newer layer rule rule.parent) listed;
+        within = ap (λ (handled : Fs). files.is_within (rights_at older layer rule rule.parent) handled) handles
+            ∙ on_within older layer known rule rule.parent;
+      }
 
-    goes_paths : (before : List Layer) (own : Layer) (s : State) (xs : List (ℕ × PathRule)) → IsTree tree → IsNoObject (place tree missing) →
-        s.held rs ≡ Some (length before) → own.handled_files ≡ handled_files older layer →
-        All (λ (rule : FittedPathRule). IsListed tree rule.parent) (flat_map (fitted_path_rule newer layer) xs)
-        → Goes tree older (any_refused (flat_map (fitted_path_rule older layer) xs)) (before ++ own ∷ []) s
-        (map (best_path tree older missing rs) (flat_map (fitted_path_rule newer layer) xs))
-        (before ++ with_granted tree own (flat_map granted_by (flat_map (fitted_path_rule older layer) xs)) ∷ []) s
-    unfolding fitted_path_rule
-    goes_paths before own s [] is_tree not_listed held handles listed = goes_none tree older (before ++ own ∷ []) s
-    goes_paths before own s (numbered ∷ xs) is_tree not_listed held handles listed =
-        let newest : List FittedPathRule = fitted_path_rule newer layer numbered in
-        let here : List FittedPathRule = fitted_path_rule older layer numbered in
-        let later : List FittedPathRule = flat_map (fitted_path_rule newer layer) xs in
-        let others : List FittedPathRule = flat_map (fitted_path_rule older layer) xs in
-        let next : Layer = with_granted tree own (flat_map granted_by here) in
-        let first = goes_rule tree older missing rs before own s numbered.0 numbered.1.parent (rights_on newer layer numbered.1)
-        (rights_on older layer numbered.1)
-        is_tree not_listed held (same_rule own numbered handles (all_left (λ (rule : FittedPathRule). IsListed tree rule.parent) newest later listed)) in
-        let last = goes_paths before next s xs is_tree not_listed held (handles_same tree older missing rs own (flat_map granted_by here) ∙ handles)
-        (all_right (λ (rule : FittedPathRule). IsListed tree rule.parent) newest later listed) in
-        subst (λ (b : Bool). Goes tree older b (before ++ own ∷ []) s
-        (map (best_path tree older missing rs) (newest ++ later)) (before ++ with_granted tree own (flat_map granted_by (here ++ others)) ∷ []) s)
-        (sym (list_any-append is_refused here others))
-        (subst (λ (ops : List Op). Goes tree older (any_refused here || any_refused others) (before ++ own ∷ []) s ops
-        (before ++ with_granted tree own (flat_map granted_by (here ++ others)) ∷ []) s)
-        (sym (map-append (best_path tree older missing rs) newest later))
-        (subst (λ (after : Layer). Goes tree older (any_refused here || any_refused others) (before ++ own ∷ []) s
-        (map (best_path tree older missing rs) newest ++ map (best_path tree older missing rs) later)
-        (before ++ after ∷ []) s)
-        (with_granted-append tree own (flat_map granted_by here) (flat_map granted_by others)
-        ∙ ap (with_granted tree own) (sym (flat_map-append granted_by here others)))
-        (goes_on tree older _ _ _ _ _ s s s (map (best_path tree older missing rs) newest) (map (best_path tree older missing rs) later) first last)))
+  goes_paths : (known : files.has (listed layer.handled_files) files.other ≡ false) (before : List Layer) (own : Layer) (s : State) (xs : List (ℕ × PathRule)) → IsTree tree → IsNoObject (place tree missing) →
+      s.held rs ≡ Some (length before) → own.handled_files ≡ handled_files older layer →
+      All (λ (rule : FittedPathRule). IsListed tree rule.parent) (flat_map (fitted_path_rule newer layer) xs)
+      → Goes tree older (any_refused (flat_map (fitted_path_rule older layer) xs)) (before ++ own ∷ []) s
+      (map (best_path tree older missing rs) (flat_map (fitted_path_rule newer layer) xs))
+      (before ++ with_granted tree own (flat_map granted_by (flat_map (fitted_path_rule older layer) xs)) ∷ []) s
+  unfolding fitted_path_rule
+  goes_paths known before own s [] is_tree not_listed held handles listed = goes_none tree older (before ++ own ∷ []) s
+  goes_paths known before own s (numbered ∷ xs) is_tree not_listed held handles listed =
+      let newest : List FittedPathRule = fitted_path_rule newer layer numbered in
+      let here : List FittedPathRule = fitted_path_rule older layer numbered in
+      let later : List FittedPathRule = flat_map (fitted_path_rule newer layer) xs in
+      let others : List FittedPathRule = flat_map (fitted_path_rule older layer) xs in
+      let next : Layer = with_granted tree own (flat_map granted_by here) in
+      let first = goes_rule tree older missing rs before own s numbered.0 numbered.1.parent (rights_on newer layer numbered.1)
+      (rights_on older layer numbered.1)
+      is_tree not_listed held (same_rule known own numbered handles (all_left (λ (rule : FittedPathRule). IsListed tree rule.parent) newest later listed)) in
+      let last = goes_paths known before next s xs is_tree not_listed held (handles_same tree older missing rs own (flat_map granted_by here) ∙ handles)
+      (all_right (λ (rule : FittedPathRule). IsListed tree rule.parent) newest later listed) in
+      subst (λ (b : Bool). Goes tree older b (before ++ own ∷ []) s
+      (map (best_path tree older missing rs) (newest ++ later)) (before ++ with_granted tree own (flat_map granted_by (here ++ others)) ∷ []) s)
+      (sym (list_any-append is_refused here others))
+      (subst (λ (ops : List Op). Goes tree older (any_refused here || any_refused others) (before ++ own ∷ []) s ops
+      (before ++ with_granted tree own (flat_map granted_by (here ++ others)) ∷ []) s)
+      (sym (map-append (best_path tree older missing rs) newest later))
+      (subst (λ (after : Layer). Goes tree older (any_refused here || any_refused others) (before ++ own ∷ []) s
+      (map (best_path tree older missing rs) newest ++ map (best_path tree older missing rs) later)
+      (before ++ after ∷ []) s)
+      (with_granted-append tree own (flat_map granted_by here) (flat_map granted_by others)
+      ∙ ap (with_granted tree own) (sym (flat_map-append granted_by here others)))
+      (goes_on tree older _ _ _ _ _ s s s (map (best_path tree older missing rs) newest) (map (best_path tree older missing rs) later) first last)))
 
-  module _ (known : network.has (listed_on_ports layer.handled_network) network.other ≡ false) where
-    -- ---- all rules for ports
+  -- ---- all rules for ports
 
-    goes_port : (before : List Layer) (own : Layer) (s : State) (numbered : ℕ × PortRule) → s.held rs ≡ Some (length before) →
-        own.handled_network ≡ handled_network older layer → AreFit older layer known numbered
-        → Goes tree older false (before ++ own ∷ []) s (map (best_port tree older missing rs) (fitted_port_rule newer layer numbered))
-        (before ++ with_ports own (fitted_port_rule older layer numbered) ∷ []) s
-    unfolding fitted_port_rule rights_on_port
-    goes_port before own s numbered held handles fits =
-        let rule : PortRule = numbered.1 in
-        let both : Net = common_on_ports (listed_on_ports rule.allowed) (listed_on_ports layer.handled_network) in
-        let same : supported_net older (supported_net newer both) ≡ supported_net older both = net_supported-older older newer both le in
-        goes_port_by tree older missing rs _ _ before own s numbered.0 rule.port (supported_net newer both) (supported_net older both) held same
-        (λ some. subst (λ (handled : Net). IsAskedOfPort tree older missing rs handled
-        (record { rule = numbered.0; port = rule.port; rights = supported_net older both }))
-        (sym handles) (asked_of tree older missing rs layer known _ numbered.0 rule.port (supported_net older both)
-        (port_valid older layer known numbered fits) some))
-        refl refl (λ empty. ap network.is_empty (sym same) ∙ net_supported_nothing older (supported_net newer both) empty)
+  goes_port : (known : network.has (listed_on_ports layer.handled_network) network.other ≡ false) (before : List Layer) (own : Layer) (s : State) (numbered : ℕ × PortRule) → s.held rs ≡ Some (length before) →
+      own.handled_network ≡ handled_network older layer → AreFit older layer known numbered
+      → Goes tree older false (before ++ own ∷ []) s (map (best_port tree older missing rs) (fitted_port_rule newer layer numbered))
+      (before ++ with_ports own (fitted_port_rule older layer numbered) ∷ []) s
+  unfolding fitted_port_rule rights_on_port
+  goes_port known before own s numbered held handles fits =
+      let rule : PortRule = numbered.1 in
+      let both : Net = common_on_ports (listed_on_ports rule.allowed) (listed_on_ports layer.handled_network) in
+      let same : supported_net older (supported_net newer both) ≡ supported_net older both = net_supported-older older newer both le in
+      goes_port_by tree older missing rs _ _ before own s numbered.0 rule.port (supported_net newer both) (supported_net older both) held same
+      (λ some. subst (λ (handled : Net). IsAskedOfPort tree older missing rs handled
+      (record { rule = numbered.0; port = rule.port; rights = supported_net older both }))
+      (sym handles) (asked_of tree older missing rs layer known _ numbered.0 rule.port (supported_net older both)
+      (port_valid older layer known numbered fits) some))
+      refl refl (λ empty. ap network.is_empty (sym same) ∙ net_supported_nothing older (supported_net newer both) empty)
 
-    goes_ports : (before : List Layer) (own : Layer) (s : State) (xs : List (ℕ × PortRule)) → s.held rs ≡ Some (length before) →
-        own.handled_network ≡ handled_network older layer → All (AreFit older layer known) xs
-        → Goes tree older false (before ++ own ∷ []) s (map (best_port tree older missing rs) (flat_map (fitted_port_rule newer layer) xs))
-        (before ++ with_ports own (flat_map (fitted_port_rule older layer) xs) ∷ []) s
-    goes_ports before own s [] held handles fits = goes_none tree older (before ++ own ∷ []) s
-    goes_ports before own s (numbered ∷ xs) held handles fits =
-        let newest : List FittedPortRule = fitted_port_rule newer layer numbered in
-        let here : List FittedPortRule = fitted_port_rule older layer numbered in
-        let later : List FittedPortRule = flat_map (fitted_port_rule newer layer) xs in
-        let others : List FittedPortRule = flat_map (fitted_port_rule older layer) xs in
-        let next : Layer = with_ports own here in
-        let first = goes_port before own s numbered held handles (All-head (AreFit older layer known) numbered xs fits) in
-        let last = goes_ports before next s xs held (ports_network own here ∙ handles) (All-tail (AreFit older layer known) numbered xs fits) in
-        subst (λ (ops : List Op). Goes tree older false (before ++ own ∷ []) s ops (before ++ with_ports own (here ++ others) ∷ []) s)
-        (sym (map-append (best_port tree older missing rs) newest later))
-        (subst (λ (after : Layer). Goes tree older false (before ++ own ∷ []) s
-        (map (best_port tree older missing rs) newest ++ map (best_port tree older missing rs) later)
-        (before ++ after ∷ []) s) (with_ports-append own here others)
-        (goes_on tree older _ _ _ _ _ s s s (map (best_port tree older missing rs) newest) (map (best_port tree older missing rs) later) first last))
+  goes_ports : (known : network.has (listed_on_ports layer.handled_network) network.other ≡ false) (before : List Layer) (own : Layer) (s : State) (xs : List (ℕ × PortRule)) → s.held rs ≡ Some (length before) →
+      own.handled_network ≡ handled_network older layer → All (AreFit older layer known) xs
+      → Goes tree older false (before ++ own ∷ []) s (map (best_port tree older missing rs) (flat_map (fitted_port_rule newer layer) xs))
+      (before ++ with_ports own (flat_map (fitted_port_rule older layer) xs) ∷ []) s
+  goes_ports known before own s [] held handles fits = goes_none tree older (before ++ own ∷ []) s
+  goes_ports known before own s (numbered ∷ xs) held handles fits =
+      let newest : List FittedPortRule = fitted_port_rule newer layer numbered in
+      let here : List FittedPortRule = fitted_port_rule older layer numbered in
+      let later : List FittedPortRule = flat_map (fitted_port_rule newer layer) xs in
+      let others : List FittedPortRule = flat_map (fitted_port_rule older layer) xs in
+      let next : Layer = with_ports own here in
+      let first = goes_port known before own s numbered held handles (All-head (AreFit older layer known) numbered xs fits) in
+      let last = goes_ports known before next s xs held (ports_network own here ∙ handles) (All-tail (AreFit older layer known) numbered xs fits) in
+      subst (λ (ops : List Op). Goes tree older false (before ++ own ∷ []) s ops (before ++ with_ports own (here ++ others) ∷ []) s)
+      (sym (map-append (best_port tree older missing rs) newest later))
+      (subst (λ (after : Layer). Goes tree older false (before ++ own ∷ []) s
+      (map (best_port tree older missing rs) newest ++ map (best_port tree older missing rs) later)
+      (before ++ after ∷ []) s) (with_ports-append own here others)
+      (goes_on tree older _ _ _ _ _ s s s (map (best_port tree older missing rs) newest) (map (best_port tree older missing rs) later) first last))
 
   -- ---- the ruleset, which handles nothing where the older version knows nothing that the layer handles
 
