@@ -21,7 +21,7 @@ use Rattle.ll_policy.specs.Granted.{granting}
 use Rattle.ll_policy.specs.WaysUp.{ruled, all_ruled, way_up}
 use Rattle.ll_policy.specs.PassingMoves.{lets_pass, lets_use, is_none, linking, renaming}
 use Rattle.ll_policy.specs.Moving.{applies, about_moves, gains_nothing, gains_none, comes, link_passes, rename_passes, IsWayUp, GoesBy}
-use Rattle.ll_policy.proofs.Lists.{in_flat_map, that_passes, some_passes, here, there}
+use Rattle.ll_policy.proofs.Lists.{in_flat_map, that_passes, some_passes, all_of_mapped, here, there}
 use Rattle.ll_policy.proofs.Bridge.{AreRuledBy, by_way, handles_alike, equal_tests}
 use Rattle.ll_policy.proofs.Alike.{refused_in_region}
 use Rattle.ll_policy.proofs.PassingMoves.{parts, lacks_none, usable, none_by, none_by_either, none_alike, rename_is_link_and_removal}
@@ -81,10 +81,6 @@ all_kept {A = A} p test also same (x ∷ xs) =
     by_test : (b : Bool) → ((not b || also x) && list_all also (filter p xs)) ≡ list_all also (if b then x ∷ filter p xs else filter p xs)
     by_test true = refl
     by_test false = refl
-
-all_mapped : {A B : Type 0} (test : B → Bool) (f : A → B) (xs : List A) → list_all test (map f xs) ≡ list_all (λ x. test (f x)) xs
-all_mapped test f [] = refl
-all_mapped test f (x ∷ xs) = ap (λ (b : Bool). test (f x) && b) (all_mapped test f xs)
 
 gain_of_right : (t h a o : Bool) → not (t && (h && a) && not o) ≡ (not a || (not (h && t) || o))
 gain_of_right true true true true = refl
@@ -157,7 +153,7 @@ module _ (tree : List Entry) (layers : List (RulesOn ℕ)) (moved directory : No
       none_of_all gains_right 1 (all_in_tree tree layers) all_rights
       ∙ all_kept (applies kind) (λ right. is_none (numbers_from (gains_right right) 1 (all_in_tree tree layers))) kept
       (λ right. none_gains right 1 layers each_ruled) all_rights
-      ∙ sym (all_mapped (λ some. list_all (gains_nothing object to) some) (λ right. map (granting right) layers) (filter (applies kind) all_rights))
+      ∙ sym (all_of_mapped (λ some. list_all (gains_nothing object to) some) (λ right. map (granting right) layers) (filter (applies kind) all_rights))
 
   -- ---- the two moves
 
@@ -202,5 +198,3 @@ module _ (tree : List Entry) (layers : List (RulesOn ℕ)) (moved directory : No
   rename_by_chains =
       rename_is_link_and_removal (all_in_tree tree layers) tree moved (New directory)
       ∙ rw (link_by_chains, usable_on_chain tree goes.nodes (front here_is) from goes.of_source layers goes.listed (remove_right_of kind)) refl
-
-pub ruleset moves_by_chains = (link_by_chains, rename_by_chains)

@@ -31,7 +31,7 @@ use Rattle.ll_rules.specs.Moves.{destination_of, kind_there, asked_of_source, as
 use Rattle.ll_policy.specs.Chains.{Granting, is_among, IsChain, lets, passes}
 use Rattle.ll_policy.specs.Granted.{granting, NothingMoreOnObjects}
 use Rattle.ll_policy.specs.Gains.{granting_there, KeepsGains, AllKeepGains}
-use Rattle.ll_policy.specs.WaysUp.{ruled, all_ruled, way_up, is_file_at, TellsFiles, IsTargetOf, AreRuledIn}
+use Rattle.ll_policy.specs.WaysUp.{ruled, all_ruled, way_up, is_file_at, IsTargetOf, AreRuledIn}
 use Rattle.ll_policy.proofs.Lists.{here, there, some_passes, that_passes, each_passes, passes_among}
 use Rattle.ll_policy.proofs.Lists.{that_fails, filtered, filter_test, kept_within, in_flat_map, flat_from}
 use Rattle.ll_policy.proofs.Exactly.{among-contains, not_true, not_false}
@@ -168,8 +168,10 @@ above tree object listed within =
           record { at = up.0; is_node = up.2.is_node; is_path = up.2.is_front; is_dir = up.2.is_dir }
     ]
 
-module _ (is_file : ℕ → Bool) (old new : List (RulesOn ℕ)) (tree : List Entry) (listed : IsTree tree) (tells : TellsFiles is_file tree)
-    (old_inside : All (AreInTree tree) old) (new_inside : All (AreInTree tree) new) where
+-- ---- what new layers let no more pass than old ones on objects, they let no more pass in a tree
+
+module _ (is_file : ℕ → Bool) (old new : List (RulesOn ℕ)) (nothing : NothingMoreOnObjects is_file old new) (tree : List Entry)
+    (ruled_in : AreRuledIn is_file old new tree) where
   abbrev nodes : List ℕ
   nodes = all_ruled (old ++ new)
 
@@ -181,9 +183,9 @@ module _ (is_file : ℕ → Bool) (old new : List (RulesOn ℕ)) (tree : List En
       let layer = flat_from ruled (old ++ new) (get_or nodes k d) one in
       elim (Contains-append_cases old new layer.0 layer.1) [
         | inl first ↦ All-contains (λ (number : ℕ). number < length tree) (ruled layer.0) (get_or nodes k d)
-            (All-contains (AreInTree tree) old layer.0 old_inside first) layer.2
+            (All-contains (AreInTree tree) old layer.0 ruled_in.old_inside first) layer.2
         | inr second ↦ All-contains (λ (number : ℕ). number < length tree) (ruled layer.0) (get_or nodes k d)
-            (All-contains (AreInTree tree) new layer.0 new_inside second) layer.2
+            (All-contains (AreInTree tree) new layer.0 ruled_in.new_inside second) layer.2
       ]
 
   old_ruled : (layer : RulesOn ℕ) → Contains old layer → AreRuledBy nodes layer
@@ -200,8 +202,8 @@ module _ (is_file : ℕ → Bool) (old new : List (RulesOn ℕ)) (tree : List En
   chain_is : (object : NodeId) → IsNode tree object → IsChain is_file (chain object)
   chain_is object within one other first second is too =
       let same = λ (number : ℕ) (inside : Contains (chain object) number).
-      sym (tells number (on_way tree nodes (path_at tree object) number listed nodes_inside inside).0) in
-      way_up_chain tree nodes object listed nodes_inside within one other first second (same one first ∙ is) (same other second ∙ too)
+      sym (ruled_in.tells number (on_way tree nodes (path_at tree object) number ruled_in.listed nodes_inside inside).0) in
+      way_up_chain tree nodes object ruled_in.listed nodes_inside within one other first second (same one first ∙ is) (same other second ∙ too)
 
   lets_lack : (layer : RulesOn ℕ) (object : NodeId) (right : FsRight) → AreRuledBy nodes layer
       → lets (chain object) (granting right layer) ≡ not (lack (in_tree tree layer) (path_at tree object) right)
@@ -212,227 +214,212 @@ module _ (is_file : ℕ → Bool) (old new : List (RulesOn ℕ)) (tree : List En
   abbrev LackNone : List (RulesOn ℕ) → NodeId → FsRight → Type 0
   LackNone domain object right = (layer : RulesOn ℕ) → Contains domain layer → lack (in_tree tree layer) (path_at tree object) right ≡ false
 
-  module _ (nothing : NothingMoreOnObjects is_file old new) where
-    kept : (object : NodeId) → IsNode tree object → (right : FsRight) → LackNone new object right → LackNone old object right
-    unfolding passes
-    kept object within right none layer inside =
-        let passing : passes (map (granting right) new) (chain object) ≡ true =
-        each_passes (lets (chain object)) (map (granting right) new)
-        (λ own its.
-        let from = mapped_from (granting right) new own its in
-        ap (lets (chain object)) (sym from.2) ∙ lets_lack from.0 object right (new_ruled from.0 from.1) ∙ ap not (none from.0 from.1)) in
-        let passed = nothing right (chain object) (chain_is object within) (way_up_begins tree nodes (path_at tree object) listed) passing in
-        not_true (lack (in_tree tree layer) (path_at tree object) right)
-        (sym (lets_lack layer object right (old_ruled layer inside))
-        ∙ passes_among (lets (chain object)) (map (granting right) old) (granting right layer) passed (mapped_to (granting right) old layer inside))
+  kept : (object : NodeId) → IsNode tree object → (right : FsRight) → LackNone new object right → LackNone old object right
+  unfolding passes
+  kept object within right none layer inside =
+      let passing : passes (map (granting right) new) (chain object) ≡ true =
+      each_passes (lets (chain object)) (map (granting right) new)
+      (λ own its.
+      let from = mapped_from (granting right) new own its in
+      ap (lets (chain object)) (sym from.2) ∙ lets_lack from.0 object right (new_ruled from.0 from.1) ∙ ap not (none from.0 from.1)) in
+      let passed = nothing right (chain object) (chain_is object within) (way_up_begins tree nodes (path_at tree object) ruled_in.listed) passing in
+      not_true (lack (in_tree tree layer) (path_at tree object) right)
+      (sym (lets_lack layer object right (old_ruled layer inside))
+      ∙ passes_among (lets (chain object)) (map (granting right) old) (granting right layer) passed (mapped_to (granting right) old layer inside))
 
-    -- the layers of a domain lack nothing that is asked on a path
-    abbrev AskNone : List (RulesOn ℕ) → Path → (FsRight → Bool) → Type 0
-    AskNone domain path asked = (layer : RulesOn ℕ) → Contains domain layer → lacks_asked (in_tree tree layer) path asked ≡ false
+  -- the layers of a domain lack nothing that is asked on a path
+  abbrev AskNone : List (RulesOn ℕ) → Path → (FsRight → Bool) → Type 0
+  AskNone domain path asked = (layer : RulesOn ℕ) → Contains domain layer → lacks_asked (in_tree tree layer) path asked ≡ false
 
-    asked_kept : (object : NodeId) → IsNode tree object → (asked : FsRight → Bool) → AskNone new (path_at tree object) asked
-        → AskNone old (path_at tree object) asked
-    asked_kept object within asked none layer inside =
-        asks_nothing (in_tree tree layer) (path_at tree object) asked
-        (λ right is. kept object within right
-        (λ own its. nothing_asked (in_tree tree own) (path_at tree object) asked (none own its) right is) layer inside)
+  asked_kept : (object : NodeId) → IsNode tree object → (asked : FsRight → Bool) → AskNone new (path_at tree object) asked
+      → AskNone old (path_at tree object) asked
+  asked_kept object within asked none layer inside =
+      asks_nothing (in_tree tree layer) (path_at tree object) asked
+      (λ right is. kept object within right
+      (λ own its. nothing_asked (in_tree tree own) (path_at tree object) asked (none own its) right is) layer inside)
 
-    pub refuses_no_more : (object : NodeId) → IsNode tree object → (wanted : Fs) → refusing (all_in_tree tree new) (path_at tree object) wanted ≡ []
-        → refusing (all_in_tree tree old) (path_at tree object) wanted ≡ []
-    refuses_no_more object within wanted none =
-        each_none tree (λ layer. lacks layer (path_at tree object) wanted) 1 old
-        (asked_kept object within (has wanted) (none_each tree (λ layer. lacks layer (path_at tree object) wanted) 1 new none))
+  pub refuses_no_more_anywhere : (object : NodeId) → IsNode tree object → (wanted : Fs) → refusing (all_in_tree tree new) (path_at tree object) wanted ≡ []
+      → refusing (all_in_tree tree old) (path_at tree object) wanted ≡ []
+  refuses_no_more_anywhere object within wanted none =
+      each_none tree (λ layer. lacks layer (path_at tree object) wanted) 1 old
+      (asked_kept object within (has wanted) (none_each tree (λ layer. lacks layer (path_at tree object) wanted) 1 new none))
 
-    -- the same on the path of a directory
-    asked_there : (path : Path) → IsDirectory tree path → (asked : FsRight → Bool) → AskNone new path asked → AskNone old path asked
-    asked_there path directory asked none =
-        subst (λ (p : Path). AskNone old p asked) directory.is_path
-        (asked_kept directory.at directory.is_node asked (subst (λ (p : Path). AskNone new p asked) (sym directory.is_path) none))
+  -- the same on the path of a directory
+  asked_there : (path : Path) → IsDirectory tree path → (asked : FsRight → Bool) → AskNone new path asked → AskNone old path asked
+  asked_there path directory asked none =
+      subst (λ (p : Path). AskNone old p asked) directory.is_path
+      (asked_kept directory.at directory.is_node asked (subst (λ (p : Path). AskNone new p asked) (sym directory.is_path) none))
 
-    -- ---- moves
+  -- ---- gains
 
-    module _ (gaining : AllKeepGains is_file old new) where
-      -- no layer of a domain lets an object gain a right in a directory
-      abbrev GainNone : List (RulesOn ℕ) → Kind → NodeId → Path → Type 0
-      GainNone domain kind object directory =
-          (layer : RulesOn ℕ) → Contains domain layer → gains (in_tree tree layer) kind (path_at tree object) directory ≡ false
+  -- no layer of a domain lets an object gain a right in a directory
+  abbrev GainNone : List (RulesOn ℕ) → Kind → NodeId → Path → Type 0
+  GainNone domain kind object directory =
+      (layer : RulesOn ℕ) → Contains domain layer → gains (in_tree tree layer) kind (path_at tree object) directory ≡ false
 
-      -- what a layer grants on a directory, it grants by a rule on some directory above it
-      granted_above : (layer : RulesOn ℕ) → Contains old layer → (directory : NodeId) → IsNode tree directory → kind_at tree directory ≡ Dir
-          → (right : FsRight) → granted (in_tree tree layer) (path_at tree directory) right ≡ true
-          → (number : ℕ) × Contains (granting right layer).grants number × (is_file number ≡ false)
-          × (is_prefix (path_at tree (node number)) (path_at tree directory) ≡ true)
-      granted_above layer inside directory within is_directory right given =
-          let found = that_passes (is_by tree (path_at tree directory) right) layer.file_rules
-          (sym (granted_by tree layer (path_at tree directory) right) ∙ given) in
-          let number = found.0.0 in
-          let parts = and_parts (is_prefix (path_at tree (node number)) (path_at tree directory)) (has found.0.1 right) found.2 in
-          let listed_node : number < length tree =
-          All-contains (λ (own : ℕ). own < length tree) (ruled layer) number (All-contains (AreInTree tree) old layer old_inside inside)
-          (mapped_to (λ (rule : ℕ × Fs). rule.0) layer.file_rules found.0 found.1) in (
-            number,
-            mapped_to (λ (rule : ℕ × Fs). rule.0) (filter (λ (rule : ℕ × Fs). has rule.1 right) layer.file_rules) found.0
-                (filtered (λ (rule : ℕ × Fs). has rule.1 right) layer.file_rules found.0 found.1 parts.1),
-            tells number listed_node
-                ∙ not_true-false (is_file_at tree number)
-                (λ file.
-                let same = file_on_way (suc directory.0) tree (node number) directory (omega arith) listed listed_node within
-                (not_true (is_dir (kind_at tree (node number))) file) parts.0 in
-                false≢true (sym (not_true (is_dir (kind_at tree (node number))) file) ∙ ap (λ (n : NodeId). is_dir (kind_at tree n)) same
-                ∙ ap is_dir is_directory)),
-            parts.0,
-          )
+  -- what a layer grants on a directory, it grants by a rule on some directory above it
+  granted_above : (layer : RulesOn ℕ) → Contains old layer → (directory : NodeId) → IsNode tree directory → kind_at tree directory ≡ Dir
+      → (right : FsRight) → granted (in_tree tree layer) (path_at tree directory) right ≡ true
+      → (number : ℕ) × Contains (granting right layer).grants number × (is_file number ≡ false)
+      × (is_prefix (path_at tree (node number)) (path_at tree directory) ≡ true)
+  granted_above layer inside directory within is_directory right given =
+      let found = that_passes (is_by tree (path_at tree directory) right) layer.file_rules
+      (sym (granted_by tree layer (path_at tree directory) right) ∙ given) in
+      let number = found.0.0 in
+      let parts = and_parts (is_prefix (path_at tree (node number)) (path_at tree directory)) (has found.0.1 right) found.2 in
+      let listed_node : number < length tree =
+      All-contains (λ (own : ℕ). own < length tree) (ruled layer) number (All-contains (AreInTree tree) old layer ruled_in.old_inside inside)
+      (mapped_to (λ (rule : ℕ × Fs). rule.0) layer.file_rules found.0 found.1) in (
+        number,
+        mapped_to (λ (rule : ℕ × Fs). rule.0) (filter (λ (rule : ℕ × Fs). has rule.1 right) layer.file_rules) found.0
+            (filtered (λ (rule : ℕ × Fs). has rule.1 right) layer.file_rules found.0 found.1 parts.1),
+        ruled_in.tells number listed_node
+            ∙ not_true-false (is_file_at tree number)
+            (λ file.
+            let same = file_on_way (suc directory.0) tree (node number) directory (omega arith) ruled_in.listed listed_node within
+            (not_true (is_dir (kind_at tree (node number))) file) parts.0 in
+            false≢true (sym (not_true (is_dir (kind_at tree (node number))) file) ∙ ap (λ (n : NodeId). is_dir (kind_at tree n)) same
+            ∙ ap is_dir is_directory)),
+        parts.0,
+      )
 
-      -- what a layer grants on a node, it grants on what is under it
-      granted_under : (layer : RulesOn ℕ) (number : ℕ) (directory : Path) (right : FsRight) → Contains (granting right layer).grants number
-          → is_prefix (path_at tree (node number)) directory ≡ true → granted (in_tree tree layer) directory right ≡ true
-      granted_under layer number directory right given prefix =
-          let gives = λ (rule : ℕ × Fs). has rule.1 right in
-          let rule = mapped_from (λ (rule : ℕ × Fs). rule.0) (filter gives layer.file_rules) number given in
-          granted_by tree layer directory right
-          ∙ some_passes (is_by tree directory right) layer.file_rules rule.0 (kept_within gives layer.file_rules rule.0 rule.1)
-          (and_from (is_prefix (path_at tree (node rule.0.0)) directory) (has rule.0.1 right)
-          (ap (λ (n : ℕ). is_prefix (path_at tree (node n)) directory) rule.2 ∙ prefix) (filter_test gives layer.file_rules rule.0 rule.1))
+  -- what a layer grants on a node, it grants on what is under it
+  granted_under : (layer : RulesOn ℕ) (number : ℕ) (directory : Path) (right : FsRight) → Contains (granting right layer).grants number
+      → is_prefix (path_at tree (node number)) directory ≡ true → granted (in_tree tree layer) directory right ≡ true
+  granted_under layer number directory right given prefix =
+      let gives = λ (rule : ℕ × Fs). has rule.1 right in
+      let rule = mapped_from (λ (rule : ℕ × Fs). rule.0) (filter gives layer.file_rules) number given in
+      granted_by tree layer directory right
+      ∙ some_passes (is_by tree directory right) layer.file_rules rule.0 (kept_within gives layer.file_rules rule.0 rule.1)
+      (and_from (is_prefix (path_at tree (node rule.0.0)) directory) (has rule.0.1 right)
+      (ap (λ (n : ℕ). is_prefix (path_at tree (node n)) directory) rule.2 ∙ prefix) (filter_test gives layer.file_rules rule.0 rule.1))
 
-      gain_parts : (a b c d : Bool) → (a && (b && c) && not d) ≡ true → (a ≡ true) × (b ≡ true) × (c ≡ true) × (d ≡ false)
-      gain_parts true true true false all = (refl, refl, refl, refl)
-      gain_parts true true true true all = absurd (false≢true all)
-      gain_parts true true false d all = absurd (false≢true all)
-      gain_parts true false c d all = absurd (false≢true all)
-      gain_parts false b c d all = absurd (false≢true all)
+  gain_parts : (a b c d : Bool) → (a && (b && c) && not d) ≡ true → (a ≡ true) × (b ≡ true) × (c ≡ true) × (d ≡ false)
+  gain_parts true true true false all = (refl, refl, refl, refl)
+  gain_parts true true true true all = absurd (false≢true all)
+  gain_parts true true false d all = absurd (false≢true all)
+  gain_parts true false c d all = absurd (false≢true all)
+  gain_parts false b c d all = absurd (false≢true all)
 
-      gain_from : (a b c d : Bool) → a ≡ true → c ≡ true → (b && not d) ≡ true → (a && (b && c) && not d) ≡ true
-      gain_from true true true false first second both = refl
-      gain_from true true true true first second both = both
-      gain_from true false c d first second both = both
-      gain_from true true false d first second both = absurd (false≢true second)
-      gain_from false b c d first second both = absurd (false≢true first)
+  gain_from : (a b c d : Bool) → a ≡ true → c ≡ true → (b && not d) ≡ true → (a && (b && c) && not d) ≡ true
+  gain_from true true true false first second both = refl
+  gain_from true true true true first second both = both
+  gain_from true false c d first second both = both
+  gain_from true true false d first second both = absurd (false≢true second)
+  gain_from false b c d first second both = absurd (false≢true first)
 
-      -- a new layer that grants on a directory and keeps an object from passing lets it gain the right there
-      gained : (kind : Kind) (object : NodeId) → IsNode tree object → (directory : Path) (right : FsRight)
-          → (is_dir kind || is_file_right right) ≡ true → (number : ℕ) → is_prefix (path_at tree (node number)) directory ≡ true
-          → (own : Granting) → Contains (granting_there number (map (granting right) new)) own → lets (chain object) own ≡ false
-          → GainNone new kind object directory → ⊥
-      unfolding granting_there some_right
-      gained kind object within directory right counted number prefix own its stopped none =
-          let there_granted = filter_test (λ (one : Granting). is_among number one.grants) (map (granting right) new) own its in
-          let from = mapped_from (granting right) new own (kept_within (λ (one : Granting). is_among number one.grants) (map (granting right) new) own its) in
-          let given : Contains (granting right from.0).grants number =
-          among-contains number (granting right from.0).grants (ap (λ (one : Granting). is_among number one.grants) from.2 ∙ there_granted) in
-          let lacking : lack (in_tree tree from.0) (path_at tree object) right ≡ true =
-          not_false-true (lack (in_tree tree from.0) (path_at tree object) right)
-          (sym (lets_lack from.0 object right (new_ruled from.0 from.1)) ∙ ap (lets (chain object)) from.2 ∙ stopped) in
-          let layer = in_tree tree from.0 in
-          false≢true (sym (none from.0 from.1)
-          ∙ some_passes (λ one. granted layer directory one && (handles layer one && (is_dir kind || is_file_right one)) && not
-          (granted layer (path_at tree object) one))
-          all_rights right (each_there right)
-          (gain_from (granted layer directory right) (handles layer right) (is_dir kind || is_file_right right) (granted layer (path_at tree object) right)
-          (granted_under from.0 number directory right given prefix) counted lacking))
+  -- a new layer that grants on a directory and keeps an object from passing lets it gain the right there
+  gained : (kind : Kind) (object : NodeId) → IsNode tree object → (directory : Path) (right : FsRight)
+      → (is_dir kind || is_file_right right) ≡ true → (number : ℕ) → is_prefix (path_at tree (node number)) directory ≡ true
+      → (own : Granting) → Contains (granting_there number (map (granting right) new)) own → lets (chain object) own ≡ false
+      → GainNone new kind object directory → ⊥
+  unfolding granting_there some_right
+  gained kind object within directory right counted number prefix own its stopped none =
+      let there_granted = filter_test (λ (one : Granting). is_among number one.grants) (map (granting right) new) own its in
+      let from = mapped_from (granting right) new own (kept_within (λ (one : Granting). is_among number one.grants) (map (granting right) new) own its) in
+      let given : Contains (granting right from.0).grants number =
+      among-contains number (granting right from.0).grants (ap (λ (one : Granting). is_among number one.grants) from.2 ∙ there_granted) in
+      let lacking : lack (in_tree tree from.0) (path_at tree object) right ≡ true =
+      not_false-true (lack (in_tree tree from.0) (path_at tree object) right)
+      (sym (lets_lack from.0 object right (new_ruled from.0 from.1)) ∙ ap (lets (chain object)) from.2 ∙ stopped) in
+      let layer = in_tree tree from.0 in
+      false≢true (sym (none from.0 from.1)
+      ∙ some_passes (λ one. granted layer directory one && (handles layer one && (is_dir kind || is_file_right one)) && not
+      (granted layer (path_at tree object) one))
+      all_rights right (each_there right)
+      (gain_from (granted layer directory right) (handles layer right) (is_dir kind || is_file_right right) (granted layer (path_at tree object) right)
+      (granted_under from.0 number directory right given prefix) counted lacking))
 
-      gains_kept : (kind : Kind) (object : NodeId) → IsNode tree object → (path : Path) → IsDirectory tree path → GainNone new kind object path
-          → GainNone old kind object path
-      unfolding some_right passes
-      gains_kept kind object within path directory none layer inside =
-          let rules = in_tree tree layer in
-          not_true-false (gains rules kind (path_at tree object) path)
-          (λ some.
-          let found = that_passes (λ one. granted rules path one && (handles rules one && (is_dir kind || is_file_right one)) && not
-          (granted rules (path_at tree object) one))
-          all_rights some in
-          let right = found.0 in
-          let parts = gain_parts (granted rules path right) (handles rules right) (is_dir kind || is_file_right right)
-          (granted rules (path_at tree object) right) found.2 in
-          let rule = granted_above layer inside directory.at directory.is_node directory.is_dir right
-          (ap (λ (p : Path). granted rules p right) directory.is_path ∙ parts.0) in
-          let stopped : lets (chain object) (granting right layer) ≡ false =
-          lets_lack layer object right (old_ruled layer inside)
-          ∙ ap not (and_from (handles rules right) (not (granted rules (path_at tree object) right)) parts.1
-          (not_false (granted rules (path_at tree object) right) parts.3)) in
-          let keeps = All-contains (KeepsGains is_file (map (granting right) new)) (map (granting right) old) (granting right layer) (gaining right)
-          (mapped_to (granting right) old layer inside) in
-          let blocked : passes (granting_there rule.0 (map (granting right) new)) (chain object) ≡ false =
-          not_true-false (passes (granting_there rule.0 (map (granting right) new)) (chain object))
-          (λ passing. false≢true (sym stopped
-          ∙ keeps rule.0 rule.1 rule.2 (chain object) (chain_is object within) (way_up_begins tree nodes (path_at tree object) listed) passing)) in
-          let by = that_fails (lets (chain object)) (granting_there rule.0 (map (granting right) new)) blocked in
-          gained kind object within path right parts.2 rule.0 (ap (λ (p : Path). is_prefix (path_at tree (node rule.0)) p) (sym directory.is_path) ∙ rule.3)
-          by.0 by.1 by.2 none)
+  gains_kept : AllKeepGains is_file old new → (kind : Kind) (object : NodeId) → IsNode tree object → (path : Path) → IsDirectory tree path
+      → GainNone new kind object path → GainNone old kind object path
+  unfolding some_right passes
+  gains_kept gaining kind object within path directory none layer inside =
+      let rules = in_tree tree layer in
+      not_true-false (gains rules kind (path_at tree object) path)
+      (λ some.
+      let found = that_passes (λ one. granted rules path one && (handles rules one && (is_dir kind || is_file_right one)) && not
+      (granted rules (path_at tree object) one))
+      all_rights some in
+      let right = found.0 in
+      let parts = gain_parts (granted rules path right) (handles rules right) (is_dir kind || is_file_right right)
+      (granted rules (path_at tree object) right) found.2 in
+      let rule = granted_above layer inside directory.at directory.is_node directory.is_dir right
+      (ap (λ (p : Path). granted rules p right) directory.is_path ∙ parts.0) in
+      let stopped : lets (chain object) (granting right layer) ≡ false =
+      lets_lack layer object right (old_ruled layer inside)
+      ∙ ap not (and_from (handles rules right) (not (granted rules (path_at tree object) right)) parts.1
+      (not_false (granted rules (path_at tree object) right) parts.3)) in
+      let keeps = All-contains (KeepsGains is_file (map (granting right) new)) (map (granting right) old) (granting right layer) (gaining right)
+      (mapped_to (granting right) old layer inside) in
+      let blocked : passes (granting_there rule.0 (map (granting right) new)) (chain object) ≡ false =
+      not_true-false (passes (granting_there rule.0 (map (granting right) new)) (chain object))
+      (λ passing. false≢true (sym stopped
+      ∙ keeps rule.0 rule.1 rule.2 (chain object) (chain_is object within) (way_up_begins tree nodes (path_at tree object) ruled_in.listed) passing)) in
+      let by = that_fails (lets (chain object)) (granting_there rule.0 (map (granting right) new)) blocked in
+      gained kind object within path right parts.2 rule.0 (ap (λ (p : Path). is_prefix (path_at tree (node rule.0)) p) (sym directory.is_path) ∙ rule.3)
+      by.0 by.1 by.2 none)
 
-      -- ---- verdicts
+  -- ---- verdicts
 
-      destination : (target : Target) → IsTargetIn tree target → IsTargetOf tree target → IsDirectory tree (destination_of tree target)
-      destination (New directory) within of = record { at = directory; is_node = within; is_path = refl; is_dir = of }
-      destination (Over other) within of = above tree other listed within
+  destination : (target : Target) → IsTargetIn tree target → IsTargetOf tree target → IsDirectory tree (destination_of tree target)
+  destination (New directory) within of = record { at = directory; is_node = within; is_path = refl; is_dir = of }
+  destination (Over other) within of = above tree other ruled_in.listed within
 
-      -- what each new layer doesn't do by either of two tests, no old layer does
-      abbrev Kept : (RulesOn Path → Bool) → Type 0
-      Kept test = ((layer : RulesOn ℕ) → Contains new layer → test (in_tree tree layer) ≡ false)
-          → (layer : RulesOn ℕ) → Contains old layer → test (in_tree tree layer) ≡ false
+  -- what each new layer doesn't do by either of two tests, no old layer does
+  abbrev Kept : (RulesOn Path → Bool) → Type 0
+  Kept test = ((layer : RulesOn ℕ) → Contains new layer → test (in_tree tree layer) ≡ false)
+      → (layer : RulesOn ℕ) → Contains old layer → test (in_tree tree layer) ≡ false
 
-      either_kept : (one other : RulesOn Path → Bool) → Kept one → Kept other → Kept (λ layer. one layer || other layer)
-      either_kept one other first second none layer inside =
-          both_false (one (in_tree tree layer)) (other (in_tree tree layer))
-          (first (λ own its. (neither_of (one (in_tree tree own)) (other (in_tree tree own)) (none own its)).0) layer inside)
-          (second (λ own its. (neither_of (one (in_tree tree own)) (other (in_tree tree own)) (none own its)).1) layer inside)
+  either_kept : (one other : RulesOn Path → Bool) → Kept one → Kept other → Kept (λ layer. one layer || other layer)
+  either_kept one other first second none layer inside =
+      both_false (one (in_tree tree layer)) (other (in_tree tree layer))
+      (first (λ own its. (neither_of (one (in_tree tree own)) (other (in_tree tree own)) (none own its)).0) layer inside)
+      (second (λ own its. (neither_of (one (in_tree tree own)) (other (in_tree tree own)) (none own its)).1) layer inside)
 
-      asked_of : (path : Path) → IsDirectory tree path → (asked : List FsRight) → Kept (λ layer. lacks_one_of layer path asked)
-      asked_of path directory asked none = asked_there path directory (λ right. list_any (is_right right) asked) none
+  asked_of : (path : Path) → IsDirectory tree path → (asked : List FsRight) → Kept (λ layer. lacks_one_of layer path asked)
+  asked_of path directory asked none = asked_there path directory (λ right. list_any (is_right right) asked) none
 
-      others_kept : (move : Move) → IsNode tree move.moved → (how : How) (target : Target) → IsTargetIn tree target
-          → Kept (λ layer. other_gains tree move layer how target)
-      others_kept move within Exchange (Over other) inside =
-          gains_kept (kind_at tree other) other inside (source_of tree move) (above tree move.moved listed within)
-      others_kept move within Exchange (New directory) inside = λ none layer its. refl
-      others_kept move within Rename target inside = λ none layer its. refl
-      others_kept move within Link target inside = λ none layer its. refl
+  others_kept : AllKeepGains is_file old new → (move : Move) → IsNode tree move.moved → (how : How) (target : Target) → IsTargetIn tree target
+      → Kept (λ layer. other_gains tree move layer how target)
+  others_kept gaining move within Exchange (Over other) inside =
+      gains_kept gaining (kind_at tree other) other inside (source_of tree move) (above tree move.moved ruled_in.listed within)
+  others_kept gaining move within Exchange (New directory) inside = λ none layer its. refl
+  others_kept gaining move within Rename target inside = λ none layer its. refl
+  others_kept gaining move within Link target inside = λ none layer its. refl
 
-      module _ (move : Move) (within : IsNode tree move.moved) (there_in : IsTargetIn tree move.target) (of : IsTargetOf tree move.target) where
-        denies_kept : Kept (denies tree move)
-        denies_kept =
-            either_kept (λ layer. lacks_one_of layer (source_of tree move) (asked_of_source move.how (kind_at tree move.moved) (kind_there tree move.target)))
-            (λ layer. lacks_one_of layer (destination_of tree move.target) (asked_of_destination (kind_at tree move.moved) (kind_there tree move.target)))
-            (asked_of (source_of tree move) (above tree move.moved listed within)
-            (asked_of_source move.how (kind_at tree move.moved) (kind_there tree move.target)))
-            (asked_of (destination_of tree move.target) (destination move.target there_in of)
-            (asked_of_destination (kind_at tree move.moved) (kind_there tree move.target)))
+  denies_kept : (move : Move) → IsNode tree move.moved → IsTargetIn tree move.target → IsTargetOf tree move.target → Kept (denies tree move)
+  denies_kept move within there_in of =
+      either_kept (λ layer. lacks_one_of layer (source_of tree move) (asked_of_source move.how (kind_at tree move.moved) (kind_there tree move.target)))
+      (λ layer. lacks_one_of layer (destination_of tree move.target) (asked_of_destination (kind_at tree move.moved) (kind_there tree move.target)))
+      (asked_of (source_of tree move) (above tree move.moved ruled_in.listed within)
+      (asked_of_source move.how (kind_at tree move.moved) (kind_there tree move.target)))
+      (asked_of (destination_of tree move.target) (destination move.target there_in of)
+      (asked_of_destination (kind_at tree move.moved) (kind_there tree move.target)))
 
-        holds_kept : Kept (holds_back tree move)
-        holds_kept =
-            either_kept (λ layer. lacks_one_of layer (source_of tree move) (refer ∷ []) || lacks_one_of layer (destination_of tree move.target) (refer ∷ []))
-            (λ layer. gains layer (kind_at tree move.moved) (path_at tree move.moved) (destination_of tree move.target)
-            || other_gains tree move layer move.how move.target)
-            (either_kept (λ layer. lacks_one_of layer (source_of tree move) (refer ∷ []))
-            (λ layer. lacks_one_of layer (destination_of tree move.target) (refer ∷ []))
-            (asked_of (source_of tree move) (above tree move.moved listed within) (refer ∷ []))
-            (asked_of (destination_of tree move.target) (destination move.target there_in of) (refer ∷ [])))
-            (either_kept (λ layer. gains layer (kind_at tree move.moved) (path_at tree move.moved) (destination_of tree move.target))
-            (λ layer. other_gains tree move layer move.how move.target)
-            (gains_kept (kind_at tree move.moved) move.moved within (destination_of tree move.target) (destination move.target there_in of))
-            (others_kept move within move.how move.target there_in))
+  holds_kept : AllKeepGains is_file old new → (move : Move) → IsNode tree move.moved → IsTargetIn tree move.target → IsTargetOf tree move.target
+      → Kept (holds_back tree move)
+  holds_kept gaining move within there_in of =
+      either_kept (λ layer. lacks_one_of layer (source_of tree move) (refer ∷ []) || lacks_one_of layer (destination_of tree move.target) (refer ∷ []))
+      (λ layer. gains layer (kind_at tree move.moved) (path_at tree move.moved) (destination_of tree move.target)
+      || other_gains tree move layer move.how move.target)
+      (either_kept (λ layer. lacks_one_of layer (source_of tree move) (refer ∷ []))
+      (λ layer. lacks_one_of layer (destination_of tree move.target) (refer ∷ []))
+      (asked_of (source_of tree move) (above tree move.moved ruled_in.listed within) (refer ∷ []))
+      (asked_of (destination_of tree move.target) (destination move.target there_in of) (refer ∷ [])))
+      (either_kept (λ layer. gains layer (kind_at tree move.moved) (path_at tree move.moved) (destination_of tree move.target))
+      (λ layer. other_gains tree move layer move.how move.target)
+      (gains_kept gaining (kind_at tree move.moved) move.moved within (destination_of tree move.target) (destination move.target there_in of))
+      (others_kept gaining move within move.how move.target there_in))
 
-        numbers_kept : (test : RulesOn Path → Bool) → Kept test → numbers_from test 1 (all_in_tree tree new) ≡ []
-            → numbers_from test 1 (all_in_tree tree old) ≡ []
-        numbers_kept test keeps none = each_none tree test 1 old (keeps (none_each tree test 1 new none))
+  numbers_kept : (test : RulesOn Path → Bool) → Kept test → numbers_from test 1 (all_in_tree tree new) ≡ []
+      → numbers_from test 1 (all_in_tree tree old) ≡ []
+  numbers_kept test keeps none = each_none tree test 1 old (keeps (none_each tree test 1 new none))
 
-        pub passes_no_more : move_verdict tree (all_in_tree tree new) move ≡ Passed → move_verdict tree (all_in_tree tree old) move ≡ Passed
-        unfolding move_verdict
-        passes_no_more passing =
-            let parts = passed_parts Acces (numbers_from (denies tree move) 1 (all_in_tree tree new)) _ passing in
-            passed_from Acces (numbers_from (denies tree move) 1 (all_in_tree tree old)) _ (numbers_kept (denies tree move) denies_kept parts.0)
-            (crossing (path_eq (source_of tree move) (destination_of tree move.target)) (numbers_from (holds_back tree move) 1 (all_in_tree tree new))
-            (numbers_from (holds_back tree move) 1 (all_in_tree tree old)) (numbers_kept (holds_back tree move) holds_kept) parts.1)
-
--- ---- as the laws say it
-
-pub refuses_no_more_anywhere : (is_file : ℕ → Bool) (old new : List (RulesOn ℕ)) → NothingMoreOnObjects is_file old new
-    → (tree : List Entry) → AreRuledIn is_file old new tree → (object : NodeId) → IsNode tree object → (wanted : Fs)
-    → refusing (all_in_tree tree new) (path_at tree object) wanted ≡ [] → refusing (all_in_tree tree old) (path_at tree object) wanted ≡ []
-refuses_no_more_anywhere is_file old new nothing tree ruled_in object within wanted none =
-    refuses_no_more is_file old new tree ruled_in.listed ruled_in.tells ruled_in.old_inside ruled_in.new_inside nothing object within wanted none
-
-pub passes_no_more_anywhere : (is_file : ℕ → Bool) (old new : List (RulesOn ℕ)) → NothingMoreOnObjects is_file old new → AllKeepGains is_file old new
-    → (tree : List Entry) → AreRuledIn is_file old new tree → (move : Move) → IsNode tree move.moved → IsTargetIn tree move.target
-    → IsTargetOf tree move.target → move_verdict tree (all_in_tree tree new) move ≡ Passed → move_verdict tree (all_in_tree tree old) move ≡ Passed
-passes_no_more_anywhere is_file old new nothing gaining tree ruled_in move within there_in of passing =
-    passes_no_more is_file old new tree ruled_in.listed ruled_in.tells ruled_in.old_inside ruled_in.new_inside nothing gaining move within there_in of passing
+  pub passes_no_more_anywhere : AllKeepGains is_file old new → (move : Move) → IsNode tree move.moved → IsTargetIn tree move.target → IsTargetOf tree move.target
+      → move_verdict tree (all_in_tree tree new) move ≡ Passed → move_verdict tree (all_in_tree tree old) move ≡ Passed
+  unfolding move_verdict
+  passes_no_more_anywhere gaining move within there_in of passing =
+      let parts = passed_parts Acces (numbers_from (denies tree move) 1 (all_in_tree tree new)) _ passing in
+      passed_from Acces (numbers_from (denies tree move) 1 (all_in_tree tree old)) _ (numbers_kept (denies tree move) (denies_kept move within there_in of) parts.0)
+      (crossing (path_eq (source_of tree move) (destination_of tree move.target)) (numbers_from (holds_back tree move) 1 (all_in_tree tree new))
+      (numbers_from (holds_back tree move) 1 (all_in_tree tree old)) (numbers_kept (holds_back tree move) (holds_kept gaining move within there_in of)) parts.1)

@@ -52,6 +52,10 @@ that_fails p (x ∷ xs) none =
       | inr fails ↦ (x, here x xs, fails)
     ]
 
+pub all_of_mapped : {A B : Type 0} (test : B → Bool) (f : A → B) (xs : List A) → list_all test (map f xs) ≡ list_all (λ x. test (f x)) xs
+all_of_mapped test f [] = refl
+all_of_mapped test f (x ∷ xs) = ap (λ (b : Bool). test (f x) && b) (all_of_mapped test f xs)
+
 -- ---- filters, and lists of lists
 
 filtered_at : {X : Type 0} (p : X → Bool) (xs : List X) (x : X) (k : ℕ) → k < length xs → get_or xs k x ≡ x → p x ≡ true → Contains (filter p xs) x

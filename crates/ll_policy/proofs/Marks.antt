@@ -28,17 +28,27 @@ among k marks = among_from 0 k k marks (omega arith)
 
 -- ---- a walk over the marks, one step on and at the end
 
+-- the places from one on: its own, if it is marked, and those after it
+places_next : (marks : List Bool) (i : ℕ) → i < length marks → places_from i (drop i marks)
+    ≡ cond (get_or marks i false) (i ∷ places_from (i + 1) (drop (i + 1) marks)) (places_from (i + 1) (drop (i + 1) marks))
+unfolding places_from
+places_next marks i within = at_drop_more (places_from i) marks i false within ∙ by_mark i (get_or marks i false) (drop (i + 1) marks)
+  where
+    by_mark : (n : ℕ) (mark : Bool) (rest : List Bool) → places_from n (mark ∷ rest) ≡ cond mark (n ∷ places_from (n + 1) rest) (places_from (n + 1) rest)
+    by_mark n true rest = refl
+    by_mark n false rest = refl
+
+all_if : (p : ℕ → Bool) (mark : Bool) (n : ℕ) (rest : List ℕ) → list_all p (cond mark (n ∷ rest) rest) ≡ ((not mark || p n) && list_all p rest)
+all_if p true n rest = refl
+all_if p false n rest = refl
+
+first_if : (p : ℕ → Bool) (mark : Bool) (n : ℕ) (rest : List ℕ) → find p (cond mark (n ∷ rest) rest) ≡ cond (mark && p n) (Some n) (find p rest)
+first_if p true n rest = refl
+first_if p false n rest = refl
+
 pub walked_more : (p : ℕ → Bool) (marks : List Bool) (i : ℕ) → i < length marks
     → list_all p (places_from i (drop i marks)) ≡ ((not (get_or marks i false) || p i) && list_all p (places_from (i + 1) (drop (i + 1) marks)))
-unfolding places_from
-walked_more p marks i within =
-    at_drop_more (λ (rest : List Bool). list_all p (places_from i rest)) marks i false within
-    ∙ by_mark p i (get_or marks i false) (drop (i + 1) marks)
-  where
-    by_mark : (q : ℕ → Bool) (n : ℕ) (mark : Bool) (rest : List Bool)
-        → list_all q (places_from n (mark ∷ rest)) ≡ ((not mark || q n) && list_all q (places_from (n + 1) rest))
-    by_mark q n true rest = refl
-    by_mark q n false rest = refl
+walked_more p marks i within = ap (list_all p) (places_next marks i within) ∙ all_if p (get_or marks i false) i (places_from (i + 1) (drop (i + 1) marks))
 
 pub walked_all : (p : ℕ → Bool) (marks : List Bool) (i : ℕ) → length marks ≤ i → list_all p (places_from i (drop i marks)) ≡ true
 unfolding places_from
@@ -46,15 +56,7 @@ walked_all p marks i past = at_drop_all (λ (rest : List Bool). list_all p (plac
 
 pub sought_more : (p : ℕ → Bool) (marks : List Bool) (i : ℕ) → i < length marks
     → find p (places_from i (drop i marks)) ≡ cond (get_or marks i false && p i) (Some i) (find p (places_from (i + 1) (drop (i + 1) marks)))
-unfolding places_from
-sought_more p marks i within =
-    at_drop_more (λ (rest : List Bool). find p (places_from i rest)) marks i false within
-    ∙ by_mark p i (get_or marks i false) (drop (i + 1) marks)
-  where
-    by_mark : (q : ℕ → Bool) (n : ℕ) (mark : Bool) (rest : List Bool)
-        → find q (places_from n (mark ∷ rest)) ≡ cond (mark && q n) (Some n) (find q (places_from (n + 1) rest))
-    by_mark q n true rest = refl
-    by_mark q n false rest = refl
+sought_more p marks i within = ap (find p) (places_next marks i within) ∙ first_if p (get_or marks i false) i (places_from (i + 1) (drop (i + 1) marks))
 
 pub sought_all : (p : ℕ → Bool) (marks : List Bool) (i : ℕ) → length marks ≤ i → find p (places_from i (drop i marks)) ≡ None
 unfolding places_from

@@ -114,14 +114,12 @@ module _ (domain : List (RulesOn Path)) (tree : List Entry) (move : Move) (other
   held : numbers_from (holds_back tree move) 1 domain ≡ numbers_from (holds_back other_tree other) 1 domain
   held = numbers-within (AlikeFor tree move other_tree other) (holds_back tree move) (holds_back other_tree other) holds_back-alike domain alike_for_each
 
-  pub move_verdict-alike : stays tree move ≡ stays other_tree other → move_verdict tree domain move ≡ move_verdict other_tree domain other
+  pub verdict_alike : stays tree move ≡ stays other_tree other → move_verdict tree domain move ≡ move_verdict other_tree domain other
   unfolding move_verdict
-  move_verdict-alike within = rw (denied, within, held) refl
+  verdict_alike within = rw (denied, within, held) refl
 
-  pub move_verdict-stays : stays tree move ≡ true → stays other_tree other ≡ false
+  pub verdict_where_one_stays : stays tree move ≡ true → stays other_tree other ≡ false
       → move_verdict tree domain move ≡ within_one_directory (move_verdict other_tree domain other)
   unfolding move_verdict
-  move_verdict-stays within leaves =
+  verdict_where_one_stays within leaves =
       rw (denied, within, leaves) (without_crossing (numbers_from (denies other_tree other) 1 domain) (numbers_from (holds_back other_tree other) 1 domain))
-
-pub ruleset verdicts_alike = (move_verdict-alike, move_verdict-stays)

@@ -24,10 +24,6 @@ pub one_among : (object : ℕ) (grants : List ℕ) → some_among (single object
 unfolding some_among
 one_among object grants = or_false (is_among object grants)
 
-pub all_of_mapped : {A B : Type 0} (test : B → Bool) (f : A → B) (xs : List A) → list_all test (map f xs) ≡ list_all (λ x. test (f x)) xs
-all_of_mapped test f [] = refl
-all_of_mapped test f (x ∷ xs) = ap (λ (b : Bool). test (f x) && b) (all_of_mapped test f xs)
-
 -- what layers say of each of some rights, in each region
 abbrev pub said_of : List ℕ → Kind → List (RulesOn ℕ) → List FsRight → List (List Granting)
 said_of parents kind layers rights = map (map (spread parents)) (map (λ right. map (granting right) layers) (filter (applies kind) rights))
@@ -120,39 +116,38 @@ moves_nowhere parents layers count refers counted is none to within =
 
 -- ---- what is told by tests that agree
 
-module _ (is_file : ℕ → Bool) (parents : List ℕ) (kind : Kind) where
-  movers_alike : (one other one_also other_also : ℕ → ℕ → ℕ → Bool) → ((o f t : ℕ) → one o f t ≡ one_also o f t)
-      → ((o f t : ℕ) → other o f t ≡ other_also o f t) → (to : ℕ) (found : Movers)
-      → TellsMovers is_file parents kind one other to found → TellsMovers is_file parents kind one_also other_also to found
-  movers_alike one other one_also other_also first second to found told =
-      let alone : (o f : ℕ) → moves_alone one other o f to ≡ moves_alone one_also other_also o f to = λ o f. rw (first o f to, second o f to) refl in
-      let all : List ℕ = range_with_len 0 (length parents + 1) in
-      record {
-        beneath = told.beneath
-            ∙ filter_agree (beneath_alone is_file one other to) (beneath_alone is_file one_also other_also to)
-            (λ n. ap (λ (b : Bool). not (is_file n) && b) (alone n n)) all;
-        themselves = told.themselves
-            ∙ filter_agree (itself_alone is_file parents kind one other to) (itself_alone is_file parents kind one_also other_also to)
-            (λ n. ap (λ (b : Bool). may_be is_file kind n && b) (alone n (parent_in parents n))) all;
-      }
-
-  module _ (before after before_also after_also : ℕ → ℕ → ℕ → Bool) (first : (o f t : ℕ) → before o f t ≡ before_also o f t)
-      (second : (o f t : ℕ) → after o f t ≡ after_also o f t) where
-    match_alike : (to : ℕ) (found : Option MovedTo)
-        → MatchOption found (NoneComes before to × NoneComes after to) (TellsMoved is_file parents kind before after to)
-        → MatchOption found (NoneComes before_also to × NoneComes after_also to) (TellsMoved is_file parents kind before_also after_also to)
-    match_alike to None none = (λ o f. sym (first o f to) ∙ none.0 o f, λ o f. sym (second o f to) ∙ none.1 o f)
-    match_alike to (Some moved) told = record {
-      new = movers_alike after before after_also before_also second first to moved.new told.new;
-      old = movers_alike before after before_also after_also first second to moved.old told.old;
+movers_alike : (is_file : ℕ → Bool) (parents : List ℕ) (kind : Kind) (one other one_also other_also : ℕ → ℕ → ℕ → Bool)
+    → ((o f t : ℕ) → one o f t ≡ one_also o f t) → ((o f t : ℕ) → other o f t ≡ other_also o f t) → (to : ℕ) (found : Movers)
+    → TellsMovers is_file parents kind one other to found → TellsMovers is_file parents kind one_also other_also to found
+movers_alike is_file parents kind one other one_also other_also first second to found told =
+    let alone : (o f : ℕ) → moves_alone one other o f to ≡ moves_alone one_also other_also o f to = λ o f. rw (first o f to, second o f to) refl in
+    let all : List ℕ = range_with_len 0 (length parents + 1) in
+    record {
+      beneath = told.beneath
+          ∙ filter_agree (beneath_alone is_file one other to) (beneath_alone is_file one_also other_also to)
+          (λ n. ap (λ (b : Bool). not (is_file n) && b) (alone n n)) all;
+      themselves = told.themselves
+          ∙ filter_agree (itself_alone is_file parents kind one other to) (itself_alone is_file parents kind one_also other_also to)
+          (λ n. ap (λ (b : Bool). may_be is_file kind n && b) (alone n (parent_in parents n))) all;
     }
 
-    pub moved_to_alike : (to : ℕ) (found : Option MovedTo) → TellsMovedTo is_file parents kind before after to found
-        → TellsMovedTo is_file parents kind before_also after_also to found
-    moved_to_alike to found told = record {
-      file = told.file;
-      directory = λ is. match_alike to found (told.directory is);
-    }
+module _ (is_file : ℕ → Bool) (parents : List ℕ) (kind : Kind) (before after before_also after_also : ℕ → ℕ → ℕ → Bool)
+    (first : (o f t : ℕ) → before o f t ≡ before_also o f t) (second : (o f t : ℕ) → after o f t ≡ after_also o f t) where
+  match_alike : (to : ℕ) (found : Option MovedTo)
+      → MatchOption found (NoneComes before to × NoneComes after to) (TellsMoved is_file parents kind before after to)
+      → MatchOption found (NoneComes before_also to × NoneComes after_also to) (TellsMoved is_file parents kind before_also after_also to)
+  match_alike to None none = (λ o f. sym (first o f to) ∙ none.0 o f, λ o f. sym (second o f to) ∙ none.1 o f)
+  match_alike to (Some moved) told = record {
+    new = movers_alike is_file parents kind after before after_also before_also second first to moved.new told.new;
+    old = movers_alike is_file parents kind before after before_also after_also first second to moved.old told.old;
+  }
+
+  pub moved_to_alike : (to : ℕ) (found : Option MovedTo) → TellsMovedTo is_file parents kind before after to found
+      → TellsMovedTo is_file parents kind before_also after_also to found
+  moved_to_alike to found told = record {
+    file = told.file;
+    directory = λ is. match_alike to found (told.directory is);
+  }
 
 pub told_of_moves : (is_file : ℕ → Bool) (parents : List ℕ) (kind : Kind) (count : ℕ) (old new : List (RulesOn ℕ)) (before after : MoveGranting)
     (found : List (Option MovedTo)) → count ≡ length parents + 1 → before ≡ spread_all parents (about_moves kind old)

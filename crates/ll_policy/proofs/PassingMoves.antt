@@ -233,5 +233,3 @@ exchange_is_two_renames domain tree one other =
     ∙ ap (λ (b : Bool). (is_none (numbers_from (denies tree there) 1 domain) && (path_eq from to || is_none (numbers_from (holds_back tree there) 1 domain)))
     && (is_none (numbers_from (denies tree back) 1 domain) && (b || is_none (numbers_from (holds_back tree back) 1 domain)))) (path_eq-turned from to)
     ∙ rw (parts domain tree there, parts domain tree back) refl
-
-pub ruleset made_of_others = (rename_is_link_and_removal, onto_is_new_and_removal, exchange_is_two_renames)

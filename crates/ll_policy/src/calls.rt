@@ -29,7 +29,7 @@ pub fn rights_are_refused_one_by_one()
 /// Moves that are alike have one verdict, also where each is made in a tree of its own, if both stay within a
 /// directory or neither does. If one stays and the other doesn't, the verdicts differ only in what refuses moves between
 /// directories.
-#[tactic(auto, using(crate::proofs::MovesAlike::verdicts_alike))]
+#[tactic(auto, using(crate::proofs::MovesAlike::verdict_alike, crate::proofs::MovesAlike::verdict_where_one_stays))]
 pub fn moves_alike_have_one_verdict()
     ensures same { (domain : List (RulesOn Path)) (tree : List Entry) (attempt : Attempt)
         (other_tree : List Entry) (other : Attempt) → AreAlike domain tree attempt other_tree other
@@ -45,7 +45,7 @@ pub fn moves_alike_have_one_verdict()
 /// A rename passes where the link would pass and the object may be removed; onto an object that is there, where the
 /// rename to a new name would pass and that object may be removed too; and an exchange passes where each object may be
 /// moved onto the other.
-#[tactic(auto, using(crate::proofs::PassingMoves::made_of_others))]
+#[tactic(auto, using(crate::proofs::PassingMoves::rename_is_link_and_removal, crate::proofs::PassingMoves::onto_is_new_and_removal, crate::proofs::PassingMoves::exchange_is_two_renames))]
 pub fn moves_made_of_others()
     ensures rename { (domain : List (RulesOn Path)) (tree : List Entry) (moved : NodeId)
         (target : MoveTarget) → lets_pass domain tree (renaming moved target)
@@ -66,7 +66,7 @@ pub fn moves_made_of_others()
 
 /// A move from one directory of a tree to another passes exactly if it does by the chains of rules on three ways up: from
 /// the object, from the directory that it leaves, and from the one that it comes to.
-#[tactic(auto, using(crate::proofs::ChainMoves::moves_by_chains))]
+#[tactic(auto, using(crate::proofs::ChainMoves::link_by_chains, crate::proofs::ChainMoves::rename_by_chains))]
 pub fn moves_pass_by_ways_up()
     ensures link { (tree : List Entry) (layers : List (RulesOn ℕ)) (moved directory : NodeId)
         (object from to : List ℕ) → GoesBy tree layers moved directory object from to

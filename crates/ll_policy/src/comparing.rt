@@ -1,44 +1,62 @@
 //! Two policies compared, with each right.
 
-ghost use Rattle.std.specs.Prelude.{◌≡◌, ◌↔◌, IfOk, IsTrue, map};
+ghost use Rattle.std.specs.Prelude.{◌≡◌, IfOk, Ok, map};
+ghost use Rattle.std.specs.Fn.{FnReturnsAtPair};
 ghost use Rattle.std.specs.List.{AllZip};
 ghost use Rattle.ll_rights.specs.CodeRights.{fs_right};
 ghost use Rattle.ll_rights.specs.Rights as for_files;
 ghost use Rattle.ll_policy.specs.Chains.{AreDirectories};
 ghost use Rattle.ll_policy.specs.Found.{TellsObjects, TellsGains, TellsSingleObjects, asked_of};
-ghost use Rattle.ll_policy.specs.Gains.{AllKeepGains};
-ghost use Rattle.ll_policy.specs.Granted.{root, NothingMoreOnObjects};
+ghost use Rattle.ll_policy.specs.Granted.{granting, root};
 ghost use Rattle.ll_policy.specs.Places.{is_file_in};
 ghost use Rattle.ll_policy.specs.Policies.{rules_of};
 
 use crate::deciding::{ROOT, each_enough, excesses};
 use crate::gaining::{Gain, gains};
-use crate::granting::all_on_objects;
+use crate::granting::{Granting, all_on_objects};
 use crate::layer::Layer;
 use ll_rights::{Fs, FsRight};
 use std::alloc::{AllocError, Global};
 
-/// For each old layer, a chain of objects that new layers let pass with a right and it doesn't, if there is one; nothing
-/// of a right that isn't asked about.
-fn objects_with(
+/// What the layers of a policy say of a right for files, if it is asked about; else nothing.
+fn said_if_asked(
     alloc: Global,
     asked: Fs,
-    files: &[bool],
+    layers: &[Layer],
+    right: FsRight,
+) -> Result<Vec<Granting>, AllocError>
+    ensures { IfOk result (λ said. said.items
+        ≡ map (granting (fs_right right))
+        (asked_of asked (fs_right right) (map rules_of layers.now))) }
+{
+    if asked.has(right) {
+        return all_on_objects(alloc, layers, right);
+    }
+    Ok(Vec::new(alloc))
+}
+
+/// What is found of each right for files, of what old layers say of it, if it is asked about, and what new ones say.
+fn found_of_each<T: Drop, F: Fn(&[Granting], &[Granting]) -> Result<Vec<T>, AllocError>>(
+    alloc: Global,
+    asked: Fs,
     old: &[Layer],
     new: &[Layer],
-    right: FsRight,
-) -> Result<Vec<Option<Vec<usize>>>, AllocError>
-    requires { AreDirectories (is_file_in files.now) root }
-    ensures { IfOk result (TellsObjects (is_file_in files.now)
-        (asked_of asked (fs_right right) (map rules_of old.now)) (map rules_of new.now)
-        (fs_right right)) }
+    compare: F,
+) -> Result<Vec<Vec<T>>, AllocError>
+    requires { F.IsAlwaysCallable compare }
+    ensures { IfOk result (λ found. AllZip
+        (λ right told. FnReturnsAtPair F.Fn compare
+        (map (granting right) (asked_of asked right (map rules_of old.now)))
+        (map (granting right) (map rules_of new.now)) (Ok told))
+        for_files.all_rights found.items) }
 {
-    if !asked.has(right) {
-        return Ok(Vec::new(alloc));
+    let mut found = Vec::new(alloc);
+    for right in FsRight::all() {
+        let old = said_if_asked(alloc, asked, old, *right)?;
+        let new = all_on_objects(alloc, new, *right)?;
+        found.push(compare(&old, &new)?)?;
     }
-    let old = all_on_objects(alloc, old, right)?;
-    let new = all_on_objects(alloc, new, right)?;
-    excesses(alloc, files, &[ROOT], &old, &new)
+    Ok(found)
 }
 
 /// What new layers let pass on objects and old ones don't: for each right for files and, if it is asked about, each old
@@ -56,33 +74,9 @@ pub fn more_on_objects(
         (asked_of asked right (map rules_of old.now)) (map rules_of new.now) right)
         for_files.all_rights found.items) }
 {
-    let mut found = Vec::new(alloc);
-    for right in FsRight::all() {
-        found.push(objects_with(alloc, asked, files, old, new, *right)?)?;
-    }
-    Ok(found)
-}
-
-/// For each old layer, those of so many objects by each of which new layers let a right pass and it doesn't; nothing of a
-/// right that isn't asked about.
-fn single_with(
-    alloc: Global,
-    asked: Fs,
-    count: usize,
-    old: &[Layer],
-    new: &[Layer],
-    right: FsRight,
-) -> Result<Vec<Vec<usize>>, AllocError>
-    ensures { IfOk result (TellsSingleObjects count
-        (asked_of asked (fs_right right) (map rules_of old.now)) (map rules_of new.now)
-        (fs_right right)) }
-{
-    if !asked.has(right) {
-        return Ok(Vec::new(alloc));
-    }
-    let old = all_on_objects(alloc, old, right)?;
-    let new = all_on_objects(alloc, new, right)?;
-    each_enough(alloc, count, &old, &new)
+    Ok(found_of_each(alloc, asked, old, new, |old, new| {
+        excesses(alloc, files, &[ROOT], old, new)
+    })?)
 }
 
 /// The objects by each of which new layers let a right pass and old ones don't, among so many: for each right for files
@@ -99,34 +93,9 @@ pub fn more_on_single_objects(
         (asked_of asked right (map rules_of old.now)) (map rules_of new.now) right)
         for_files.all_rights found.items) }
 {
-    let mut found = Vec::new(alloc);
-    for right in FsRight::all() {
-        found.push(single_with(alloc, asked, count, old, new, *right)?)?;
-    }
-    Ok(found)
-}
-
-/// For each old layer, what gains a right in it and in no new layer, if there is something; nothing of a right that isn't
-/// asked about.
-fn gains_with(
-    alloc: Global,
-    asked: Fs,
-    files: &[bool],
-    old: &[Layer],
-    new: &[Layer],
-    right: FsRight,
-) -> Result<Vec<Option<Gain>>, AllocError>
-    requires { AreDirectories (is_file_in files.now) root }
-    ensures { IfOk result (TellsGains (is_file_in files.now)
-        (asked_of asked (fs_right right) (map rules_of old.now)) (map rules_of new.now)
-        (fs_right right)) }
-{
-    if !asked.has(right) {
-        return Ok(Vec::new(alloc));
-    }
-    let old = all_on_objects(alloc, old, right)?;
-    let new = all_on_objects(alloc, new, right)?;
-    gains(alloc, files, &old, &new)
+    Ok(found_of_each(alloc, asked, old, new, |old, new| {
+        each_enough(alloc, count, old, new)
+    })?)
 }
 
 /// What gains a right in an old layer and in no new one: for each right for files and, if it is asked about, each old
@@ -144,9 +113,7 @@ pub fn more_gains(
         (asked_of asked right (map rules_of old.now)) (map rules_of new.now) right)
         for_files.all_rights found.items) }
 {
-    let mut found = Vec::new(alloc);
-    for right in FsRight::all() {
-        found.push(gains_with(alloc, asked, files, old, new, *right)?)?;
-    }
-    Ok(found)
+    Ok(found_of_each(alloc, asked, old, new, |old, new| {
+        gains(alloc, files, old, new)
+    })?)
 }

@@ -38,11 +38,7 @@ fn marks_on_objects(alloc: Global, sets: &[Fs], right: FsRight) -> Result<Vec<bo
     ensures { IfOk result (λ on.
         on.items ≡ map (λ set. files.has set (fs_right right)) sets.now) }
 {
-    let mut on = Vec::new(alloc);
-    for set in sets {
-        on.push(set.has(right))?;
-    }
-    Ok(on)
+    sets.iter().map(|set| set.has(right)).collect(alloc)
 }
 
 /// For each of some sets, whether it has a right.
@@ -50,11 +46,7 @@ fn marks_on_ports(alloc: Global, sets: &[Net], right: NetRight) -> Result<Vec<bo
     ensures { IfOk result (λ on.
         on.items ≡ map (λ set. network.has set (net_right right)) sets.now) }
 {
-    let mut on = Vec::new(alloc);
-    for set in sets {
-        on.push(set.has(right))?;
-    }
-    Ok(on)
+    sets.iter().map(|set| set.has(right)).collect(alloc)
 }
 
 impl Model for Granting {

@@ -215,7 +215,7 @@ impl Moving {
     }
 
     /// Whether an object gains no right by a move.
-    #[tactic(auto, using(crate::proofs::MovesInRegions::all_of_mapped), unfolding(crate::specs::Moving::gains_none))]
+    #[tactic(auto, using(crate::proofs::Lists::all_of_mapped), unfolding(crate::specs::Moving::gains_none))]
     fn gains_none(&self, object: usize, to: usize) -> bool
         ensures { result ≡ specs.gains_none (single object) (single to) self.now.gained }
     {
@@ -251,37 +251,6 @@ impl Moving {
     }
 }
 
-/// Whether one policy lets an object be moved and the other doesn't.
-fn moves_alone(
-    kind: Kind,
-    one: &Moving,
-    other: &Moving,
-    object: usize,
-    from: usize,
-    to: usize,
-) -> bool
-    ensures { result
-        ≡ moves_alone (passes_by kind one.now) (passes_by kind other.now) object from to }
-{
-    one.passes(kind, object, from, to) && !other.passes(kind, object, from, to)
-}
-
-/// Whether that is so of an object without rules in the region of a directory.
-fn beneath_alone(
-    files: &[bool],
-    kind: Kind,
-    one: &Moving,
-    other: &Moving,
-    to: usize,
-    directory: usize,
-) -> bool
-    ensures { result
-        ≡ beneath_alone (is_file_in files.now)
-        (passes_by kind one.now) (passes_by kind other.now) to directory }
-{
-    !is_file(files, directory) && moves_alone(kind, one, other, directory, directory, to)
-}
-
 /// What an object is in.
 fn parent_in(parents: &[usize], object: usize) -> usize
     ensures { result ≡ parent_in parents.now object }
@@ -305,138 +274,123 @@ fn may_be(files: &[bool], kind: Kind, object: usize) -> bool
     }
 }
 
-/// Whether one policy alone lets an object with rules be moved.
-fn itself_alone(
-    files: &[bool],
-    parents: &[usize],
+/// What two policies say of moves of objects of a kind.
+#[derive(Clone, Copy)]
+struct Sides<'a> {
+    files: &'a [bool],
+    parents: &'a [usize],
     kind: Kind,
-    one: &Moving,
-    other: &Moving,
-    to: usize,
-    object: usize,
-) -> bool
-    ensures { result
-        ≡ itself_alone (is_file_in files.now) parents.now kind
-        (passes_by kind one.now) (passes_by kind other.now) to object }
-{
-    may_be(files, kind, object)
-        && moves_alone(kind, one, other, object, parent_in(parents, object), to)
+    one: &'a Moving,
+    other: &'a Moving,
 }
 
-/// The directories in whose regions one policy alone lets objects be moved.
-fn all_beneath(
-    alloc: Global,
-    files: &[bool],
-    kind: Kind,
-    one: &Moving,
-    other: &Moving,
-    count: usize,
-    to: usize,
-) -> Result<Vec<usize>, AllocError>
-    ensures { IfOk result (λ found. found.items
-        ≡ filter (beneath_alone (is_file_in files.now)
-        (passes_by kind one.now) (passes_by kind other.now) to) (range_with_len 0 count)) }
-{
-    let mut found = Vec::new(alloc);
-    for directory in 0..count {
-        if beneath_alone(files, kind, one, other, to, directory) {
-            found.push(directory)?;
+impl Sides<'_> {
+    /// Whether the one policy lets an object be moved and the other doesn't.
+    fn moves_alone(&self, object: usize, from: usize, to: usize) -> bool
+        ensures { result
+            ≡ moves_alone (passes_by self.now.kind self.now.one.now)
+            (passes_by self.now.kind self.now.other.now) object from to }
+    {
+        self.one.passes(self.kind, object, from, to)
+            && !self.other.passes(self.kind, object, from, to)
+    }
+
+    /// Whether that is so of an object without rules in the region of a directory.
+    fn beneath_alone(&self, to: usize, directory: usize) -> bool
+        ensures { result
+            ≡ beneath_alone (is_file_in self.now.files.now)
+            (passes_by self.now.kind self.now.one.now)
+            (passes_by self.now.kind self.now.other.now) to directory }
+    {
+        !is_file(self.files, directory) && self.moves_alone(directory, directory, to)
+    }
+
+    /// Whether that is so of an object with rules.
+    fn itself_alone(&self, to: usize, object: usize) -> bool
+        ensures { result
+            ≡ itself_alone (is_file_in self.now.files.now) self.now.parents.now self.now.kind
+            (passes_by self.now.kind self.now.one.now)
+            (passes_by self.now.kind self.now.other.now) to object }
+    {
+        may_be(self.files, self.kind, object)
+            && self.moves_alone(object, parent_in(self.parents, object), to)
+    }
+
+    /// Of so many objects the directories in whose regions the one policy alone lets objects be moved.
+    fn beneath(&self, alloc: Global, count: usize, to: usize) -> Result<Vec<usize>, AllocError>
+        ensures { IfOk result (λ found. found.items
+            ≡ filter (beneath_alone (is_file_in self.now.files.now)
+            (passes_by self.now.kind self.now.one.now)
+            (passes_by self.now.kind self.now.other.now) to) (range_with_len 0 count)) }
+    {
+        (0..count)
+            .filter(|directory| self.beneath_alone(to, *directory))
+            .collect(alloc)
+    }
+
+    /// Of so many objects those with rules that the one policy alone lets be moved.
+    fn themselves(&self, alloc: Global, count: usize, to: usize) -> Result<Vec<usize>, AllocError>
+        ensures { IfOk result (λ found. found.items
+            ≡ filter (itself_alone (is_file_in self.now.files.now) self.now.parents.now
+            self.now.kind (passes_by self.now.kind self.now.one.now)
+            (passes_by self.now.kind self.now.other.now) to) (range_with_len 0 count)) }
+    {
+        (0..count)
+            .filter(|object| self.itself_alone(to, *object))
+            .collect(alloc)
+    }
+
+    /// What the one policy alone lets be moved to a region.
+    fn movers(&self, alloc: Global, to: usize) -> Result<Movers, AllocError>
+        ensures { IfOk result (TellsMovers (is_file_in self.now.files.now) self.now.parents.now
+            self.now.kind (passes_by self.now.kind self.now.one.now)
+            (passes_by self.now.kind self.now.other.now) to) }
+    {
+        let count = self.parents.len() + 1;
+        Ok(Movers {
+            beneath: self.beneath(alloc, count, to)?,
+            themselves: self.themselves(alloc, count, to)?,
+        })
+    }
+
+    /// What each policy alone lets be moved to a region, if that is of a directory to which one of them lets objects
+    /// come. The one policy is the old one.
+    #[tactic(auto, using(crate::proofs::MovesInRegions::nothing_comes))]
+    fn moved_to(&self, alloc: Global, to: usize) -> Result<Option<MovedTo>, AllocError>
+        ensures { IfOk result (TellsMovedTo (is_file_in self.now.files.now) self.now.parents.now
+            self.now.kind (passes_by self.now.kind self.now.one.now)
+            (passes_by self.now.kind self.now.other.now) to) }
+    {
+        if is_file(self.files, to) {
+            return Ok(None);
         }
-    }
-    Ok(found)
-}
-
-/// The objects with rules that one policy alone lets be moved.
-fn all_themselves(
-    alloc: Global,
-    files: &[bool],
-    parents: &[usize],
-    kind: Kind,
-    one: &Moving,
-    other: &Moving,
-    count: usize,
-    to: usize,
-) -> Result<Vec<usize>, AllocError>
-    ensures { IfOk result (λ found. found.items
-        ≡ filter (itself_alone (is_file_in files.now) parents.now kind
-        (passes_by kind one.now) (passes_by kind other.now) to) (range_with_len 0 count)) }
-{
-    let mut found = Vec::new(alloc);
-    for object in 0..count {
-        if itself_alone(files, parents, kind, one, other, to, object) {
-            found.push(object)?;
+        if !self.one.comes(to) && !self.other.comes(to) {
+            return Ok(None);
         }
+        let turned = Sides {
+            one: self.other,
+            other: self.one,
+            ..*self
+        };
+        Ok(Some(MovedTo {
+            new: turned.movers(alloc, to)?,
+            old: self.movers(alloc, to)?,
+        }))
     }
-    Ok(found)
-}
 
-/// What one policy alone lets be moved to a region.
-fn all_movers(
-    alloc: Global,
-    files: &[bool],
-    parents: &[usize],
-    kind: Kind,
-    one: &Moving,
-    other: &Moving,
-    to: usize,
-) -> Result<Movers, AllocError>
-    ensures { IfOk result (TellsMovers (is_file_in files.now) parents.now kind
-        (passes_by kind one.now) (passes_by kind other.now) to) }
-{
-    let count = parents.len() + 1;
-    let beneath = all_beneath(alloc, files, kind, one, other, count, to)?;
-    let themselves = all_themselves(alloc, files, parents, kind, one, other, count, to)?;
-    Ok(Movers {
-        beneath,
-        themselves,
-    })
-}
-
-/// What each policy alone lets be moved to a region, if that is of a directory to which one of them lets objects come.
-#[tactic(auto, using(crate::proofs::MovesInRegions::nothing_comes))]
-fn moved_to(
-    alloc: Global,
-    files: &[bool],
-    parents: &[usize],
-    kind: Kind,
-    old: &Moving,
-    new: &Moving,
-    to: usize,
-) -> Result<Option<MovedTo>, AllocError>
-    ensures { IfOk result (TellsMovedTo (is_file_in files.now) parents.now kind
-        (passes_by kind old.now) (passes_by kind new.now) to) }
-{
-    if is_file(files, to) {
-        return Ok(None);
+    /// The same of each of so many regions.
+    fn moved_to_each(&self, alloc: Global, count: usize) -> Result<Vec<Option<MovedTo>>, AllocError>
+        ensures { IfOk result (λ found. AllZip
+            (TellsMovedTo (is_file_in self.now.files.now) self.now.parents.now self.now.kind
+            (passes_by self.now.kind self.now.one.now)
+            (passes_by self.now.kind self.now.other.now)) (range_with_len 0 count) found.items) }
+    {
+        let mut found = Vec::new(alloc);
+        for to in 0..count {
+            found.push(self.moved_to(alloc, to)?)?;
+        }
+        Ok(found)
     }
-    if !old.comes(to) && !new.comes(to) {
-        return Ok(None);
-    }
-    Ok(Some(MovedTo {
-        new: all_movers(alloc, files, parents, kind, new, old, to)?,
-        old: all_movers(alloc, files, parents, kind, old, new, to)?,
-    }))
-}
-
-/// The same of each of so many regions.
-fn moved_to_each(
-    alloc: Global,
-    files: &[bool],
-    parents: &[usize],
-    kind: Kind,
-    old: &Moving,
-    new: &Moving,
-    count: usize,
-) -> Result<Vec<Option<MovedTo>>, AllocError>
-    ensures { IfOk result (λ found. AllZip
-        (TellsMovedTo (is_file_in files.now) parents.now kind
-        (passes_by kind old.now) (passes_by kind new.now)) (range_with_len 0 count) found.items) }
-{
-    let mut found = Vec::new(alloc);
-    for to in 0..count {
-        found.push(moved_to(alloc, files, parents, kind, old, new, to)?)?;
-    }
-    Ok(found)
 }
 
 /// The moves of objects of a kind that one policy alone lets pass, by the regions that they come to.
@@ -456,8 +410,14 @@ fn moves_of(
 {
     let old = Moving::of(alloc, kind, parents, old)?;
     let new = Moving::of(alloc, kind, parents, new)?;
-    let count = parents.len() + 1;
-    Ok(moved_to_each(alloc, files, parents, kind, &old, &new, count)?)
+    let sides = Sides {
+        files,
+        parents,
+        kind,
+        one: &old,
+        other: &new,
+    };
+    Ok(sides.moved_to_each(alloc, parents.len() + 1)?)
 }
 
 /// Whether a right passes in one of so many regions.

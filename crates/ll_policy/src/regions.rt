@@ -42,62 +42,53 @@ pub(crate) fn all_spread(
     Ok(made)
 }
 
-/// Whether each layer of both policies lets a number pass.
-#[tactic(auto, unfolding(crate::specs::Regions::passes_both))]
-fn passes_both(one: &[Granting], other: &[Granting], number: usize) -> bool
-    ensures { result ≡ passes_both one.now other.now (single number) }
-{
-    let chain = [number];
-    passes(&chain, one) && passes(&chain, other)
+/// What the layers of two policies say of a right.
+#[derive(Clone, Copy)]
+struct Sides<'a> {
+    one: &'a [Granting],
+    other: &'a [Granting],
 }
 
-/// Whether each layer of one policy lets a number pass, and not each of the other.
-#[tactic(auto, unfolding(crate::specs::Regions::passes_alone))]
-fn passes_alone(one: &[Granting], other: &[Granting], number: usize) -> bool
-    ensures { result ≡ passes_alone one.now other.now (single number) }
-{
-    let chain = [number];
-    passes(&chain, one) && !passes(&chain, other)
-}
-
-/// Of so many numbers those that pass under both policies.
-#[tactic(auto, unfolding(crate::specs::Regions::numbers_of))]
-fn both_of(
-    alloc: Global,
-    count: usize,
-    one: &[Granting],
-    other: &[Granting],
-) -> Result<Vec<usize>, AllocError>
-    ensures { IfOk result (λ found. found.items
-        ≡ numbers_of single count (passes_both one.now other.now)) }
-{
-    let mut found = Vec::new(alloc);
-    for number in 0..count {
-        if passes_both(one, other, number) {
-            found.push(number)?;
-        }
+impl Sides<'_> {
+    /// Whether each layer of both policies lets a number pass.
+    #[tactic(auto, unfolding(crate::specs::Regions::passes_both))]
+    fn passes_both(&self, number: usize) -> bool
+        ensures { result ≡ passes_both self.now.one.now self.now.other.now (single number) }
+    {
+        let chain = [number];
+        passes(&chain, self.one) && passes(&chain, self.other)
     }
-    Ok(found)
-}
 
-/// Of so many numbers those that pass under one policy and not under the other.
-#[tactic(auto, unfolding(crate::specs::Regions::numbers_of))]
-fn alone_of(
-    alloc: Global,
-    count: usize,
-    one: &[Granting],
-    other: &[Granting],
-) -> Result<Vec<usize>, AllocError>
-    ensures { IfOk result (λ found. found.items
-        ≡ numbers_of single count (passes_alone one.now other.now)) }
-{
-    let mut found = Vec::new(alloc);
-    for number in 0..count {
-        if passes_alone(one, other, number) {
-            found.push(number)?;
-        }
+    /// Whether each layer of the one policy lets a number pass, and not each of the other.
+    #[tactic(auto, unfolding(crate::specs::Regions::passes_alone))]
+    fn passes_alone(&self, number: usize) -> bool
+        ensures { result ≡ passes_alone self.now.one.now self.now.other.now (single number) }
+    {
+        let chain = [number];
+        passes(&chain, self.one) && !passes(&chain, self.other)
     }
-    Ok(found)
+
+    /// Of so many numbers those that pass under both policies.
+    #[tactic(auto, unfolding(crate::specs::Regions::numbers_of))]
+    fn both(&self, alloc: Global, count: usize) -> Result<Vec<usize>, AllocError>
+        ensures { IfOk result (λ found. found.items
+            ≡ numbers_of single count (passes_both self.now.one.now self.now.other.now)) }
+    {
+        (0..count)
+            .filter(|number| self.passes_both(*number))
+            .collect(alloc)
+    }
+
+    /// Of so many numbers those that pass under the one policy alone.
+    #[tactic(auto, unfolding(crate::specs::Regions::numbers_of))]
+    fn alone(&self, alloc: Global, count: usize) -> Result<Vec<usize>, AllocError>
+        ensures { IfOk result (λ found. found.items
+            ≡ numbers_of single count (passes_alone self.now.one.now self.now.other.now)) }
+    {
+        (0..count)
+            .filter(|number| self.passes_alone(*number))
+            .collect(alloc)
+    }
 }
 
 /// Where the right passes, of so many numbers.
@@ -109,13 +100,18 @@ fn passing_of(
 ) -> Result<Passing, AllocError>
     ensures { IfOk result (TellsPassing single count old.now new.now) }
 {
-    let both = both_of(alloc, count, old, new)?;
-    let alone = alone_of(alloc, count, new, old)?;
-    let old = alone_of(alloc, count, old, new)?;
+    let before = Sides {
+        one: old,
+        other: new,
+    };
+    let after = Sides {
+        one: new,
+        other: old,
+    };
     Ok(Passing {
-        both,
-        new: alone,
-        old,
+        both: before.both(alloc, count)?,
+        new: after.alone(alloc, count)?,
+        old: before.alone(alloc, count)?,
     })
 }
 
