@@ -40,57 +40,53 @@ fn granting_there(
     Ok(found)
 }
 
-/// A chain that new layers which grant on a directory let pass and an old one doesn't, if there is one. `narrow` are
-/// the new layers that are narrow beside the old one.
-fn gain_at(
-    alloc: Global,
-    files: &[bool],
-    old: &Granting,
-    new: &[Granting],
-    narrow: &[Granting],
-    directory: usize,
-) -> Result<Option<Vec<usize>>, AllocError>
-    requires root { AreDirectories (is_file_in files.now) root }
-    requires narrow { narrow.now ≡ narrow_ones (is_file_in files.now) old.now new.now }
-    ensures { IfOk result
-        (Tells (is_file_in files.now) root (granting_there directory new.now) old.now) }
-{
-    let narrow_there = granting_there(alloc, directory, narrow)?;
-    let file = open_file(files, old, &narrow_there);
-    if is_closed(&narrow_there, file) {
-        return Ok(None);
-    }
-    let there = granting_there(alloc, directory, new)?;
-    excess(alloc, files, &[ROOT], old, &there)
+/// What an old layer and new ones say of a right.
+#[derive(Clone, Copy)]
+struct Beside<'a> {
+    files: &'a [bool],
+    old: &'a Granting,
+    new: &'a [Granting],
+    /// The new layers that are narrow beside the old one.
+    narrow: &'a [Granting],
+    ghost has_root: { AreDirectories (is_file_in files.now) root },
+    ghost are_narrow: { narrow.now ≡ narrow_ones (is_file_in files.now) old.now new.now },
 }
 
-/// Whether an object is a directory on which the old layer grants the right.
-fn is_asked(files: &[bool], old: &Granting, directory: usize) -> bool
-    ensures { result
-        ≡ (is_among directory old.now.grants && not (is_file_in files.now directory)) }
-{
-    old.grants_on(directory) && !is_file(files, directory)
-}
-
-/// Whether something may gain the right in one directory in an old layer and in no new one.
-fn gain_into(
-    alloc: Global,
-    files: &[bool],
-    old: &Granting,
-    new: &[Granting],
-    narrow: &[Granting],
-    directory: usize,
-) -> Result<Option<Gain>, AllocError>
-    requires root { AreDirectories (is_file_in files.now) root }
-    requires narrow { narrow.now ≡ narrow_ones (is_file_in files.now) old.now new.now }
-    ensures { IfOk result (TellsGainInto (is_file_in files.now) new.now old.now directory) }
-{
-    if !is_asked(files, old, directory) {
-        return Ok(None);
+impl Beside<'_> {
+    /// A chain that new layers which grant on a directory let pass and the old one doesn't, if there is one.
+    fn gain_at(&self, alloc: Global, directory: usize) -> Result<Option<Vec<usize>>, AllocError>
+        ensures { IfOk result (Tells (is_file_in self.now.files.now) root
+            (granting_there directory self.now.new.now) self.now.old.now) }
+    {
+        let narrow_there = granting_there(alloc, directory, self.narrow)?;
+        let file = open_file(self.files, self.old, &narrow_there);
+        if is_closed(&narrow_there, file) {
+            return Ok(None);
+        }
+        let there = granting_there(alloc, directory, self.new)?;
+        excess(alloc, self.files, &[ROOT], self.old, &there)
     }
-    match gain_at(alloc, files, old, new, narrow, directory)? {
-        None => Ok(None),
-        Some(chain) => Ok(Some(Gain { directory, chain })),
+
+    /// Whether an object is a directory on which the old layer grants the right.
+    fn is_asked(&self, directory: usize) -> bool
+        ensures { result ≡ (is_among directory self.now.old.now.grants
+            && not (is_file_in self.now.files.now directory)) }
+    {
+        self.old.grants_on(directory) && !is_file(self.files, directory)
+    }
+
+    /// Whether something may gain the right in one directory in the old layer and in no new one.
+    fn gain_into(&self, alloc: Global, directory: usize) -> Result<Option<Gain>, AllocError>
+        ensures { IfOk result (TellsGainInto (is_file_in self.now.files.now) self.now.new.now
+            self.now.old.now directory) }
+    {
+        if !self.is_asked(directory) {
+            return Ok(None);
+        }
+        match self.gain_at(alloc, directory)? {
+            None => Ok(None),
+            Some(chain) => Ok(Some(Gain { directory, chain })),
+        }
     }
 }
 
@@ -106,8 +102,14 @@ pub fn first_gain(
     ensures { IfOk result (TellsGain (is_file_in files.now) new.now old.now) }
 {
     let narrow = narrow_ones(alloc, files, old, new)?;
+    let beside = Beside {
+        files,
+        old,
+        new,
+        narrow: &narrow,
+    };
     for directory in 0..old.bound() {
-        let found = gain_into(alloc, files, old, new, &narrow, directory)?;
+        let found = beside.gain_into(alloc, directory)?;
         if found.is_some() {
             return Ok(found);
         }
