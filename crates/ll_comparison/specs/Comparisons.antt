@@ -41,43 +41,36 @@ pub record Comparison : Type 0 where
 abbrev pub rights_at : List ℕ → Data → Result Fs Cause
 rights_at name value = texts_at name with_fs files.no_right value
 
--- some rights more on the object of a number
-unfoldable pub with_files_on : Fs → List Fs → Data → Result (List Fs) Cause
-with_files_on rights sets value = do
+-- what rules grant: no right, the rights of two sets, and those of a rule
+pub record Rights (S : Type 0) : Type 0 where
+  pub none : S
+  pub united : S → S → S
+  pub of_rule : Data → Result S Cause
+
+abbrev pub file_rights : Rights Fs
+file_rights = record { none = files.no_right; united = files.united; of_rule = rights_at (codes "fs") }
+
+abbrev pub network_rights : Rights Net
+network_rights = record { none = network.no_right; united = network.united; of_rule = net_at }
+
+-- some rights more on what has a number
+unfoldable pub with_rights_on : {S : Type 0} → Rights S → S → List S → Data → Result (List S) Cause
+with_rights_on granted rights sets value = do
   place ← place_in (length sets) value
-  Ok (slice_set sets place (files.united (slice_index_or sets place files.no_right) rights))
+  Ok (slice_set sets place (granted.united (slice_index_or sets place granted.none) rights))
 
--- what a rule grants more on its objects
-unfoldable pub with_object_rule : List Fs → Data → Result (List Fs) Cause
-with_object_rule sets value = do
-  rights ← rights_at (codes "fs") value
-  objects ← items_at (codes "objects") value
-  fold_items (with_files_on rights) sets objects
+-- what a rule grants more, on the numbers of a member
+unfoldable pub with_rule : {S : Type 0} → Rights S → List ℕ → List S → Data → Result (List S) Cause
+with_rule granted name sets value = do
+  rights ← granted.of_rule value
+  numbers ← items_at name value
+  fold_items (with_rights_on granted rights) sets numbers
 
--- what all rules grant on each of so many objects
-unfoldable pub on_objects_at : ℕ → Data → Result (List Fs) Cause
-on_objects_at count value = do
-  rules ← items_at (codes "object_rules") value
-  fold_items with_object_rule (replicate count files.no_right) rules
-
--- some rights more on the port of a number
-unfoldable pub with_network_on : Net → List Net → Data → Result (List Net) Cause
-with_network_on rights sets value = do
-  place ← place_in (length sets) value
-  Ok (slice_set sets place (network.united (slice_index_or sets place network.no_right) rights))
-
--- what a rule grants more on its ports
-unfoldable pub with_port_rule : List Net → Data → Result (List Net) Cause
-with_port_rule sets value = do
-  rights ← net_at value
-  ports ← items_at (codes "ports") value
-  fold_items (with_network_on rights) sets ports
-
--- what all rules grant on each of so many ports
-unfoldable pub on_ports_at : ℕ → Data → Result (List Net) Cause
-on_ports_at count value = do
-  rules ← items_at (codes "port_rules") value
-  fold_items with_port_rule (replicate count network.no_right) rules
+-- what all rules of a member grant on each of so many numbers
+unfoldable pub granted_at : {S : Type 0} → Rights S → List ℕ → List ℕ → ℕ → Data → Result (List S) Cause
+granted_at granted rules name count value = do
+  all ← items_at rules value
+  fold_items (with_rule granted name) (replicate count granted.none) all
 
 -- ---- layers
 
@@ -93,8 +86,8 @@ unfoldable pub layer_in : ℕ → ℕ → Data → Result LayerSeen Cause
 layer_in objects ports value = do
   handled ← rights_at (codes "fs") value
   handled_network ← net_at value
-  on_objects ← on_objects_at objects value
-  on_ports ← on_ports_at ports value
+  on_objects ← granted_at file_rights (codes "object_rules") (codes "objects") objects value
+  on_ports ← granted_at network_rights (codes "port_rules") (codes "ports") ports value
   scopes ← scopes_in value
   Ok (record {
     files = handled;

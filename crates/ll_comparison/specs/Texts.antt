@@ -1,6 +1,7 @@
 -- What is found of two policies, as JSON.
 -- Source: landaudit-rules(1).
-use Rattle.std.specs.Prelude.{ℕ, [], ◌∷◌, codes, Option, Vec}
+use Rattle.std.specs.Prelude.{ℕ, List, [], ◌∷◌, codes, Option, Vec}
+use Rattle.std.specs.Borrow.{Bor}
 use Rattle.std.specs.Global.{Global}
 use Rattle.json.specs.Json.{Json}
 use Rattle.ll_policy.specs.declared.gaining.Gain.{Gain}
@@ -11,20 +12,24 @@ use Rattle.ll_values.specs.Texts.{object_of, whole_json, option_json, list_json}
 use Rattle.ll_comparison.specs.declared.found.Found.{Found}
 use Rattle.ll_comparison.specs.declared.found.Lost.{Lost}
 
--- a chain by its objects
-abbrev pub chain_json : Vec ℕ Global → Json
-chain_json = list_json whole_json
+-- a member, by what its value is as JSON
+abbrev pub named : {X : Type 0} → (X → Json) → Bor (List ℕ) × Bor X → List ℕ × Json
+named of member = (member.0.now, of member.1.now)
+
+-- objects or ports by their numbers
+abbrev pub numbers_json : Vec ℕ Global → Json
+numbers_json = list_json whole_json
 
 abbrev pub gain_json : Gain → Json
-gain_json gain = object_of ((codes "directory", whole_json gain.directory) ∷ (codes "chain", chain_json gain.chain) ∷ [])
+gain_json gain = object_of ((codes "directory", whole_json gain.directory) ∷ (codes "chain", numbers_json gain.chain) ∷ [])
 
 -- for each right, each old layer's chain
 abbrev pub chains_json : Vec (Vec (Option (Vec ℕ Global)) Global) Global → Json
-chains_json = list_json (list_json (option_json chain_json))
+chains_json = list_json (list_json (option_json numbers_json))
 
 -- for each right and each old layer, objects
 abbrev pub single_json : Vec (Vec (Vec ℕ Global) Global) Global → Json
-single_json = list_json (list_json (list_json whole_json))
+single_json = list_json (list_json numbers_json)
 
 -- for each right, each old layer's gain
 abbrev pub gains_json : Vec (Vec (Option Gain) Global) Global → Json
@@ -32,7 +37,7 @@ gains_json = list_json (list_json (option_json gain_json))
 
 -- what is moved: directories beneath which objects are, and objects themselves
 abbrev pub movers_json : Movers → Json
-movers_json movers = object_of ((codes "beneath", list_json whole_json movers.beneath) ∷ (codes "themselves", list_json whole_json movers.themselves) ∷ [])
+movers_json movers = object_of ((codes "beneath", numbers_json movers.beneath) ∷ (codes "themselves", numbers_json movers.themselves) ∷ [])
 
 -- what each policy alone lets be moved to a region
 abbrev pub moved_to_json : MovedTo → Json
@@ -44,11 +49,7 @@ moves_json = list_json (list_json (option_json moved_to_json))
 
 -- the regions or ports under both policies, under the new one alone, and under the old one alone
 abbrev pub passing_json : Passing → Json
-passing_json found = object_of (
-    (codes "both", list_json whole_json found.both)
-    ∷ (codes "new", list_json whole_json found.new)
-    ∷ (codes "old", list_json whole_json found.old)
-    ∷ [])
+passing_json found = object_of ((codes "both", numbers_json found.both) ∷ (codes "new", numbers_json found.new) ∷ (codes "old", numbers_json found.old) ∷ [])
 
 -- the old layers with a restriction that is lost
 abbrev pub lost_json : Lost → Json

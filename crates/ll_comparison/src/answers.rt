@@ -2,14 +2,10 @@
 
 ghost use Rattle.std.specs.Prelude.{◌≡◌, ◌≢◌, ◌++◌, ℕ, List, IfOk, IfErr, OnOk};
 ghost use Rattle.ll_lines.specs.declared.fault.Cause.TheVariants.{Memory as NoMemoryLeft};
-ghost use Rattle.ll_lines.specs.Lines.{Line};
-ghost use Rattle.ll_lines.specs.LineByLine.{line_view};
-ghost use Rattle.ll_lines.specs.Readers.{Fails};
-ghost use Rattle.ll_lines.specs.Reading.{IsBad};
+ghost use Rattle.ll_lines.specs.{LineByLine.line_view, Readers.Fails, Reading.IsBad};
 ghost use Rattle.ll_values.specs.Texts.{line_of};
 ghost use Rattle.ll_comparison.specs.Answers.{AreAnswers, IsAnswer, comparison_format};
-ghost use Rattle.ll_comparison.specs.Comparisons.{comparison_on};
-ghost use Rattle.ll_comparison.specs.Texts.{found_json};
+ghost use Rattle.ll_comparison.specs.{Comparisons.comparison_on, Texts.found_json};
 
 use crate::comparison::Comparison;
 use crate::found::{Found, compare};

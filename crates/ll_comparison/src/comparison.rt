@@ -7,7 +7,7 @@ ghost use Rattle.ll_policy.specs.Places.{is_file_in};
 ghost use Rattle.ll_values.specs.Lists.{fold_items, one_more, truth_in};
 ghost use Rattle.ll_comparison.specs.Comparisons.{scopes_in, files_at, with_parent, parents_at, port_count_at, asked_at, asked_in, layer_in, layers_at, comparison_in, comparison_on, seen, all_seen};
 
-use crate::rules::{granted_on_objects, granted_on_ports};
+use crate::rules::granted_by_rules;
 use ll_lines::Cause;
 use ll_policy::Layer;
 use ll_rights::Fs;
@@ -180,8 +180,8 @@ fn layer_of(alloc: Global, objects: usize, ports: usize, value: &Value) -> Resul
 {
     let files = fs_of(value, "fs")?;
     let network = net_of(value)?;
-    let on_objects = granted_on_objects(alloc, objects, value)?;
-    let on_ports = granted_on_ports(alloc, ports, value)?;
+    let on_objects = granted_by_rules(alloc, objects, "object_rules", "objects", value)?;
+    let on_ports = granted_by_rules(alloc, ports, "port_rules", "ports", value)?;
     let (abstract_unix_socket, signal) = scopes_of(value)?;
     Ok(Layer {
         files,

@@ -63,17 +63,17 @@ pub fn compare(alloc: Global, comparison: &Comparison) -> Result<Found, AllocErr
     let Comparison {
         files,
         parents,
-        ports,
         asked,
         old,
         new,
+        ..
     } = comparison;
     let regions = passing_on_objects(alloc, asked.regions, parents, old, new)?;
     let objects = more_on_objects(alloc, asked.objects, files, old, new)?;
     let single = more_on_single_objects(alloc, asked.single, files.len(), old, new)?;
     let gains = more_gains(alloc, asked.gains, files, old, new)?;
     let moves = moves_between_regions(alloc, asked.moves, files, parents, old, new)?;
-    let ports = passing_on_ports(alloc, *ports, old, new)?;
+    let ports = passing_on_ports(alloc, comparison.ports, old, new)?;
     Ok(Found {
         regions,
         objects,

@@ -2,9 +2,9 @@
 
 ghost use Rattle.std.specs.Prelude.{◌≡◌, ◌∷◌, ◌++◌, OnOk, map};
 ghost use Rattle.json.specs.Token as token;
-ghost use Rattle.json.specs.Tree.{json_tokens, items_tokens};
-ghost use Rattle.ll_values.specs.Texts.{items_of, whole_json, option_json, list_json};
-ghost use Rattle.ll_comparison.specs.Texts.{gain_json, movers_json, moved_to_json, passing_json, lost_json, found_json};
+ghost use Rattle.json.specs.Tree.{json_tokens, items_tokens, members_tokens};
+ghost use Rattle.ll_values.specs.Texts.{items_of, members_of, object_of, whole_json, option_json, list_json};
+ghost use Rattle.ll_comparison.specs.Texts.{named, gain_json, movers_json, moved_to_json, passing_json, lost_json, found_json};
 
 use crate::found::{Found, Lost};
 use json::Writer;
@@ -77,14 +77,35 @@ fn write_member<T: Told>(out: &mut Writer, name: &str, value: &T) -> Result<(), 
     value.write(out)
 }
 
+/// Writes members of one kind, and the end of their object.
+fn write_members<T: Told>(out: &mut Writer, members: &[(&str, &T)]) -> Result<(), AllocError>
+    ensures tokens { OnOk result (out.new.tokens ≡ out.old.tokens
+        ++ members_tokens (members_of (map (named T.json) members.now))) }
+    ensures before { out.new.before ≡ out.old.before }
+{
+    for (name, value) in members {
+        write_member(out, name, *value)?;
+    }
+    out.end_object()
+}
+
+/// Writes an object whose members are of one kind.
+fn write_object<T: Told>(out: &mut Writer, members: &[(&str, &T)]) -> Result<(), AllocError>
+    ensures tokens { OnOk result (out.new.tokens ≡ out.old.tokens
+        ++ json_tokens (object_of (map (named T.json) members.now))) }
+    ensures before { out.new.before ≡ out.old.before }
+{
+    out.begin_object()?;
+    write_members(out, members)
+}
+
 impl Told for Gain {
     ghost json = { gain_json };
 
     fn write(&self, out: &mut Writer) -> Result<(), AllocError> {
         out.begin_object()?;
         write_member(out, "directory", &self.directory)?;
-        write_member(out, "chain", &self.chain)?;
-        out.end_object()
+        write_members(out, &[("chain", &self.chain)])
     }
 }
 
@@ -92,10 +113,11 @@ impl Told for Movers {
     ghost json = { movers_json };
 
     fn write(&self, out: &mut Writer) -> Result<(), AllocError> {
-        out.begin_object()?;
-        write_member(out, "beneath", &self.beneath)?;
-        write_member(out, "themselves", &self.themselves)?;
-        out.end_object()
+        let Movers {
+            beneath,
+            themselves,
+        } = self;
+        write_object(out, &[("beneath", beneath), ("themselves", themselves)])
     }
 }
 
@@ -103,11 +125,7 @@ impl Told for MovedTo {
     ghost json = { moved_to_json };
 
     fn write(&self, out: &mut Writer) -> Result<(), AllocError> {
-        let MovedTo { new, old } = self;
-        out.begin_object()?;
-        write_member(out, "new", new)?;
-        write_member(out, "old", old)?;
-        out.end_object()
+        write_object(out, &[("new", &self.new), ("old", &self.old)])
     }
 }
 
@@ -115,11 +133,8 @@ impl Told for Passing {
     ghost json = { passing_json };
 
     fn write(&self, out: &mut Writer) -> Result<(), AllocError> {
-        out.begin_object()?;
-        write_member(out, "both", &self.both)?;
-        write_member(out, "new", &self.new)?;
-        write_member(out, "old", &self.old)?;
-        out.end_object()
+        let Passing { both, new, old } = self;
+        write_object(out, &[("both", both), ("new", new), ("old", old)])
     }
 }
 
@@ -127,11 +142,12 @@ impl Told for Lost {
     ghost json = { lost_json };
 
     fn write(&self, out: &mut Writer) -> Result<(), AllocError> {
-        out.begin_object()?;
-        write_member(out, "mounts", &self.mounts)?;
-        write_member(out, "abstract_unix_socket", &self.abstract_unix_socket)?;
-        write_member(out, "signal", &self.signal)?;
-        out.end_object()
+        let members = [
+            ("mounts", &self.mounts),
+            ("abstract_unix_socket", &self.abstract_unix_socket),
+            ("signal", &self.signal),
+        ];
+        write_object(out, &members)
     }
 }
 

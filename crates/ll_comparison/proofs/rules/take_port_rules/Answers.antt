@@ -1,9 +1,0 @@
-use Rattle.std.proofs.Common.{sym, ◌∙◌}
-use Rattle.ll_comparison.specs.Comparisons.{with_port_rule}
-use Rattle.ll_values.proofs.Folds.{fold_next}
-use Rattle.ll_comparison.proofs.rules.take_port_rules.Goals as goal
-
-pub loop-rule-preserved : goal.loop-rule-preserved
-loop-rule-preserved c =
-    sym (fold_next with_port_rule c.loop-rule.sets c.take_port_rule.new.sets c.args.rules.now c.loop-rule.rule-index c.rule-item.result
-    c.loop-rule-test.true c.rule-item.is c.in_ok-take_port_rule.ensures) ∙ c.loop-rule.invariant
