@@ -27,6 +27,12 @@ use Rattle.ll_fitting.specs.Written.{Layer}
 use Rattle.ll_fitting.specs.Misfits.{misfit}
 use Rattle.ll_calling.specs.Groups.{set_of, set_on_ports, group_named, group_on_ports}
 
+-- what the words of a member make of what no word makes, one after another
+unfoldable pub words_at : {Whole : Type 0} → (Whole → Data → Result Whole Cause) → Whole → List ℕ → Data → Result Whole Cause
+words_at more none name value = do
+  words ← items_at name value
+  fold_items more none words
+
 -- ---- lists of rights: a word is a group, or the name of a right
 
 abbrev pub with_name : FileAccess → Fs → Result FileAccess Cause
@@ -41,10 +47,8 @@ with_word access value = do
   word ← text_in value
   with_group access word (group_named word)
 
-unfoldable pub access_at : List ℕ → Data → Result FileAccess Cause
-access_at name value = do
-  words ← items_at name value
-  fold_items with_word (record { named = files.no_right; grouped = files.no_right }) words
+abbrev pub access_at : List ℕ → Data → Result FileAccess Cause
+access_at name value = words_at with_word (record { named = files.no_right; grouped = files.no_right }) name value
 
 abbrev pub with_name_on_ports : PortAccess → Net → Result PortAccess Cause
 with_name_on_ports access right =
@@ -59,10 +63,8 @@ with_word_on_ports access value = do
   word ← text_in value
   with_group_on_ports access word (group_on_ports word)
 
-unfoldable pub port_access_at : List ℕ → Data → Result PortAccess Cause
-port_access_at name value = do
-  words ← items_at name value
-  fold_items with_word_on_ports (record { named = network.no_right; grouped = network.no_right }) words
+abbrev pub port_access_at : List ℕ → Data → Result PortAccess Cause
+port_access_at name value = words_at with_word_on_ports (record { named = network.no_right; grouped = network.no_right }) name value
 
 -- ---- scopes
 
@@ -77,10 +79,8 @@ with_scope scopes value = do
   word ← text_in value
   with_scope_named scopes word
 
-unfoldable pub scopes_at : Data → Result Scopes Cause
-scopes_at value = do
-  words ← items_at (codes "scoped") value
-  fold_items with_scope (record { abstract_unix_socket = false; signal = false }) words
+abbrev pub scopes_at : Data → Result Scopes Cause
+scopes_at value = words_at with_scope (record { abstract_unix_socket = false; signal = false }) (codes "scoped") value
 
 -- ---- rules
 

@@ -2,9 +2,7 @@
 
 ghost use Rattle.std.specs.Prelude.{◌≡◌, ◌≢◌, ◌++◌, IfOk, IfErr, OnOk, flat_map, map};
 ghost use Rattle.ll_lines.specs.declared.fault.Cause.TheVariants.{Memory as NoMemoryLeft};
-ghost use Rattle.ll_lines.specs.LineByLine.{line_view};
-ghost use Rattle.ll_lines.specs.Readers.{Fails};
-ghost use Rattle.ll_lines.specs.Reading.{IsBad};
+ghost use Rattle.ll_lines.specs.{LineByLine.line_view, Readers.Fails, Reading.IsBad};
 ghost use Rattle.ll_values.specs.Texts.{line_of};
 ghost use Rattle.ll_calling.specs.PolicyLines.{policy_on, policy_format, written_in};
 ghost use Rattle.ll_calling.specs.Seen.{layer_seen};

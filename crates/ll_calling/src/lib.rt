@@ -4,6 +4,7 @@
 mod access;
 mod calls;
 mod groups;
+mod lists;
 mod objects;
 mod policy;
 mod program;

@@ -1,18 +1,18 @@
 //! A policy, as a line says it.
 
-ghost use Rattle.std.specs.Prelude.{◌≡◌, [], IfOk, map};
-ghost use Rattle.serde_json.specs.View.{view, items_view};
+ghost use Rattle.std.specs.Prelude.{◌≡◌, IfOk, map};
+ghost use Rattle.serde_json.specs.View.{view};
 ghost use Rattle.ll_lines.specs.Readers.{Gives};
-ghost use Rattle.ll_values.specs.Lists.{fold_items, one_more};
 ghost use Rattle.ll_fitting.specs.Written.{written};
 ghost use Rattle.ll_calling.specs.PolicyLines as lines;
 ghost use Rattle.ll_calling.specs.Seen.{rule_seen, layer_seen};
 
 use crate::access::{access_of, port_access_of, scopes_of};
-use crate::rules::{RuleRead, port_rules_of, rules_of};
+use crate::lists::{Listed, list_of};
+use crate::rules::RuleRead;
 use ll_fitting::{FileAccess, Layer, PathRule, Policy, PortAccess, PortRule, Scopes};
 use ll_lines::Cause;
-use ll_values::{items_of, value_of};
+use ll_values::value_of;
 use serde_json::Value;
 use std::alloc::{AllocError, Global};
 
@@ -33,56 +33,28 @@ pub struct PolicyRead {
     pub policy: Policy,
 }
 
-/// A layer.
-#[tactic(auto, unfolding(crate::specs::PolicyLines::layer_in))]
-fn layer_of(alloc: Global, value: &Value) -> Result<LayerRead, Cause>
-    ensures { Gives layer_seen result (lines.layer_in (view value.now)) }
-{
-    let handled_files = access_of(value, "handled_access_fs")?;
-    let handled_network = port_access_of(value, "handled_access_net")?;
-    let rules = rules_of(alloc, value)?;
-    let port_rules = port_rules_of(alloc, value)?;
-    let scopes = scopes_of(value)?;
-    Ok(LayerRead {
-        handled_files,
-        handled_network,
-        rules,
-        port_rules,
-        scopes,
-    })
-}
+impl Listed for LayerRead {
+    ghost Seen = { lines.LayerSeen };
 
-/// Takes in a layer.
-#[tactic(auto, unfolding(ll_values::specs::Lists::one_more))]
-fn take_layer(alloc: Global, layers: &mut Vec<LayerRead>, value: &Value) -> Result<(), Cause>
-    ensures { Gives (λ _. map layer_seen layers.new.items) result
-        (one_more lines.layer_in (map layer_seen layers.old.items) (view value.now)) }
-{
-    let layer = layer_of(alloc, value)?;
-    layers.push(layer)?;
-    Ok(())
-}
+    ghost seen = { layer_seen };
 
-/// The layers of a list.
-#[tactic(auto, using(ll_values::proofs::Folds::fold_fault, ll_values::proofs::Folds::fold_end))]
-fn layers_in(alloc: Global, values: &[Value]) -> Result<Vec<LayerRead>, Cause>
-    ensures { Gives (λ layers. map layer_seen layers.items) result
-        (fold_items (one_more lines.layer_in) [] (items_view values.now)) }
-{
-    let mut layers = Vec::new(alloc);
-    for value in values {
-        take_layer(alloc, &mut layers, value)?;
+    ghost seen_in = { lines.layer_in };
+
+    #[tactic(auto, unfolding(crate::specs::PolicyLines::layer_in))]
+    fn read(alloc: Global, value: &Value) -> Result<LayerRead, Cause> {
+        let handled_files = access_of(value, "handled_access_fs")?;
+        let handled_network = port_access_of(value, "handled_access_net")?;
+        let rules = list_of(alloc, value, "path_beneath")?;
+        let port_rules = list_of(alloc, value, "net_port")?;
+        let scopes = scopes_of(value)?;
+        Ok(LayerRead {
+            handled_files,
+            handled_network,
+            rules,
+            port_rules,
+            scopes,
+        })
     }
-    Ok(layers)
-}
-
-/// The layers of a policy.
-fn layers_of(alloc: Global, value: &Value) -> Result<Vec<LayerRead>, Cause>
-    ensures { Gives (λ layers. map layer_seen layers.items) result
-        (lines.layers_at (view value.now)) }
-{
-    let values = items_of(value, "layer")?;
-    layers_in(alloc, values)
 }
 
 /// Rules without the texts of their paths.
@@ -144,7 +116,7 @@ fn policy_of(alloc: Global, value: &Value) -> Result<PolicyRead, Cause>
     ensures policy { IfOk result (λ read. read.policy
         ≡ map lines.written_in (map layer_seen read.layers.items)) }
 {
-    let layers = layers_of(alloc, value)?;
+    let layers = list_of(alloc, value, "layer")?;
     policy_with(alloc, layers)
 }
 
