@@ -52,28 +52,57 @@ pub struct Comparison {
     pub new: Vec<Layer>,
 }
 
-/// Takes in true or false.
-#[tactic(auto, unfolding(ll_values::specs::Lists::one_more))]
-fn take_truth(truths: &mut Vec<bool>, value: &Value) -> Result<(), Cause>
-    ensures { Gives (λ _. truths.new.items) result
-        (one_more truth_in truths.old.items (view value.now)) }
-{
-    let truth = truth_in_list(value)?;
-    truths.push(truth)?;
-    Ok(())
+/// What the values of a list are read as, each after those before it.
+trait Listed: Copy {
+    ghost use Rattle.std.specs.Prelude.{List, Result};
+    ghost use Rattle.serde_json.specs.Data.{Data};
+    ghost use Rattle.serde_json.specs.View.{view};
+    ghost use Rattle.ll_lines.specs.declared.fault.Cause as cause;
+    ghost use Rattle.ll_lines.specs.Readers.{Gives};
+
+    // The same with one value more.
+    ghost after: { List Self → Data → Result (List Self) cause.Cause };
+
+    /// Takes in one value more.
+    fn take(all: &mut Vec<Self>, value: &Value) -> Result<(), Cause>
+        ensures { Gives (λ _. all.new.items) result (after all.old.items (view value.now)) };
 }
 
-/// True or false, once for each value of a list.
-#[tactic(auto, using(ll_values::proofs::Folds::fold_fault, ll_values::proofs::Folds::fold_end))]
-fn truths_in(alloc: Global, values: &[Value]) -> Result<Vec<bool>, Cause>
-    ensures { Gives (λ truths. truths.items) result
-        (fold_items (one_more truth_in) [] (items_view values.now)) }
-{
-    let mut truths = Vec::new(alloc);
-    for value in values {
-        take_truth(&mut truths, value)?;
+/// True or false.
+impl Listed for bool {
+    ghost after = { one_more truth_in };
+
+    #[tactic(auto, unfolding(ll_values::specs::Lists::one_more))]
+    fn take(truths: &mut Vec<bool>, value: &Value) -> Result<(), Cause> {
+        let truth = truth_in_list(value)?;
+        truths.push(truth)?;
+        Ok(())
     }
-    Ok(truths)
+}
+
+/// What one object more is in.
+impl Listed for usize {
+    ghost after = { with_parent };
+
+    #[tactic(auto, unfolding(crate::specs::Comparisons::with_parent))]
+    fn take(parents: &mut Vec<usize>, value: &Value) -> Result<(), Cause> {
+        let parent = place_in_list(parents.len() + 1, value)?;
+        parents.push(parent)?;
+        Ok(())
+    }
+}
+
+/// What the values of a list are read as.
+#[tactic(auto, using(ll_values::proofs::Folds::fold_fault, ll_values::proofs::Folds::fold_end))]
+fn all_in<T: Listed>(alloc: Global, values: &[Value]) -> Result<Vec<T>, Cause>
+    ensures { Gives (λ all. all.items) result
+        (fold_items T.after [] (items_view values.now)) }
+{
+    let mut all = Vec::new(alloc);
+    for value in values {
+        T::take(&mut all, value)?;
+    }
+    Ok(all)
 }
 
 /// Which objects are files.
@@ -83,35 +112,11 @@ fn files_of(alloc: Global, value: &Value) -> Result<Vec<bool>, Cause>
     ensures root { IfOk result (λ files. is_file_in files.items 0 ≡ false) }
 {
     let values = items_of(value, "files")?;
-    let files = truths_in(alloc, values)?;
+    let files = all_in::<bool>(alloc, values)?;
     if files.first().copied().unwrap_or(true) {
         return Err(Cause::Field);
     }
     Ok(files)
-}
-
-/// Takes in what one object more is in.
-#[tactic(auto, unfolding(crate::specs::Comparisons::with_parent))]
-fn take_parent(parents: &mut Vec<usize>, value: &Value) -> Result<(), Cause>
-    ensures { Gives (λ _. parents.new.items) result
-        (with_parent parents.old.items (view value.now)) }
-{
-    let parent = place_in_list(parents.len() + 1, value)?;
-    parents.push(parent)?;
-    Ok(())
-}
-
-/// What each object is in, of a list.
-#[tactic(auto, using(ll_values::proofs::Folds::fold_fault, ll_values::proofs::Folds::fold_end))]
-fn parents_in(alloc: Global, values: &[Value]) -> Result<Vec<usize>, Cause>
-    ensures { Gives (λ parents. parents.items) result
-        (fold_items with_parent [] (items_view values.now)) }
-{
-    let mut parents = Vec::new(alloc);
-    for value in values {
-        take_parent(&mut parents, value)?;
-    }
-    Ok(parents)
 }
 
 /// What each object after the root is in.
@@ -120,7 +125,7 @@ fn parents_of(alloc: Global, value: &Value) -> Result<Vec<usize>, Cause>
     ensures { Gives (λ parents. parents.items) result (parents_at (view value.now)) }
 {
     let values = items_of(value, "parents")?;
-    parents_in(alloc, values)
+    all_in(alloc, values)
 }
 
 /// How many ports are numbered.

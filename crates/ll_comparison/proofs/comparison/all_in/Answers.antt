@@ -1,0 +1,20 @@
+use Rattle.std.proofs.Common.{rules, drop, sym, subst, ◌∙◌}
+use Rattle.serde_json.specs.View.{items_view}
+use Rattle.ll_lines.specs.Readers.{Fails}
+use Rattle.ll_values.specs.Lists.{fold_items}
+use Rattle.ll_values.proofs.Folds.{fold_next, fold_fails}
+use Rattle.ll_comparison.proofs.comparison.all_in.Goals as goal
+
+pub loop-value-preserved : goal.loop-value-preserved
+loop-value-preserved g c =
+    sym (fold_next g.T.Listed.after c.loop-value.all.items c.take.new.all.items c.args.values.now c.loop-value.value-index c.value-item.result
+    c.loop-value-test.true c.value-item.is c.in_ok-take.ensures) ∙ c.loop-value.invariant
+
+pub returns-in_err-take : goal.returns-in_err-take
+returns-in_err-take g c =
+    let cause = c.in_err-take.field-0.0 in
+    let fails : Fails cause (fold_items g.T.Listed.after c.loop-value.all.items (items_view (drop c.loop-value.value-index c.args.values.now))) =
+    fold_fails g.T.Listed.after c.loop-value.all.items c.args.values.now c.loop-value.value-index c.value-item.result cause
+    c.loop-value-test.true c.value-item.is c.in_err-take.ensures in
+    let whole = subst (λ read. Fails cause read) c.loop-value.invariant fails in
+    search rules
