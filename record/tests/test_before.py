@@ -7,9 +7,10 @@ import unittest
 from landaudit_record.common import trees
 from landaudit_record.common.jsonl import numbered
 from landaudit_record.recorder.calls import descriptors, inexpressible, landlock, opening, ptrace
-from landaudit_record.recorder import mounted
+from landaudit_record.recorder import disk, mounted
 from landaudit_record.recorder.mounted import MountPlaces
-from landaudit_record.recorder.names import MADE_OR_THERE, OF_KIND, UNKNOWN_WAY
+from landaudit_record.recorder.names import MADE_OR_THERE, OF_KIND, UNKNOWN_WAY, Names
+from landaudit_record.recorder.writing import ListedTree
 
 from .written_logs import CWD, DISK, WrittenLogs, told
 
@@ -196,6 +197,15 @@ class BoundDirectories(WrittenLogs):
             f'openat({CWD}, "/b/x", 0 /* O_RDONLY */) = 6</b/x>',
         )
         self.assertEqual([path for op, path in told(trace, "op", "path") if op == "add_path"], ["/w/d", "/b"])
+
+
+    def test_a_directory_that_is_met_and_not_listed_has_no_name(self) -> None:
+        names = Names(disk.Disk(0.0, {}), {}, [], places=MountPlaces(self.mounts))
+        tree = ListedTree(names)
+        node = names.ensure("/w/d", "dir")
+        tree.place("/w/d", node)
+        bound = names.ensure("/b", "dir")
+        self.assertEqual((names.bound(node), tree.names_of(node)), ([bound], ["/w/d"]))
 
 
 class OtherProc(WrittenLogs):

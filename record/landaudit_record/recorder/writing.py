@@ -144,7 +144,8 @@ class ListedTree:
 
     def names_of(self, node: Node) -> list[str]:
         """The names that an object of its own has in the tree."""
-        return [name for one in (node, *self._names.bound(node)) for name in self._several.get(one, ["/"])]
+        root = {self._names.root: ["/"]}
+        return [name for one in (node, *self._names.bound(node)) for name in self._several.get(one, root.get(one, []))]
 
     def gap(self, over: str, names: Sequence[str]) -> str:
         """The name of what is missing in an object: a name that no object ever has, with the names after it.
