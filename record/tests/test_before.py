@@ -2,7 +2,9 @@
 
 from __future__ import annotations
 
+import tempfile
 import unittest
+from pathlib import Path
 
 from landaudit_record.common import trees
 from landaudit_record.common.jsonl import numbered
@@ -185,7 +187,8 @@ class BoundDirectories(WrittenLogs):
             with self.subTest(calls[0]):
                 self.convert(*calls)
                 tree = trees.read(self.out / "tree.jsonl")
-                names = {path: sorted(tree.names(path)) for path in ("/w/d", "/w/d/in", "/b/in", "/w/d/in/y", "/b/in/y")}
+                paths = ("/w/d", "/w/d/in", "/b/in", "/w/d/in/y", "/b/in/y")
+                names = {path: sorted(tree.names(path)) for path in paths}
                 apart = {path: [path] for path in names if path != "/w/d"}
                 self.assertEqual(names, {"/w/d": ["/b", "/w/d"], **apart})
 
@@ -253,6 +256,16 @@ class SeveralPaths(unittest.TestCase):
         places = MountPlaces([["/", "8:1", "/", "ext4"], ["/w/d", "8:1", "/w", "ext4"]])
         found = [places.others(path) for path in ("/w", "/w/d", "/w/d/d", "/w/x")]
         self.assertEqual(found, [[], [], [], ["/w/d/x"]])
+
+    def test_what_another_mount_hides(self) -> None:
+        """Linux 6.18: a directory is bound at /b with what is mounted below it, and then over itself without that."""
+        shown = Path(self.enterContext(tempfile.TemporaryDirectory())) / "mountinfo"
+        lines = ("27 1 8:1 / / rw - ext4 d rw", "47 27 0:42 / /a/in rw - tmpfs n rw", "48 27 8:1 /a /b rw - ext4 d rw",
+                 "49 48 0:42 / /b/in rw - tmpfs n rw", "50 27 8:1 /a /a rw - ext4 d rw",
+                 "51 49 8:1 /c /b/in rw - ext4 d rw", "52 47 0:43 / /a/in/x rw - tmpfs n rw")
+        shown.write_text("".join(f"{line}\n" for line in lines))
+        hidden = [number for number, mount in enumerate(mounted.mounts(shown)) if mount.hidden]
+        self.assertEqual([lines[number][:2] for number in hidden], ["47", "49", "52"])
 
     def test_without_mounts_nothing_is_known(self) -> None:
         self.assertEqual((MountPlaces().others("/w"), MountPlaces().are_one("/w", "/w")), ([], None))

@@ -171,7 +171,7 @@ def _identity(path: str) -> _Identity | None:
 @cache
 def _places() -> mounted.MountPlaces:
     """What is mounted on this machine."""
-    return mounted.MountPlaces((it.place, it.device, it.root, it.kind) for it in mounted.mounts())
+    return mounted.MountPlaces((it.place, it.device, it.root, it.kind) for it in mounted.mounts() if not it.hidden)
 
 
 def _with_parents(policy: Policy, parents_of: Callable[[PathRule], tuple[str, ...]]) -> Policy:

@@ -34,26 +34,53 @@ SERVED = ("fuse", "fuseblk")
 @dataclass(frozen=True, slots=True)
 class Mount:
     """A mount: where it is, the number of its file system's device, the directory of the file system that is mounted,
-    the file system's type, and its options."""
+    the file system's type, and its options; its number, and that of the mount that it is in. If it is `hidden`, another
+    one is mounted over it, or over a directory on the way to it, and no path leads to it."""
 
     place: str
     device: str
     root: str
     kind: str
     options: tuple[str, ...]
+    number: str = ""
+    within: str = ""
+    hidden: bool = False
 
 
 def mounts(file: Path = MOUNTS, index_default: Path = INDEX_DEFAULT) -> list[Mount]:
     """All mounts of a process, those of this one if no file of another one is named."""
     with open(file, encoding="latin-1") as lines:
         found = [_mount(line.split(" ")) for line in lines.read().split("\n") if " - " in line]
+    hidden = _hidden(found)
+    found = [replace(one, hidden=one.number in hidden) for one in found]
     return [replace(one, kind=INDEXED) if _has_index(one, index_default) else one for one in found]
+
+
+def _hidden(found: Sequence[Mount]) -> set[str]:
+    """The numbers of the mounts to which no path leads: those on a directory below one that another mount of the same
+    parent is over, with all that is mounted in them, and those at whose root another one is mounted."""
+    inside: dict[str, list[Mount]] = {}
+    for mount in found:
+        inside.setdefault(mount.within, []).append(mount)
+    hidden: set[str] = set()
+    left: list[Mount] = []
+    for beside in inside.values():
+        over = tuple(f"{one.place}/" for one in beside if one.place != "/")
+        left += (one for one in beside if one.place.startswith(over))
+    while left:
+        mount = left.pop()
+        if mount.number not in hidden:
+            hidden.add(mount.number)
+            left += inside.get(mount.number, ())
+    places = {mount.number: mount.place for mount in found}
+    return hidden | {mount.within for mount in found if places.get(mount.within) == mount.place}
 
 
 def _mount(fields: list[str]) -> Mount:
     """A line's mount; the escapes of a name stand for its bytes."""
     root, place = (_name(field) for field in fields[3:5])
-    return Mount(place, fields[2], root, fields[fields.index("-") + 1], tuple(fields[-1].split(",")))
+    kind, options = fields[fields.index("-") + 1], tuple(fields[-1].split(","))
+    return Mount(place, fields[2], root, kind, options, number=fields[0], within=fields[1])
 
 
 def _has_index(mount: Mount, default: Path) -> bool:

@@ -342,5 +342,5 @@ def _about(command: list[str], seen: recordings.Watched, strace: str = "") -> re
         hidepid=hidepid,
         hidepid_group=group,
         machine=surroundings.machine(),
-        mounts=[[mount.place, mount.device, mount.root, mount.kind] for mount in mounted.mounts()],
+        mounts=[[it.place, it.device, it.root, it.kind] for it in mounted.mounts() if not it.hidden],
     )
