@@ -10,10 +10,10 @@ from collections.abc import Sequence
 from pathlib import Path
 
 from landaudit_record.audit import distilled
-from landaudit_record.common import jsonl
+from landaudit_record.common import finished, jsonl
 from landaudit_record.common.rights import FILE_RIGHTS, FS
 from landaudit_record.engine.landaudit import BUILT
-from landaudit_record.recorder import converting
+from landaudit_record.recorder import converting, recordings
 from landaudit_record.recorder.ports import Ports
 from landaudit_record.recorder.writing import Limits
 
@@ -67,6 +67,19 @@ class Kept(Scratch):
         self.assertEqual(steps[after], [{"start": True}, {"ran": "/bin/p", "first": True}])
         self.assertEqual([(line["asks"], line["by"]) for line in found if "asks" in line],
                          [([ran], {before: 1}), ([read], {before: 1, after: 2})])
+
+    def test_the_links_of_listed_directories_are_kept(self) -> None:
+        """A policy may have a rule on one that the run did not touch."""
+        recording = self.recording("r", {"op": "exec", "path": "/bin/p"})
+        there = self.folder / "there"
+        there.mkdir()
+        (there / "file").touch()
+        (there / "link").symlink_to("file")
+        recordings.watch(recording, [str(there)])
+        (recording / "recording.json").write_text(json.dumps({"watched": [str(there)], "unlisted": []}))
+        finished.Converted((finished.Size(1, 0, 0, (recording / "trace.jsonl").stat().st_size),), 1, 1).write(recording)
+        self.assertEqual([line for line in self.lines(recording) if "before" in line],
+                         [{"before": f"{there}/link", "kind": "sym", "target": "file"}])
 
     def test_a_descriptor_is_known_by_what_opened_it_and_by_the_steps_since(self) -> None:
         write = {"op": "open", "path": "/f", "mode": "w"}

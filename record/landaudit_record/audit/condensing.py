@@ -11,6 +11,7 @@ from __future__ import annotations
 import re
 from collections import Counter
 from collections.abc import Iterator
+from itertools import chain
 from pathlib import Path
 
 from ..common import jsonl
@@ -37,7 +38,7 @@ def section(recording: Finished) -> DistilledSection:
         condensing.follow(part.trace)
     kept = {text(line) for part in recording.parts for _, line in jsonl.numbered(part.tree)}
     kept |= {text({"before": line["path"], **{name: line[name] for name in ("kind", "target") if line.get(name)}})
-             for line in surroundings.lines_of(recording.folder)}
+             for line in chain(surroundings.lines_of(recording.folder), surroundings.links_of(recording.folder))}
     kept |= {text({"left": path}) for path in leftovers.of(recording)}
     return DistilledSection(_facts(recording), kept | condensing.numbers(kept), condensing.calls)
 

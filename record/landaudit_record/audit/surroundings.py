@@ -29,6 +29,8 @@ from ..recorder.recordings import ABOUT, BEFORE
 START = "start.jsonl"
 _MACHINE_ID = Path("/etc/machine-id")
 _BOOT_ID = Path("/proc/sys/kernel/random/boot_id")
+#: What `run` lists besides, where each machine has the same links to other devices.
+_MADE_BY_KERNEL = ("/dev/", "/proc/", "/sys/")
 
 
 def machine() -> str:
@@ -142,8 +144,8 @@ class _Listed:
     @cached_property
     def there(self) -> dict[str, Met]:
         """What was in the directories."""
-        return {line["path"]: Met(line["kind"], line.get("target"))
-                for _, line in jsonl.numbered(self.folder / BEFORE)}
+        lines = jsonl.numbered(self.folder / BEFORE) if self.watched else ()
+        return {line["path"]: Met(line["kind"], line.get("target")) for _, line in lines}
 
 
 def of(folder: Path) -> KnownObjects:
@@ -162,6 +164,13 @@ def lines_of(folder: Path) -> Iterator[jsonl.Record]:
     """What a recording keeps of objects that its run need not touch, as lines."""
     start = folder / START
     yield from (line for _, line in jsonl.numbered(start)) if start.is_file() else ()
+
+
+def links_of(folder: Path) -> Iterator[jsonl.Record]:
+    """The links that were in the watched directories before the run, as such lines, but for those that the kernel made."""
+    for path, met in _Listed.of(folder).there.items():
+        if met.target is not None and not path.startswith(_MADE_BY_KERNEL):
+            yield {"path": path, "kind": met.kind, "target": met.target}
 
 
 def write(folder: Path, where: str, lines: Iterable[jsonl.Record]) -> None:
