@@ -8,6 +8,7 @@ from pathlib import Path
 
 from landaudit_record.common.trees import ROOT, Tree
 from landaudit_record.suggest import varying
+from landaudit_record.suggest.placing import Cause, Placing, remarks
 
 NOBODY: tuple[set[int], set[int]] = (set(), set())
 
@@ -51,6 +52,18 @@ class Alike(unittest.TestCase):
         self.assertFalse(varying.alike("daemon.417.lock", "daemon.422.lock", ({417}, {9})))
         self.assertTrue(varying.alike("go-build1834218911", "go-build990127446", NOBODY))
         self.assertFalse(varying.alike("report-20231201", "report-20240101", NOBODY))
+
+
+class Kinds(unittest.TestCase):
+    def test_a_directory_in_one_run_and_a_file_in_another(self) -> None:
+        """No rule with rights for directories can be on the file (Linux 6.18: EINVAL), so it is on the directory above."""
+        trees = tree("/w/x"), Tree({ROOT: "dir", "/w": "dir", "/w/x": "dir", "/w/x/y": "reg", "/w/l": "dir"})
+        trees[0].kinds.update({"/w": "dir", "/w/l": "sym"})
+        placing = Placing(trees, [["/w/x"], ["/w/x", "/w/x/y", "/w/l"]], NOBODY)
+        found = [placing.spot(*at) for at in ((0, "/w/x"), (1, "/w/x"), (1, "/w/x/y"), (1, "/w/l"))]
+        self.assertEqual([(spot.place, spot.cause) for spot in found], 3 * [("/w", Cause.KINDS)] + [("/w/l", None)])
+        self.assertEqual([str(one.text) for one in remarks("/w", found[:3])],
+                         ["for x, x/y: a directory in one run, and none in another"])
 
 
 class Between(unittest.TestCase):

@@ -22,6 +22,7 @@ class Cause(Enum):
     MADE = "for what the run makes there: {}"
     MADE_UP = "for names that differ in each run, as {}"
     OF_PROCESS = "for what a process has under its number, which differs in each run, as {}"
+    KINDS = "for {}: a directory in one run, and none in another"
     REPLACED = "the run puts another object at {}: a rule on that path stays with the first one"
 
 
@@ -57,11 +58,17 @@ class Placing:
     def _before(self, own: Tree, path: str) -> RulePlace:
         """Where a rule can be before the run: by the recording's own tree, then by those of the others."""
         spot = _there_before(own, path)
-        down = reversed(list(upwards(spot.place)))
-        made = next((over for over in down if any(over in tree.made for tree in self._trees)), None)
-        if made is None:
-            return spot
-        return RulePlace(directory_of(made), spot.path, spot.cause or _cause_of_made(directory_of(made), spot.path))
+        for over in reversed(list(upwards(spot.place))):
+            if any(over in tree.made for tree in self._trees):
+                return RulePlace(directory_of(over), spot.path, spot.cause or _cause_of_made(directory_of(over), spot.path))
+            if self._has_several_kinds(over):
+                return RulePlace(directory_of(over), spot.path, spot.cause or Cause.KINDS)
+        return spot
+
+    def _has_several_kinds(self, path: str) -> bool:
+        """Whether a directory is at a path in one run and a file in another: the kernel refuses its rights on a file."""
+        kinds = {tree.kind(path) for tree in self._trees} - {None, "sym"}
+        return "dir" in kinds and len(kinds) > 1
 
 
 def _there_before(tree: Tree, path: str) -> RulePlace:
