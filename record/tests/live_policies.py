@@ -5,6 +5,7 @@ from __future__ import annotations
 import json
 import os
 import subprocess
+import tempfile
 import unittest
 from pathlib import Path
 
@@ -28,6 +29,13 @@ except OSError as error:
 """
 #: Moves a file to another directory.
 MOVE = "import os, sys; os.rename(sys.argv[1], sys.argv[2])"
+SYSTEM = """[[layer]]
+handled_access_fs = ["read_file"]
+[[layer.path_beneath]]
+allowed_access = ["read_file"]
+parent = ["/usr", "/lib", "/lib64", "/etc", "{}"]
+"""
+NOTHING = '[[nothing]]\nrights = ["read_file"]\nunder = "@/closed"\n'
 HARMLESS = '[[layer]]\nhandled_access_fs = ["make_block"]\n'
 
 
@@ -70,7 +78,9 @@ class LivePolicies(InFolder):
     def test_a_parent_that_is_a_link_which_the_run_did_not_touch(self) -> None:
         (self.folder / "real").mkdir()
         (self.folder / "real" / "file").write_text("text\n")
-        (self.folder / "link").symlink_to("real")
+        elsewhere = Path(self.enterContext(tempfile.TemporaryDirectory()))
+        (elsewhere / "link").symlink_to(self.folder / "real")
+        (self.folder / "link").symlink_to(elsewhere / "link")
         read = '[[layer]]\nhandled_access_fs = ["read_file"]\n[[layer.path_beneath]]\nallowed_access = ["read_file"]\n'
         policy = self.policy("P.toml", read + 'parent = ["/usr", "/lib64", "/etc", "/proc", "@/link/../link"]\n')
         self.recorded("cat", "real/file")
@@ -89,6 +99,22 @@ class LivePolicies(InFolder):
         tight = self.said(PYTHON, RECORDER, "tighten", "rec", "--policy", policy)
         self.assertEqual((tight.returncode, "link/../link" in tight.stdout), (5, True), tight.stdout + tight.stderr)
 
+    def test_a_link_in_a_listed_directory_is_known_everywhere(self) -> None:
+        """It leads where it did when the run began."""
+        for name in ("one", "other"):
+            (self.folder / name).mkdir()
+            (self.folder / name / "file").write_text("text\n")
+        (self.folder / "link").symlink_to("one")
+        policy = self.policy("P.toml", SYSTEM.format("@/link"))
+        self.recorded("cat", "other/file")
+        self.assertEqual(self.under(policy, "cat", "other/file").returncode, 1)
+        (self.folder / "link").unlink()
+        (self.folder / "link").symlink_to("other")
+        for _ in range(2):
+            status, said = self.audited(policy)
+            self.assertEqual((status, "NOT ALL IS JUDGED" in said), (1, False), said)
+            self.moved_away()
+
     def test_a_link_at_the_top_is_known_everywhere(self) -> None:
         if not os.path.islink("/bin"):
             self.skipTest("/bin is no link here")
@@ -105,7 +131,6 @@ class LivePolicies(InFolder):
     def test_a_move_that_gains_by_a_rule_on_a_link(self) -> None:
         for name in ("from", "to"):
             (self.folder / name).mkdir()
-        (self.folder / "link").symlink_to("to")
         (self.folder / "from" / "file").touch()
         words = (self.folder / "from" / "file", self.folder / "to" / "file")
         moving = """[[layer]]
@@ -117,7 +142,9 @@ parent = "@"
 allowed_access = ["execute"]
 parent = ["/usr", "/lib64", "@/link"]
 """
-        policy = self.policy("P.toml", moving)
+        elsewhere = Path(self.enterContext(tempfile.TemporaryDirectory()))
+        (elsewhere / "link").symlink_to(self.folder / "to")
+        policy = self.policy("P.toml", moving.replace("@/link", f"{elsewhere}/link"))
         run = self.under(policy, PYTHON, "-c", MOVE, *words)
         self.assertIn("Invalid cross-device link", run.stderr)
         self.recorded(PYTHON, "-c", MOVE, *words)
@@ -207,3 +234,37 @@ parent = ["/usr", "/lib64", "@/link"]
         ended = [self.under(self.folder / name, PYTHON, "-c", RESTRICT).stdout for name in ("old", "new")]
         self.assertEqual(ended, ["Argument list too long\n", "ok\n"])
         self.assertEqual((status, lines[0]), (1, "new lets pass what old refuses:"))
+
+    def asked(self, policy: Path) -> int:
+        """The status of a check that no file in a directory may be read."""
+        return self.said(PYTHON, CONFINER, "check", policy, self.policy("cases", NOTHING)).returncode
+
+    def closed(self) -> Path:
+        """A file in a directory that has no rule."""
+        (self.folder / "open" / "there").mkdir(parents=True)
+        (self.folder / "closed").mkdir()
+        file = self.folder / "closed" / "file"
+        file.write_text("read\n")
+        return file
+
+    def test_what_is_mounted_where_a_rule_is(self) -> None:
+        """A question is about an object by all its paths."""
+        closed = self.closed()
+        policy, there = self.policy("policy", SYSTEM.format("@/open")), self.folder / "open" / "there"
+        self.assertEqual(self.asked(policy), 0)
+        if self.said("mount", "--bind", self.folder / "closed", there).returncode != 0:
+            self.skipTest("nothing can be mounted")
+        self.addCleanup(self.said, "umount", there)
+        self.assertEqual(self.under(policy, "cat", there / "file").stdout, "read\n")
+        self.assertEqual(self.under(policy, "cat", closed).stdout, "")
+        self.assertEqual(self.asked(policy), 1)
+
+    def test_a_link_of_the_process(self) -> None:
+        """The command has another working directory than the check."""
+        closed = self.closed()
+        policy = self.policy("policy", SYSTEM.format("/proc/self/cwd"))
+        words = (PYTHON, CONFINER, "confine", policy, "--", "cat", closed)
+        ran = subprocess.run(words, cwd=closed.parent, capture_output=True, text=True, check=False)
+        self.assertEqual(ran.stdout, "read\n", ran.stderr)
+        status = self.said("env", "-C", "/usr", PYTHON, CONFINER, "check", policy, self.policy("cases", NOTHING)).returncode
+        self.assertEqual(status, 5)
