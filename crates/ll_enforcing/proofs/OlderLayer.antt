@@ -79,7 +79,8 @@ ports_network layer (rule ∷ others) = ports_network _ others
 module _ (tree : List Entry) (older newer : Abi) (le : number_of older ≤ number_of newer) (missing : List ℕ) (rs : ℕ) (layer : policies.Layer) where
   -- ---- all rules for files
 
-  same_rule : (known : files.has (listed layer.handled_files) files.other ≡ false) (own : Layer) (numbered : ℕ × PathRule) → own.handled_files ≡ handled_files older layer →
+  same_rule : (known : files.has (listed layer.handled_files) files.other ≡ false)
+      (own : Layer) (numbered : ℕ × PathRule) → own.handled_files ≡ handled_files older layer →
       All (λ (rule : FittedPathRule). IsListed tree rule.parent) (fitted_path_rule newer layer numbered)
       → IsSame tree older missing rs own numbered.1.parent (rights_on newer layer numbered.1) (rights_on older layer numbered.1)
   unfolding fitted_path_rule rights_on
@@ -93,7 +94,8 @@ module _ (tree : List Entry) (older newer : Abi) (le : number_of older ≤ numbe
             ∙ on_within older layer known rule rule.parent;
       }
 
-  goes_paths : (known : files.has (listed layer.handled_files) files.other ≡ false) (before : List Layer) (own : Layer) (s : State) (xs : List (ℕ × PathRule)) → IsTree tree → IsNoObject (place tree missing) →
+  goes_paths : (known : files.has (listed layer.handled_files) files.other ≡ false)
+      (before : List Layer) (own : Layer) (s : State) (xs : List (ℕ × PathRule)) → IsTree tree → IsNoObject (place tree missing) →
       s.held rs ≡ Some (length before) → own.handled_files ≡ handled_files older layer →
       All (λ (rule : FittedPathRule). IsListed tree rule.parent) (flat_map (fitted_path_rule newer layer) xs)
       → Goes tree older (any_refused (flat_map (fitted_path_rule older layer) xs)) (before ++ own ∷ []) s
@@ -127,7 +129,8 @@ module _ (tree : List Entry) (older newer : Abi) (le : number_of older ≤ numbe
 
   -- ---- all rules for ports
 
-  goes_port : (known : network.has (listed_on_ports layer.handled_network) network.other ≡ false) (before : List Layer) (own : Layer) (s : State) (numbered : ℕ × PortRule) → s.held rs ≡ Some (length before) →
+  goes_port : (known : network.has (listed_on_ports layer.handled_network) network.other ≡ false)
+      (before : List Layer) (own : Layer) (s : State) (numbered : ℕ × PortRule) → s.held rs ≡ Some (length before) →
       own.handled_network ≡ handled_network older layer → AreFit older layer known numbered
       → Goes tree older false (before ++ own ∷ []) s (map (best_port tree older missing rs) (fitted_port_rule newer layer numbered))
       (before ++ with_ports own (fitted_port_rule older layer numbered) ∷ []) s
@@ -143,7 +146,8 @@ module _ (tree : List Entry) (older newer : Abi) (le : number_of older ≤ numbe
       (port_valid older layer known numbered fits) some))
       refl refl (λ empty. ap network.is_empty (sym same) ∙ net_supported_nothing older (supported_net newer both) empty)
 
-  goes_ports : (known : network.has (listed_on_ports layer.handled_network) network.other ≡ false) (before : List Layer) (own : Layer) (s : State) (xs : List (ℕ × PortRule)) → s.held rs ≡ Some (length before) →
+  goes_ports : (known : network.has (listed_on_ports layer.handled_network) network.other ≡ false)
+      (before : List Layer) (own : Layer) (s : State) (xs : List (ℕ × PortRule)) → s.held rs ≡ Some (length before) →
       own.handled_network ≡ handled_network older layer → All (AreFit older layer known) xs
       → Goes tree older false (before ++ own ∷ []) s (map (best_port tree older missing rs) (flat_map (fitted_port_rule newer layer) xs))
       (before ++ with_ports own (flat_map (fitted_port_rule older layer) xs) ∷ []) s

@@ -24,7 +24,7 @@ use Rattle.ll_policy.specs.Moving.{applies, about_moves, gains_nothing, gains_no
 use Rattle.ll_policy.proofs.Lists.{in_flat_map, that_passes, some_passes, all_of_mapped, here, there}
 use Rattle.ll_policy.proofs.Bridge.{AreRuledBy, by_way, handles_alike, equal_tests}
 use Rattle.ll_policy.proofs.Alike.{refused_in_region}
-use Rattle.ll_policy.proofs.PassingMoves.{parts, lacks_none, usable, none_by, none_by_either, none_alike, rename_is_link_and_removal}
+use Rattle.ll_policy.proofs.PassingMoves.{parts, lacks_none, usable, none_by, none_by_either, none_alike, rename_parts}
 
 -- ---- one right
 
@@ -196,5 +196,5 @@ module _ (tree : List Entry) (layers : List (RulesOn ℕ)) (moved directory : No
   pub rename_by_chains : lets_pass (all_in_tree tree layers) tree (renaming moved (New directory)) ≡ rename_passes (about_moves kind layers) object from to
   unfolding rename_passes
   rename_by_chains =
-      rename_is_link_and_removal (all_in_tree tree layers) tree moved (New directory)
+      rename_parts (all_in_tree tree layers) tree moved (New directory)
       ∙ rw (link_by_chains, usable_on_chain tree goes.nodes (front here_is) from goes.of_source layers goes.listed (remove_right_of kind)) refl

@@ -415,11 +415,13 @@ module _ (is_file : ℕ → Bool) (old new : List (RulesOn ℕ)) (nothing : Noth
       → numbers_from test 1 (all_in_tree tree old) ≡ []
   numbers_kept test keeps none = each_none tree test 1 old (keeps (none_each tree test 1 new none))
 
-  pub passes_no_more_anywhere : AllKeepGains is_file old new → (move : Move) → IsNode tree move.moved → IsTargetIn tree move.target → IsTargetOf tree move.target
+  pub passes_no_more_anywhere : AllKeepGains is_file old new → (move : Move)
+      → IsNode tree move.moved → IsTargetIn tree move.target → IsTargetOf tree move.target
       → move_verdict tree (all_in_tree tree new) move ≡ Passed → move_verdict tree (all_in_tree tree old) move ≡ Passed
   unfolding move_verdict
   passes_no_more_anywhere gaining move within there_in of passing =
       let parts = passed_parts Acces (numbers_from (denies tree move) 1 (all_in_tree tree new)) _ passing in
-      passed_from Acces (numbers_from (denies tree move) 1 (all_in_tree tree old)) _ (numbers_kept (denies tree move) (denies_kept move within there_in of) parts.0)
+      passed_from Acces (numbers_from (denies tree move) 1 (all_in_tree tree old)) _
+      (numbers_kept (denies tree move) (denies_kept move within there_in of) parts.0)
       (crossing (path_eq (source_of tree move) (destination_of tree move.target)) (numbers_from (holds_back tree move) 1 (all_in_tree tree new))
       (numbers_from (holds_back tree move) 1 (all_in_tree tree old)) (numbers_kept (holds_back tree move) (holds_kept gaining move within there_in of)) parts.1)

@@ -130,9 +130,9 @@ module _ (domain : List (RulesOn Path)) (tree : List Entry) (moved : NodeId) whe
   abbrev removed : RulesOn Path → Bool
   removed layer = lacks_one_of layer source (remove_right_of (kind_at tree moved) ∷ [])
 
-  pub rename_is_link_and_removal : (target : Target) → lets_pass domain tree (renaming moved target)
+  pub rename_parts : (target : Target) → lets_pass domain tree (renaming moved target)
       ≡ (lets_pass domain tree (linking moved target) && lets_use domain source (remove_right_of (kind_at tree moved)))
-  rename_is_link_and_removal target =
+  rename_parts target =
       let made : RulesOn Path → Bool =
       λ layer. lacks_one_of layer (destination_of tree target) (asked_of_destination (kind_at tree moved) (kind_there tree target)) in
       let rest : Bool = path_eq source (destination_of tree target) || is_none (numbers_from (holds_back tree (linking moved target)) 1 domain) in
@@ -160,10 +160,10 @@ module _ (domain : List (RulesOn Path)) (tree : List Entry) (moved : NodeId) whe
   passes_to directory =
       is_none (numbers_from (denies_to directory) 1 domain) && (path_eq source directory || is_none (numbers_from (holds_to directory) 1 domain))
 
-  pub onto_is_new_and_removal : (there directory : NodeId) → path_at tree directory ≡ front (path_at tree there)
+  pub onto_parts : (there directory : NodeId) → path_at tree directory ≡ front (path_at tree there)
       → lets_pass domain tree (renaming moved (Over there))
       ≡ (lets_pass domain tree (renaming moved (New directory)) && lets_use domain (front (path_at tree there)) (remove_right_of (kind_at tree there)))
-  onto_is_new_and_removal there directory same =
+  onto_parts there directory same =
       let to : Path = front (path_at tree there) in
       let gone : RulesOn Path → Bool = λ layer. lacks_one_of layer to (remove_right_of (kind_at tree there) ∷ []) in
       let rest : Bool = path_eq source to || is_none (numbers_from (holds_to to) 1 domain) in
@@ -202,9 +202,9 @@ held_both_ways x y g h = grind arith
 two_moves : (a b w x y : Bool) → ((a && b) && (w || (x && y))) ≡ ((a && (w || x)) && (b && (w || y)))
 two_moves a b w x y = grind arith
 
-pub exchange_is_two_renames : (domain : List (RulesOn Path)) (tree : List Entry) (one other : NodeId) → lets_pass domain tree (exchanging one other)
+pub exchange_parts : (domain : List (RulesOn Path)) (tree : List Entry) (one other : NodeId) → lets_pass domain tree (exchanging one other)
     ≡ (lets_pass domain tree (renaming one (Over other)) && lets_pass domain tree (renaming other (Over one)))
-exchange_is_two_renames domain tree one other =
+exchange_parts domain tree one other =
     let from : Path = front (path_at tree one) in
     let to : Path = front (path_at tree other) in
     let move : Move = exchanging one other in

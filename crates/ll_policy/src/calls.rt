@@ -45,7 +45,7 @@ pub fn moves_alike_have_one_verdict()
 /// A rename passes where the link would pass and the object may be removed; onto an object that is there, where the
 /// rename to a new name would pass and that object may be removed too; and an exchange passes where each object may be
 /// moved onto the other.
-#[tactic(auto, using(crate::proofs::PassingMoves::rename_is_link_and_removal, crate::proofs::PassingMoves::onto_is_new_and_removal, crate::proofs::PassingMoves::exchange_is_two_renames))]
+#[tactic(auto, using(crate::proofs::PassingMoves::rename_parts, crate::proofs::PassingMoves::onto_parts, crate::proofs::PassingMoves::exchange_parts))]
 pub fn moves_made_of_others()
     ensures rename { (domain : List (RulesOn Path)) (tree : List Entry) (moved : NodeId)
         (target : MoveTarget) → lets_pass domain tree (renaming moved target)
