@@ -82,6 +82,12 @@ class Trees(unittest.TestCase):
         self.assertEqual(tree.resolved("/link/lib"), "/usr/lib")
         self.assertEqual(tree.resolved("/link/lib", before_run=True), "/link/lib")
 
+    def test_of_objects_that_are_made_at_one_path_the_first_one_is_named(self) -> None:
+        names = [f"/a/x~{number}~" for number in range(40)]
+        tree = Tree({"/": "dir", "/a": "dir"} | dict.fromkeys(names, "reg"), made=set(names),
+                    shown=dict.fromkeys(names, "/a/x"))
+        self.assertEqual(tree.put, {"/a/x": "/a/x~0~"})
+
     def test_a_line_without_a_kind_lists_nothing(self) -> None:
         with self.assertRaisesRegex(Problem, "tree.jsonl line 2 lists no object"):
             listed([LINES[0], {"path": "/a"}])

@@ -82,8 +82,8 @@ class Tree:
 
     @cached_property
     def put(self) -> dict[str, str]:
-        """The real paths at which the run puts an object, each with the name of one."""
-        return {self.real(name): name for name in self.made}
+        """The real paths at which the run puts an object, each with the name of the first one that is listed."""
+        return {self.real(name): name for name in reversed(self.kinds) if name in self.made}
 
     def is_replaced(self, path: str) -> bool:
         """Whether an object is at a path when the run begins, and another one later."""
