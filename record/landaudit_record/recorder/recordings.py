@@ -49,9 +49,9 @@ class About:
     links were traced. `formats` are those that binfmt_misc had, None if they are not known; `hidepid` says that /proc
     is mounted with this option (proc(5)), which does not concern `hidepid_group`, and `taken` has the places of file
     systems that were taken from their servers during the run. `too_large` are directories that were to be listed and
-    hold too many objects. `machine` tells the
-    machine from others, "" if it is not known. `mounts` are those of the command's namespace when the run began, each
-    with its place, its device, the directory of the file system that it shows, and its type.
+    hold too many objects. `machine` tells the machine from others, "" if it is not known. `mounts` are those of the
+    command's namespace when the run began, each with its place, its device, the directory of the file system that it
+    shows, and its type.
     `by` is the recorder: STRACE or WITNESS.
     """
 
