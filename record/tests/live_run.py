@@ -81,9 +81,19 @@ class LiveRun(unittest.TestCase):
     def begin(self, *command: str) -> subprocess.Popen[str]:
         """Starts to record a command."""
         words = [sys.executable, str(RECORDER), "run", str(self.out), "--", *command]
-        return subprocess.Popen(
+        run = subprocess.Popen(
             words, cwd=self.folder, stdout=subprocess.PIPE, stderr=subprocess.PIPE, text=True, start_new_session=True
         )
+        self.addCleanup(self.leave_nothing, run)
+        return run
+
+    def leave_nothing(self, run: subprocess.Popen[str]) -> None:
+        """Ends a recording that a failed test has left, with what sleeps in it, which another test would find."""
+        if run.poll() is None:
+            run.kill()
+            run.wait()
+        for left in running(SLEEPS):
+            os.kill(left, signal.SIGKILL)
 
     def recording(self) -> dict[str, object]:
         return json.loads((self.out / "recording.json").read_text())  # type: ignore[no-any-return]
