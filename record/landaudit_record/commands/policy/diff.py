@@ -63,7 +63,7 @@ def run(arguments: argparse.Namespace) -> int:
     if arguments.format == reporting.JSON:
         print(json.dumps(differing_data.as_data(review), indent=2))
     elif arguments.format != reporting.TEXT:
-        from ...summaries.reporting import compared  # as below
+        from ...summaries.reporting import compared  # only these formats need it
 
         reporting.show(compared.report(review, new), arguments.format)
     else:
