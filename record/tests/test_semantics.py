@@ -86,7 +86,7 @@ LINES = {
         "test_scopes.Written.test_looks_into_others",
         "test_hearing.Hearing.test_scopes_whose_calls_are_not_heard",
     ),
-    "Two false alarms are known": ("test_objects.Unwatched.test_a_file_of_which_a_name_is_gone_may_be_another_one",),
+    "Known false alarms": ("test_objects.Unwatched.test_a_file_of_which_a_name_is_gone_may_be_another_one",),
 }
 
 
