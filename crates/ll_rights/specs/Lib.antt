@@ -6,3 +6,4 @@ pub mod Abis
 pub mod Supported
 pub mod Kinds
 pub mod AbiRanges
+pub mod Families

@@ -9,6 +9,7 @@ mod fs;
 mod kind;
 mod laws;
 mod net;
+mod right_set;
 
 pub use abi::Abi;
 pub use abi_range::AbiRange;
@@ -19,3 +20,4 @@ pub use laws::{
     supported_sets,
 };
 pub use net::{LARGEST_PORT, Net, NetRight, net_of_name};
+pub use right_set::RightSet;

@@ -1,7 +1,7 @@
 //! The tables of rights, against the kernel's header.
 
 use bitflags::Flags;
-use ll_rights::{Abi, Fs, FsRight, Kind, Net, NetRight, fs_of_name, net_of_name};
+use ll_rights::{Abi, Fs, FsRight, Kind, Net, NetRight, RightSet, fs_of_name, net_of_name};
 
 /// Each right with its bit in `linux/landlock.h` and the version it came with.
 const FILES: [(&str, u32, u64); 16] = [
@@ -173,4 +173,13 @@ fn kinds(rt: HostRuntime) {
     for (kind, make, remove) in KINDS {
         assert!(rt; is_made_and_removed(kind, make, remove), "{make}");
     }
+}
+
+#[test]
+fn sets_of_either_kind(rt: HostRuntime) {
+    let reading = Fs::READ_FILE.union(Fs::READ_DIR);
+    assert_eq!(rt; reading.common(Fs::FILE), Fs::READ_FILE);
+    assert_eq!(rt; Net::BIND_TCP.common(Net::CONNECT_TCP), Net::none());
+    assert!(rt; net_of_name("send_udp").has_other());
+    assert!(rt; !Net::CONNECT_TCP.has_other());
 }
