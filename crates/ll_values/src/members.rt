@@ -4,13 +4,13 @@ ghost use Rattle.std.specs.Prelude.{◌≡◌, ◌<◌, IfOk, length};
 ghost use Rattle.serde_json.specs.View.{view, items_view};
 ghost use Rattle.ll_lines.specs.Readers.{Gives, Reads};
 ghost use Rattle.ll_lines.specs.Members.{value_at, text_at, number_at, flag_at, items_at, text_in, fold_texts};
-ghost use Rattle.ll_members.specs.Rights.{net_at, texts_at, with_fs, with_net};
+ghost use Rattle.ll_members.specs.Rights.{net_at, texts_at, with_fs};
+ghost use Rattle.ll_rights.specs.Families.{no_right, with_name};
 ghost use Rattle.ll_rights.specs.Rights as for_files;
-ghost use Rattle.ll_rights.specs.NetRights as for_ports;
 ghost use Rattle.ll_values.specs.Lists.{place_in, truth_in};
 
 use ll_lines::Cause;
-use ll_rights::{Fs, Net, fs_of_name, net_of_name};
+use ll_rights::{Fs, Net, RightSet};
 use serde_json::Value;
 use std::alloc::Global;
 
@@ -102,19 +102,7 @@ pub fn fs_of(value: &Value, name: &str) -> Result<Fs, Cause>
         (texts_at name.now with_fs for_files.no_right (view value.now)) }
 {
     let names = items_of(value, name)?;
-    fs_in_list(names)
-}
-
-#[tactic(auto, using(crate::proofs::Texts::fold_texts_fault, crate::proofs::Texts::fold_texts_end))]
-fn fs_in_list(names: &[Value]) -> Result<Fs, Cause>
-    ensures { Reads (λ set. set) result
-        (fold_texts with_fs for_files.no_right (items_view names.now)) }
-{
-    let mut set = Fs::NONE;
-    for name in names {
-        set = set.union(fs_of_name(text_in_list(name)?));
-    }
-    Ok(set)
+    set_in_list(names)
 }
 
 /// The rights for the network of the member `net`.
@@ -123,17 +111,17 @@ pub fn net_of(value: &Value) -> Result<Net, Cause>
     ensures { Reads (λ set. set) result (net_at (view value.now)) }
 {
     let names = items_of(value, "net")?;
-    net_in_list(names)
+    set_in_list(names)
 }
 
 #[tactic(auto, using(crate::proofs::Texts::fold_texts_fault, crate::proofs::Texts::fold_texts_end))]
-fn net_in_list(names: &[Value]) -> Result<Net, Cause>
+fn set_in_list<S: RightSet>(names: &[Value]) -> Result<S, Cause>
     ensures { Reads (λ set. set) result
-        (fold_texts with_net for_ports.no_right (items_view names.now)) }
+        (fold_texts (with_name S.family) (no_right S.family) (items_view names.now)) }
 {
-    let mut set = Net::NONE;
+    let mut set = S::none();
     for name in names {
-        set = set.union(net_of_name(text_in_list(name)?));
+        set = set.union(S::of_name(text_in_list(name)?));
     }
     Ok(set)
 }
