@@ -3,63 +3,34 @@ use Rattle.std.proofs.Common.{◌≡◌, Bool, false, List, [], ◌∷◌, refl,
 use Rattle.std.specs.Prelude.{unwrap_or}
 use Rattle.std.specs.Option.{option_map}
 use Rattle.json.specs.Json.{array}
+use Rattle.ll_rights.specs.Families.{Family, for_files, for_network, set_of, no_right}
 use Rattle.ll_rights.specs.Rights as files
 use Rattle.ll_rights.specs.NetRights as network
-use Rattle.ll_calling.specs.Groups.{set_of, set_on_ports}
-use Rattle.ll_calling.specs.Texts.{name_items, port_name_items, names_json, port_names_json, rights_in, port_rights_in}
+use Rattle.ll_rights.proofs.Bitwise.{zero_bit}
+use Rattle.ll_calling.specs.Texts.{name_items, names_json, rights_in}
 
-items_same : (test other : files.FsRight → Bool) → ((right : files.FsRight) → test right ≡ other right) → (rights : List files.FsRight)
-    → name_items test rights ≡ name_items other rights
-unfolding name_items
-items_same test other same [] = refl
-items_same test other same (right ∷ rights) = rw (same right, items_same test other same rights) refl
+module _ {S R : Type 0} (family : Family S R) where
+  items_same : (test other : R → Bool) → ((right : R) → test right ≡ other right) → (rights : List R)
+      → name_items family test rights ≡ name_items family other rights
+  unfolding name_items
+  items_same test other same [] = refl
+  items_same test other same (right ∷ rights) = rw (same right, items_same test other same rights) refl
 
-port_items_same : (test other : network.NetRight → Bool) → ((right : network.NetRight) → test right ≡ other right) → (rights : List network.NetRight)
-    → port_name_items test rights ≡ port_name_items other rights
-unfolding port_name_items
-port_items_same test other same [] = refl
-port_items_same test other same (right ∷ rights) = rw (same right, port_items_same test other same rights) refl
+  pub names_same : (test other : R → Bool) → ((right : R) → test right ≡ other right) → names_json family test ≡ names_json family other
+  names_same test other same = ap array (items_same test other same family.all_rights)
 
-pub names_same : (test other : files.FsRight → Bool) → ((right : files.FsRight) → test right ≡ other right) → names_json test ≡ names_json other
-names_same test other same = ap array (items_same test other same files.all_rights)
-
-pub port_names_same : (test other : network.NetRight → Bool) → ((right : network.NetRight) → test right ≡ other right)
-    → port_names_json test ≡ port_names_json other
-port_names_same test other same = ap array (port_items_same test other same network.all_rights)
-
--- no right, where there is no group
-none_has : (right : files.FsRight) → files.has files.no_right right ≡ false
-unfolding files.has
-none_has files.execute = refl
-none_has files.write_file = refl
-none_has files.read_file = refl
-none_has files.read_dir = refl
-none_has files.remove_dir = refl
-none_has files.remove_file = refl
-none_has files.make_char = refl
-none_has files.make_dir = refl
-none_has files.make_reg = refl
-none_has files.make_sock = refl
-none_has files.make_fifo = refl
-none_has files.make_block = refl
-none_has files.make_sym = refl
-none_has files.refer = refl
-none_has files.truncate = refl
-none_has files.ioctl_dev = refl
-none_has files.other = refl
-
-none_has_port : (right : network.NetRight) → network.has network.no_right right ≡ false
-unfolding network.has
-none_has_port network.bind_tcp = refl
-none_has_port network.connect_tcp = refl
-none_has_port network.other = refl
+  -- no right, where there is no group
+  names_in : ((right : R) → family.has (no_right family) right ≡ false) → (group : Option (List R))
+      → names_json family (family.has (unwrap_or (option_map (set_of family) group) (no_right family))) ≡ names_json family (rights_in family group)
+  names_in none None = names_same (family.has (no_right family)) (λ right. false) none
+  names_in none (Some rights) = refl
 
 pub group_names : (group : Option (List files.FsRight))
-    → names_json (files.has (unwrap_or (option_map set_of group) files.no_right)) ≡ names_json (rights_in group)
-group_names None = names_same (files.has files.no_right) (λ right. false) none_has
-group_names (Some rights) = refl
+    → names_json for_files (files.has (unwrap_or (option_map (set_of for_files) group) files.no_right)) ≡ names_json for_files (rights_in for_files group)
+unfolding files.has
+group_names = names_in for_files (λ right. zero_bit (files.bit_of files.other) (files.bit_of right))
 
-pub port_group_names : (group : Option (List network.NetRight))
-    → port_names_json (network.has (unwrap_or (option_map set_on_ports group) network.no_right)) ≡ port_names_json (port_rights_in group)
-port_group_names None = port_names_same (network.has network.no_right) (λ right. false) none_has_port
-port_group_names (Some rights) = refl
+pub port_group_names : (group : Option (List network.NetRight)) → names_json for_network
+    (network.has (unwrap_or (option_map (set_of for_network) group) network.no_right)) ≡ names_json for_network (rights_in for_network group)
+unfolding network.has
+port_group_names = names_in for_network (λ right. zero_bit (network.bit_of network.other) (network.bit_of right))

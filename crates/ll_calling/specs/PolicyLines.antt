@@ -8,7 +8,7 @@ use Rattle.serde_json.specs.Find.{get}
 use Rattle.ll_rights.specs.declared.fs.Fs.{Fs}
 use Rattle.ll_rights.specs.declared.net.Net.{Net}
 use Rattle.ll_rights.specs.Rights as files
-use Rattle.ll_rights.specs.NetRights as network
+use Rattle.ll_rights.specs.Families.{Family, for_files, for_network, no_right}
 use Rattle.ll_lines.specs.declared.fault.Cause.{Cause}
 use Rattle.ll_lines.specs.declared.fault.Cause.TheVariants.{Field}
 use Rattle.ll_lines.specs.Members.{value_at, text_at, text_in, number_at, items_at, ◌>>=◌}
@@ -16,8 +16,7 @@ use Rattle.ll_lines.specs.Reading.{Format}
 use Rattle.ll_tree.specs.TreeReading.{kind_named}
 use Rattle.ll_values.specs.Lists.{fold_items, list_at}
 use Rattle.ll_values.specs.Answers.{by_line}
-use Rattle.ll_fitting.specs.declared.written.FileAccess.{FileAccess}
-use Rattle.ll_fitting.specs.declared.written.PortAccess.{PortAccess}
+use Rattle.ll_fitting.specs.declared.written.Access.{Access}
 use Rattle.ll_fitting.specs.declared.written.Parent.{Parent}
 use Rattle.ll_fitting.specs.declared.written.Parent.TheVariants.{There, Missing}
 use Rattle.ll_fitting.specs.declared.written.PathRule.{PathRule}
@@ -25,7 +24,7 @@ use Rattle.ll_fitting.specs.declared.written.PortRule.{PortRule}
 use Rattle.ll_fitting.specs.declared.written.Scopes.{Scopes}
 use Rattle.ll_fitting.specs.Written.{Layer}
 use Rattle.ll_fitting.specs.Misfits.{misfit}
-use Rattle.ll_calling.specs.Groups.{set_of, set_on_ports, group_named, group_on_ports}
+use Rattle.ll_calling.specs.Groups.{group_of_files, group_of_ports}
 
 -- what the words of a member make of what no word makes, one after another
 unfoldable pub words_at : {Whole : Type 0} → (Whole → Data → Result Whole Cause) → Whole → List ℕ → Data → Result Whole Cause
@@ -35,36 +34,26 @@ words_at more none name value = do
 
 -- ---- lists of rights: a word is a group, or the name of a right
 
-abbrev pub with_name : FileAccess → Fs → Result FileAccess Cause
-with_name access right = if files.has right files.other then Err Field else Ok (record { named = files.united access.named right; grouped = access.grouped })
+abbrev pub with_right : {S R : Type 0} → Family S R → Access S → S → Result (Access S) Cause
+with_right family access right = if family.has right family.other then Err Field else Ok (record { named = family.united access.named right; grouped = access.grouped })
 
-abbrev pub with_group : FileAccess → List ℕ → Option (List files.FsRight) → Result FileAccess Cause
-with_group access word (Some rights) = Ok (record { named = access.named; grouped = files.united access.grouped (set_of rights) })
-with_group access word None = with_name access (files.only (files.right_named word))
+abbrev pub with_group : {S R : Type 0} → Family S R → Access S → List ℕ → Option S → Result (Access S) Cause
+with_group family access word (Some rights) = Ok (record { named = access.named; grouped = family.united access.grouped rights })
+with_group family access word None = with_right family access (family.only (family.right_named word))
 
-unfoldable pub with_word : FileAccess → Data → Result FileAccess Cause
-with_word access value = do
+unfoldable pub with_word : {S R : Type 0} → Family S R → (List ℕ → Option S) → Access S → Data → Result (Access S) Cause
+with_word family group access value = do
   word ← text_in value
-  with_group access word (group_named word)
+  with_group family access word (group word)
 
-abbrev pub access_at : List ℕ → Data → Result FileAccess Cause
-access_at name value = words_at with_word (record { named = files.no_right; grouped = files.no_right }) name value
+abbrev pub rights_at : {S R : Type 0} → Family S R → (List ℕ → Option S) → List ℕ → Data → Result (Access S) Cause
+rights_at family group name value = words_at (with_word family group) (record { named = no_right family; grouped = no_right family }) name value
 
-abbrev pub with_name_on_ports : PortAccess → Net → Result PortAccess Cause
-with_name_on_ports access right =
-    if network.has right network.other then Err Field else Ok (record { named = network.united access.named right; grouped = access.grouped })
+abbrev pub access_at : List ℕ → Data → Result (Access Fs) Cause
+access_at = rights_at for_files group_of_files
 
-abbrev pub with_group_on_ports : PortAccess → List ℕ → Option (List network.NetRight) → Result PortAccess Cause
-with_group_on_ports access word (Some rights) = Ok (record { named = access.named; grouped = network.united access.grouped (set_on_ports rights) })
-with_group_on_ports access word None = with_name_on_ports access (network.only (network.right_named word))
-
-unfoldable pub with_word_on_ports : PortAccess → Data → Result PortAccess Cause
-with_word_on_ports access value = do
-  word ← text_in value
-  with_group_on_ports access word (group_on_ports word)
-
-abbrev pub port_access_at : List ℕ → Data → Result PortAccess Cause
-port_access_at name value = words_at with_word_on_ports (record { named = network.no_right; grouped = network.no_right }) name value
+abbrev pub port_access_at : List ℕ → Data → Result (Access Net) Cause
+port_access_at = rights_at for_network group_of_ports
 
 -- ---- scopes
 
@@ -111,7 +100,7 @@ unfoldable pub included_at : Data → Result Bool Cause
 included_at value = included_in (get (codes "group") value)
 
 -- all rights of such a rule count as those of a group of rights
-unfoldable pub allowed_by : Bool → FileAccess → FileAccess
+unfoldable pub allowed_by : Bool → Access Fs → Access Fs
 allowed_by included access = if included then record { named = files.no_right; grouped = files.united access.named access.grouped } else access
 
 unfoldable pub rule_in : Data → Result RuleSeen Cause
@@ -137,8 +126,8 @@ port_rules_at value = list_at (codes "net_port") port_rule_in value
 -- ---- layers
 
 pub record LayerSeen : Type 0 where
-  pub handled_files : FileAccess
-  pub handled_network : PortAccess
+  pub handled_files : Access Fs
+  pub handled_network : Access Net
   pub rules : List RuleSeen
   pub port_rules : List PortRule
   pub scopes : Scopes

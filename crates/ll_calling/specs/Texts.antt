@@ -10,6 +10,7 @@ use Rattle.ll_rights.specs.declared.net.Net.{Net}
 use Rattle.ll_rights.specs.Abis.{all_versions, number_of, knows_fs, knows_net}
 use Rattle.ll_rights.specs.Rights as files
 use Rattle.ll_rights.specs.NetRights as network
+use Rattle.ll_rights.specs.Families.{Family, for_files, for_network, set_of}
 use Rattle.ll_lines.specs.Reading.{IsGood}
 use Rattle.ll_values.specs.Texts.{object_of, whole_json, line_of}
 use Rattle.ll_fitting.specs.declared.fitting.FittedPathRule.{FittedPathRule}
@@ -24,24 +25,17 @@ use Rattle.ll_enforcing.specs.Calls.{calls_of}
 use Rattle.ll_calling.specs.declared.objects.Shown.{Shown}
 use Rattle.ll_calling.specs.declared.objects.Shown.TheVariants as shown
 use Rattle.ll_calling.specs.declared.objects.Member.{Member}
-use Rattle.ll_calling.specs.Groups.{set_of, set_on_ports, group_named, group_on_ports}
+use Rattle.ll_calling.specs.Groups.{group_named, group_on_ports}
 use Rattle.ll_calling.specs.PolicyLines.{RuleSeen, LayerSeen, written_in, policy_format}
 
 -- the names of the rights that pass a test
-unfoldable pub name_items : (files.FsRight → Bool) → List files.FsRight → Items
-name_items test [] = no_items
-name_items test (right ∷ others) = if test right then item (string (files.name_of right)) (name_items test others) else name_items test others
-
-unfoldable pub port_name_items : (network.NetRight → Bool) → List network.NetRight → Items
-port_name_items test [] = no_items
-port_name_items test (right ∷ others) = if test right then item (string (network.name_of right)) (port_name_items test others) else port_name_items test others
+unfoldable pub name_items : {S R : Type 0} → Family S R → (R → Bool) → List R → Items
+name_items family test [] = no_items
+name_items family test (right ∷ others) = if test right then item (string (family.row right).name) (name_items family test others) else name_items family test others
 
 -- in the order of the table
-abbrev pub names_json : (files.FsRight → Bool) → Json
-names_json test = array (name_items test files.all_rights)
-
-abbrev pub port_names_json : (network.NetRight → Bool) → Json
-port_names_json test = array (port_name_items test network.all_rights)
+abbrev pub names_json : {S R : Type 0} → Family S R → (R → Bool) → Json
+names_json family test = array (name_items family test family.all_rights)
 
 -- ---- objects of flat members
 
@@ -49,8 +43,8 @@ abbrev pub shown_json : Shown → Json
 shown_json (shown.Word text) = string text.now
 shown_json (shown.Whole n) = whole_json n
 shown_json (shown.Number n) = whole_json n
-shown_json (shown.Files set) = names_json (files.has set)
-shown_json (shown.Network set) = port_names_json (network.has set)
+shown_json (shown.Files set) = names_json for_files (files.has set)
+shown_json (shown.Network set) = names_json for_network (network.has set)
 
 abbrev pub named : Member → List ℕ × Json
 named member = (member.name.now, shown_json member.value)
@@ -83,15 +77,15 @@ of_rule rule = (codes "rule", whole_json rule)
 
 abbrev pub create_json : ℕ → Fs → Net → Json
 create_json layer handled ports =
-    object_of (op (codes "create") ∷ of_ruleset ∷ (codes "fs", names_json (files.has handled)) ∷ (codes "net", port_names_json (network.has ports)) ∷ of_layer layer ∷ [])
+    object_of (op (codes "create") ∷ of_ruleset ∷ (codes "fs", names_json for_files (files.has handled)) ∷ (codes "net", names_json for_network (network.has ports)) ∷ of_layer layer ∷ [])
 
 abbrev pub path_json : ℕ → FittedPathRule → List ℕ → Json
 path_json layer rule path =
-    object_of (op (codes "add_path") ∷ of_ruleset ∷ (codes "path", string path) ∷ (codes "fs", names_json (files.has rule.rights)) ∷ of_layer layer ∷ of_rule rule.rule ∷ [])
+    object_of (op (codes "add_path") ∷ of_ruleset ∷ (codes "path", string path) ∷ (codes "fs", names_json for_files (files.has rule.rights)) ∷ of_layer layer ∷ of_rule rule.rule ∷ [])
 
 abbrev pub port_json : ℕ → FittedPortRule → Json
 port_json layer rule =
-    object_of (op (codes "add_port") ∷ of_ruleset ∷ (codes "port", whole_json rule.port) ∷ (codes "net", port_names_json (network.has rule.rights)) ∷ of_layer layer ∷ of_rule rule.rule ∷ [])
+    object_of (op (codes "add_port") ∷ of_ruleset ∷ (codes "port", whole_json rule.port) ∷ (codes "net", names_json for_network (network.has rule.rights)) ∷ of_layer layer ∷ of_rule rule.rule ∷ [])
 
 abbrev pub ruleset_json : List ℕ → ℕ → Json
 ruleset_json name layer = object_of (op name ∷ of_ruleset ∷ of_layer layer ∷ [])
@@ -131,25 +125,21 @@ pub record AreCalls (abi : Abi) (bytes : List ℕ) (text : List ℕ) (refused : 
 -- ---- the tables of rights: what each version knows, what each group stands for, and what applies to what is no directory
 
 abbrev pub abi_line : Abi → List ℕ
-abi_line abi = line_of (object_of ((codes "abi", whole_json (number_of abi)) ∷ (codes "fs", names_json (knows_fs abi)) ∷ (codes "net", port_names_json (knows_net abi)) ∷ []))
+abi_line abi = line_of (object_of ((codes "abi", whole_json (number_of abi)) ∷ (codes "fs", names_json for_files (knows_fs abi)) ∷ (codes "net", names_json for_network (knows_net abi)) ∷ []))
 
-abbrev pub rights_in : Option (List files.FsRight) → files.FsRight → Bool
-rights_in None right = false
-rights_in (Some rights) right = files.has (set_of rights) right
-
-abbrev pub port_rights_in : Option (List network.NetRight) → network.NetRight → Bool
-port_rights_in None right = false
-port_rights_in (Some rights) right = network.has (set_on_ports rights) right
+abbrev pub rights_in : {S R : Type 0} → Family S R → Option (List R) → R → Bool
+rights_in family None right = false
+rights_in family (Some rights) right = family.has (set_of family rights) right
 
 abbrev pub group_line : List ℕ → List ℕ
 group_line name =
     line_of (object_of ((codes "group", string name)
-    ∷ (codes "fs", names_json (rights_in (group_named name)))
-    ∷ (codes "net", port_names_json (port_rights_in (group_on_ports name)))
+    ∷ (codes "fs", names_json for_files (rights_in for_files (group_named name)))
+    ∷ (codes "net", names_json for_network (rights_in for_network (group_on_ports name)))
     ∷ []))
 
 abbrev pub file_line : List ℕ
-file_line = line_of (object_of ((codes "of", string (codes "file")) ∷ (codes "fs", names_json (files.has file_rights)) ∷ []))
+file_line = line_of (object_of ((codes "of", string (codes "file")) ∷ (codes "fs", names_json for_files (files.has file_rights)) ∷ []))
 
 abbrev pub group_lines : List ℕ
 group_lines = flat_map group_line (codes "all" ∷ codes "read" ∷ codes "write" ∷ codes "execute" ∷ [])

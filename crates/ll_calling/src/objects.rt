@@ -2,15 +2,11 @@
 
 ghost use Rattle.std.specs.Prelude.{◌≡◌, ◌++◌, IfOk, OnOk, map};
 ghost use Rattle.json.specs.Tree.{json_tokens, items_tokens, members_tokens};
-ghost use Rattle.ll_rights.specs.CodeRights.{fs_right, net_right};
-ghost use Rattle.ll_rights.specs.Rights as files;
-ghost use Rattle.ll_rights.specs.NetRights as network;
 ghost use Rattle.ll_values.specs.Texts.{members_of, object_of, line_of};
-ghost use Rattle.ll_calling.specs.Texts.{name_items, port_name_items, shown_json, named};
-ghost use Rattle.ll_calling.specs.declared.objects.Shown.TheVariants as shown;
+ghost use Rattle.ll_calling.specs.Texts.{name_items, names_json, shown_json, named};
 
 use json::Writer;
-use ll_rights::{Fs, FsRight, Net, NetRight};
+use ll_rights::{Fs, Net, RightSet};
 use std::alloc::{AllocError, Global};
 
 /// A value of an object.
@@ -32,52 +28,27 @@ pub(crate) struct Member<'a> {
 
 /// Writes the names of those rights that a set has, and the end of their array.
 #[tactic(auto, unfolding(crate::specs::Texts::name_items))]
-fn write_names(out: &mut Writer, all: &[FsRight], set: Fs) -> Result<(), AllocError>
+fn write_names<S: RightSet>(out: &mut Writer, all: &[S::Right], set: S) -> Result<(), AllocError>
     ensures tokens { OnOk result (out.new.tokens ≡ out.old.tokens
-        ++ items_tokens (name_items (files.has set) (map fs_right all.now))) }
+        ++ items_tokens (name_items S.family (S.family.has set) (map S.named all.now))) }
     ensures before { out.new.before ≡ out.old.before }
 {
     for right in all {
         if set.has(*right) {
-            out.string(right.name())?;
-        }
-    }
-    out.end_array()
-}
-
-/// Writes the names of those rights for ports that a set has, and the end of their array.
-#[tactic(auto, unfolding(crate::specs::Texts::port_name_items))]
-fn write_port_names(out: &mut Writer, all: &[NetRight], set: Net) -> Result<(), AllocError>
-    ensures tokens { OnOk result (out.new.tokens ≡ out.old.tokens
-        ++ items_tokens (port_name_items (network.has set) (map net_right all.now))) }
-    ensures before { out.new.before ≡ out.old.before }
-{
-    for right in all {
-        if set.has(*right) {
-            out.string(right.name())?;
+            out.string(S::name(*right))?;
         }
     }
     out.end_array()
 }
 
 /// Writes a set of rights.
-fn write_files(out: &mut Writer, set: Fs) -> Result<(), AllocError>
+fn write_set<S: RightSet>(out: &mut Writer, set: S) -> Result<(), AllocError>
     ensures tokens { OnOk result (out.new.tokens ≡ out.old.tokens
-        ++ json_tokens (shown_json (shown.Files set))) }
+        ++ json_tokens (names_json S.family (S.family.has set))) }
     ensures before { out.new.before ≡ out.old.before }
 {
     out.begin_array()?;
-    write_names(out, FsRight::all(), set)
-}
-
-/// Writes a set of rights for ports.
-fn write_network(out: &mut Writer, set: Net) -> Result<(), AllocError>
-    ensures tokens { OnOk result (out.new.tokens ≡ out.old.tokens
-        ++ json_tokens (shown_json (shown.Network set))) }
-    ensures before { out.new.before ≡ out.old.before }
-{
-    out.begin_array()?;
-    write_port_names(out, NetRight::all(), set)
+    write_names(out, S::all(), set)
 }
 
 /// Writes a value.
@@ -90,8 +61,8 @@ fn write_value(out: &mut Writer, value: Shown<'_>) -> Result<(), AllocError>
         Shown::Word(text) => out.string(text),
         Shown::Whole(number) => out.u64(number as u64),
         Shown::Number(number) => out.u64(number),
-        Shown::Files(set) => write_files(out, set),
-        Shown::Network(set) => write_network(out, set),
+        Shown::Files(set) => write_set(out, set),
+        Shown::Network(set) => write_set(out, set),
     }
 }
 

@@ -7,11 +7,12 @@ ghost use Rattle.ll_fitting.specs.Written.{written};
 ghost use Rattle.ll_calling.specs.PolicyLines as lines;
 ghost use Rattle.ll_calling.specs.Seen.{rule_seen, layer_seen};
 
-use crate::access::{access_of, port_access_of, scopes_of};
+use crate::access::{access_of, scopes_of};
 use crate::lists::{Listed, list_of};
 use crate::rules::RuleRead;
-use ll_fitting::{FileAccess, Layer, PathRule, Policy, PortAccess, PortRule, Scopes};
+use ll_fitting::{Access, Layer, PathRule, Policy, PortRule, Scopes};
 use ll_lines::Cause;
+use ll_rights::{Fs, Net};
 use ll_values::value_of;
 use serde_json::Value;
 use std::alloc::{AllocError, Global};
@@ -19,8 +20,8 @@ use std::alloc::{AllocError, Global};
 /// A layer with the paths of its rules.
 #[derive(Drop)]
 pub struct LayerRead {
-    pub handled_files: FileAccess,
-    pub handled_network: PortAccess,
+    pub handled_files: Access<Fs>,
+    pub handled_network: Access<Net>,
     pub rules: Vec<RuleRead>,
     pub port_rules: Vec<PortRule>,
     pub scopes: Scopes,
@@ -43,7 +44,7 @@ impl Listed for LayerRead {
     #[tactic(auto, unfolding(crate::specs::PolicyLines::layer_in))]
     fn read(alloc: Global, value: &Value) -> Result<LayerRead, Cause> {
         let handled_files = access_of(value, "handled_access_fs")?;
-        let handled_network = port_access_of(value, "handled_access_net")?;
+        let handled_network = access_of(value, "handled_access_net")?;
         let rules = list_of(alloc, value, "path_beneath")?;
         let port_rules = list_of(alloc, value, "net_port")?;
         let scopes = scopes_of(value)?;

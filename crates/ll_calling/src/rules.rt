@@ -8,9 +8,9 @@ ghost use Rattle.ll_fitting.specs.declared.written.PortRule as port_rule;
 ghost use Rattle.ll_calling.specs.PolicyLines as lines;
 ghost use Rattle.ll_calling.specs.Seen.{rule_seen};
 
-use crate::access::{access_of, port_access_of};
+use crate::access::access_of;
 use crate::lists::Listed;
-use ll_fitting::{FileAccess, Parent, PathRule, PortRule};
+use ll_fitting::{Access, Parent, PathRule, PortRule};
 use ll_lines::Cause;
 use ll_rights::{Fs, Kind};
 use ll_values::{number_of, text_in_list, text_of};
@@ -72,11 +72,11 @@ fn included_of(value: &Value) -> Result<bool, Cause>
 
 /// What a rule allows.
 #[tactic(auto, unfolding(crate::specs::PolicyLines::allowed_by))]
-fn allowed_by(included: bool, access: FileAccess) -> FileAccess
+fn allowed_by(included: bool, access: Access<Fs>) -> Access<Fs>
     ensures { result ≡ lines.allowed_by included access }
 {
     if included {
-        return FileAccess {
+        return Access {
             named: Fs::NONE,
             grouped: access.named.union(access.grouped),
         };
@@ -118,7 +118,7 @@ impl Listed for PortRule {
 
     #[tactic(auto, unfolding(crate::specs::PolicyLines::port_rule_in))]
     fn read(_alloc: Global, value: &Value) -> Result<PortRule, Cause> {
-        let allowed = port_access_of(value, "allowed_access")?;
+        let allowed = access_of(value, "allowed_access")?;
         let port = number_of(value, "port")?;
         Ok(PortRule { allowed, port })
     }

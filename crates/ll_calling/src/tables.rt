@@ -3,13 +3,13 @@
 ghost use Rattle.std.specs.Prelude.{◌≡◌, ◌++◌, IfOk, OnOk, flat_map};
 ghost use Rattle.ll_calling.specs.Texts as texts;
 
-use crate::groups::{group_named, group_on_ports};
+use crate::groups::Grouped;
 use crate::objects::{Member, Shown, object_line};
 use ll_rights::{Abi, Fs, Net};
 use std::alloc::{AllocError, Global};
 
 /// What a version knows.
-#[tactic(auto, using(crate::proofs::Names::names_same, crate::proofs::Names::port_names_same))]
+#[tactic(auto, using(crate::proofs::Names::names_same))]
 fn abi_line(alloc: Global, abi: Abi) -> Result<Vec<u8>, AllocError>
     ensures { IfOk result (λ line. line.items ≡ texts.abi_line abi) }
 {
@@ -42,11 +42,11 @@ fn group_line(alloc: Global, name: &str) -> Result<Vec<u8>, AllocError>
         },
         Member {
             name: "fs",
-            value: Shown::Files(group_named(name).unwrap_or(Fs::NONE)),
+            value: Shown::Files(Fs::group(name).unwrap_or(Fs::NONE)),
         },
         Member {
             name: "net",
-            value: Shown::Network(group_on_ports(name).unwrap_or(Net::NONE)),
+            value: Shown::Network(Net::group(name).unwrap_or(Net::NONE)),
         },
     ];
     object_line(alloc, &members)

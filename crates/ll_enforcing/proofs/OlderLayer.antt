@@ -33,10 +33,11 @@ use Rattle.ll_fitting.specs.declared.written.PortRule.{PortRule}
 use Rattle.ll_fitting.specs.declared.written.Parent.{Parent}
 use Rattle.ll_fitting.specs.declared.fitting.FittedPathRule.{FittedPathRule}
 use Rattle.ll_fitting.specs.declared.fitting.FittedPortRule.{FittedPortRule}
+use Rattle.ll_rights.specs.Families.{for_files, for_network, common}
 use Rattle.ll_fitting.specs.Written as policies
-use Rattle.ll_fitting.specs.Written.{listed, listed_on_ports, common_on_ports}
-use Rattle.ll_fitting.specs.Fitting.{rights_at, rights_on, rights_on_port, fitted_path_rule, fitted_port_rule, fitted_path_rules, fitted_port_rules}
-use Rattle.ll_fitting.specs.Fitting.{handled_files, handled_network, fitted_layer}
+use Rattle.ll_fitting.specs.Written.{listed}
+use Rattle.ll_fitting.specs.Fitting.{left_of, rights_at, rights_on, rights_on_port, fitted_path_rule, fitted_port_rule, fitted_path_rules, fitted_port_rules}
+use Rattle.ll_fitting.specs.Fitting.{handled_at, handled_files, handled_network, fitted_layer}
 use Rattle.ll_fitting.specs.Taken.{is_refused, granted_by, rules_of}
 use Rattle.ll_fitting.proofs.Left.{on_within, port_valid, AreFit, IsAskedOnPort, created}
 use Rattle.ll_enforcing.specs.declared.calls.Call.{Call}
@@ -60,7 +61,7 @@ listed_of tree false index parent rights all some =
     All-head (λ (rule : FittedPathRule). IsListed tree rule.parent) (record { rule = index; parent = parent; rights = rights }) [] all
 
 asked_of : (tree : List Entry) (abi : Abi) (missing : List ℕ) (rs : ℕ) (layer : policies.Layer)
-    (known : network.has (listed_on_ports layer.handled_network) network.other ≡ false) (b : Bool) (index port : ℕ) (rights : Net)
+    (known : network.has (listed for_network layer.handled_network) network.other ≡ false) (b : Bool) (index port : ℕ) (rights : Net)
     → All (IsAskedOnPort abi layer known) (if b then [] else record { rule = index; port = port; rights = rights } ∷ []) → b ≡ false
     → IsAskedOfPort tree abi missing rs (handled_network abi layer) (record { rule = index; port = port; rights = rights })
 asked_of tree abi missing rs layer known true index port rights all some = absurd (true≢false some)
@@ -79,7 +80,7 @@ ports_network layer (rule ∷ others) = ports_network _ others
 module _ (tree : List Entry) (older newer : Abi) (le : number_of older ≤ number_of newer) (missing : List ℕ) (rs : ℕ) (layer : policies.Layer) where
   -- ---- all rules for files
 
-  same_rule : (known : files.has (listed layer.handled_files) files.other ≡ false)
+  same_rule : (known : files.has (listed for_files layer.handled_files) files.other ≡ false)
       (own : Layer) (numbered : ℕ × PathRule) → own.handled_files ≡ handled_files older layer →
       All (λ (rule : FittedPathRule). IsListed tree rule.parent) (fitted_path_rule newer layer numbered)
       → IsSame tree older missing rs own numbered.1.parent (rights_on newer layer numbered.1) (rights_on older layer numbered.1)
@@ -94,7 +95,7 @@ module _ (tree : List Entry) (older newer : Abi) (le : number_of older ≤ numbe
             ∙ on_within older layer known rule rule.parent;
       }
 
-  goes_paths : (known : files.has (listed layer.handled_files) files.other ≡ false)
+  goes_paths : (known : files.has (listed for_files layer.handled_files) files.other ≡ false)
       (before : List Layer) (own : Layer) (s : State) (xs : List (ℕ × PathRule)) → IsTree tree → IsNoObject (place tree missing) →
       s.held rs ≡ Some (length before) → own.handled_files ≡ handled_files older layer →
       All (λ (rule : FittedPathRule). IsListed tree rule.parent) (flat_map (fitted_path_rule newer layer) xs)
@@ -129,15 +130,15 @@ module _ (tree : List Entry) (older newer : Abi) (le : number_of older ≤ numbe
 
   -- ---- all rules for ports
 
-  goes_port : (known : network.has (listed_on_ports layer.handled_network) network.other ≡ false)
+  goes_port : (known : network.has (listed for_network layer.handled_network) network.other ≡ false)
       (before : List Layer) (own : Layer) (s : State) (numbered : ℕ × PortRule) → s.held rs ≡ Some (length before) →
       own.handled_network ≡ handled_network older layer → AreFit older layer known numbered
       → Goes tree older false (before ++ own ∷ []) s (map (best_port tree older missing rs) (fitted_port_rule newer layer numbered))
       (before ++ with_ports own (fitted_port_rule older layer numbered) ∷ []) s
-  unfolding fitted_port_rule rights_on_port
+  unfolding fitted_port_rule rights_on_port left_of
   goes_port known before own s numbered held handles fits =
       let rule : PortRule = numbered.1 in
-      let both : Net = common_on_ports (listed_on_ports rule.allowed) (listed_on_ports layer.handled_network) in
+      let both : Net = common for_network (listed for_network rule.allowed) (listed for_network layer.handled_network) in
       let same : supported_net older (supported_net newer both) ≡ supported_net older both = net_supported-older older newer both le in
       goes_port_by tree older missing rs _ _ before own s numbered.0 rule.port (supported_net newer both) (supported_net older both) held same
       (λ some. subst (λ (handled : Net). IsAskedOfPort tree older missing rs handled
@@ -146,7 +147,7 @@ module _ (tree : List Entry) (older newer : Abi) (le : number_of older ≤ numbe
       (port_valid older layer known numbered fits) some))
       refl refl (λ empty. ap network.is_empty (sym same) ∙ net_supported_nothing older (supported_net newer both) empty)
 
-  goes_ports : (known : network.has (listed_on_ports layer.handled_network) network.other ≡ false)
+  goes_ports : (known : network.has (listed for_network layer.handled_network) network.other ≡ false)
       (before : List Layer) (own : Layer) (s : State) (xs : List (ℕ × PortRule)) → s.held rs ≡ Some (length before) →
       own.handled_network ≡ handled_network older layer → All (AreFit older layer known) xs
       → Goes tree older false (before ++ own ∷ []) s (map (best_port tree older missing rs) (flat_map (fitted_port_rule newer layer) xs))
@@ -188,12 +189,12 @@ module _ (tree : List Entry) (older newer : Abi) (le : number_of older ≤ numbe
   both_parts false b is = absurd (cc)
 
   files_left : supported_fs older (handled_files newer layer) ≡ handled_files older layer
-  unfolding handled_files
-  files_left = fs_supported-older older newer (listed layer.handled_files) le
+  unfolding handled_at
+  files_left = fs_supported-older older newer (listed for_files layer.handled_files) le
 
   network_left : supported_net older (handled_network newer layer) ≡ handled_network older layer
-  unfolding handled_network
-  network_left = net_supported-older older newer (listed_on_ports layer.handled_network) le
+  unfolding handled_at
+  network_left = net_supported-older older newer (listed for_network layer.handled_network) le
 
   empty_op : (files.is_empty (handled_files older layer) && network.is_empty (handled_network older layer)) ≡ true
       → (files.is_empty (handled_files newer layer) && network.is_empty (handled_network newer layer)) ≡ false → best_create ≡ CreateEmpty rs
@@ -224,8 +225,8 @@ module _ (tree : List Entry) (older newer : Abi) (le : number_of older ≤ numbe
       goes_one tree older r _ s _ (CreateEmpty rs) Allowed
       (leads_allowed tree older r _ s _ (CreateEmpty rs) (ap (λ (held : Option ℕ). if_free held Allowed) free) refl refl)
 
-  goes_create : (none : Bool) (r : List Layer) (s : State) → s.held rs ≡ None → files.has (listed layer.handled_files) files.other ≡ false →
-      network.has (listed_on_ports layer.handled_network) network.other ≡ false →
+  goes_create : (none : Bool) (r : List Layer) (s : State) → s.held rs ≡ None → files.has (listed for_files layer.handled_files) files.other ≡ false →
+      network.has (listed for_network layer.handled_network) network.other ≡ false →
       (files.is_empty (handled_files newer layer) && network.is_empty (handled_network newer layer)) ≡ false →
       (files.is_empty (handled_files older layer) && network.is_empty (handled_network older layer)) ≡ none
       → Goes tree older false r s (best_create ∷ []) (r ++ without_rules (handled_files older layer) (handled_network older layer) ∷ [])
@@ -252,8 +253,8 @@ module _ (tree : List Entry) (older newer : Abi) (le : number_of older ≤ numbe
   abbrev pub best : Call → Op
   best call = at_best_effort older (operation_of tree missing rs call)
 
-  pub goes_layer : (r : List Layer) (s : State) (index : ℕ) → (known : files.has (listed layer.handled_files) files.other ≡ false) →
-      (known_on_ports : network.has (listed_on_ports layer.handled_network) network.other ≡ false) →
+  pub goes_layer : (r : List Layer) (s : State) (index : ℕ) → (known : files.has (listed for_files layer.handled_files) files.other ≡ false) →
+      (known_on_ports : network.has (listed for_network layer.handled_network) network.other ≡ false) →
       All (AreFit older layer known_on_ports) (enumerate_from 0 layer.port_rules) → IsTree tree → IsNoObject (place tree missing) →
       All (λ (rule : FittedPathRule). IsListed tree rule.parent) (fitted_path_rules newer layer) →
       (files.is_empty (handled_files newer layer) && network.is_empty (handled_network newer layer)) ≡ false →

@@ -33,11 +33,12 @@ use Rattle.ll_fitting.specs.declared.fitting.FittedPathRule.{FittedPathRule}
 use Rattle.ll_fitting.specs.declared.policy.TheConstants.{MOST_LAYERS as MOST_OF_POLICY}
 use Rattle.ll_fitting.specs.declared.policy.Misfit.{Misfit}
 use Rattle.ll_fitting.specs.declared.policy.Misfit.TheVariants as wrong
+use Rattle.ll_rights.specs.Families.{for_files, for_network}
 use Rattle.ll_fitting.specs.Written as policies
-use Rattle.ll_fitting.specs.Written.{listed, listed_on_ports}
+use Rattle.ll_fitting.specs.Written.{listed}
 use Rattle.ll_fitting.specs.Misfits as misfits
 use Rattle.ll_fitting.specs.Fitting.{Fitted, fitted, fitted_if_any, fitted_layer, fitted_path_rules, fitted_path_rule, rights_on, rights_at, handled_files}
-use Rattle.ll_fitting.specs.Fitting.{handled_network}
+use Rattle.ll_fitting.specs.Fitting.{handled_at, handled_network}
 use Rattle.ll_fitting.specs.Taken.{is_refused, rules_of, layers_of, first_refused}
 use Rattle.ll_fitting.proofs.Left.{all_if, all_flat, none_or, none_told, told_none, fits_if, fits_in, named_alone, on_within, false_and, AreFit}
 use Rattle.ll_enforcing.specs.declared.calls.Call.{Call}
@@ -56,14 +57,15 @@ use Rattle.ll_enforcing.proofs.OlderLayer.{goes_layer}
 abbrev Unrefused : FittedPathRule → Type 0
 Unrefused rule = is_refused rule ≡ false
 
-none_left : (P : FittedPathRule → Type 0) (abi : Abi) (layer : policies.Layer) → files.has (listed layer.handled_files) files.other ≡ false →
+none_left : (P : FittedPathRule → Type 0) (abi : Abi) (layer : policies.Layer) → files.has (listed for_files layer.handled_files) files.other ≡ false →
     files.is_empty (handled_files abi layer) ≡ true → All P (fitted_path_rules abi layer)
-unfolding fitted_path_rules fitted_path_rule rights_on handled_files
+unfolding fitted_path_rules fitted_path_rule rights_on handled_at
 none_left P abi layer known empty =
     all_flat (λ numbered. Unit {0}) P (fitted_path_rule abi layer)
     (λ numbered there. all_if P (files.is_empty (rights_at abi layer numbered.1 numbered.1.parent)) _
-    (λ some. absurd (true≢false (sym (within_nothing (rights_at abi layer numbered.1 numbered.1.parent) (supported_fs abi (listed layer.handled_files))
-    (fs_has-supported abi (listed layer.handled_files) files.other ∙ false_and (files.has (listed layer.handled_files) files.other) _ known)
+    (λ some. absurd (true≢false (sym (within_nothing (rights_at abi layer numbered.1 numbered.1.parent)
+    (supported_fs abi (listed for_files layer.handled_files))
+    (fs_has-supported abi (listed for_files layer.handled_files) files.other ∙ false_and (files.has (listed for_files layer.handled_files) files.other) _ known)
     (on_within abi layer known numbered.1 numbered.1.parent) empty) ∙ some))))
     (enumerate_from 0 layer.path_rules) (λ k d less. tt)
 
@@ -111,8 +113,8 @@ module _ (tree : List Entry) (older newer : Abi) (le : number_of older ≤ numbe
       let layer : policies.Layer = numbered.1 in
       let own : Layer = in_tree tree (rules_of (fitted_layer older index layer)) in
       let parts = fits_if (misfits.knows_all layer) (misfits.handles_nothing layer) (wrong.UnknownRight index) (wrong.HandlesNothing index) _ fit in
-      let names = named_alone (files.has (listed layer.handled_files) files.other)
-      (network.has (listed_on_ports layer.handled_network) network.other) parts.0 in
+      let names = named_alone (files.has (listed for_files layer.handled_files) files.other)
+      (network.has (listed for_network layer.handled_network) network.other) parts.0 in
       let tell : ℕ × Rattle.ll_fitting.specs.declared.written.PortRule.PortRule → Option Misfit =
       λ one. option_map (λ misfit. wrong.PortRule index one.0 misfit) (misfits.port_rule_misfit layer one.1) in
       let rules = none_or (misfits.misfit_on_paths index layer) (misfits.misfit_on_ports index layer) parts.1 in
@@ -221,14 +223,15 @@ module _ (tree : List Entry) (older newer : Abi) (le : number_of older ≤ numbe
   filter_one false false left older_too is = rw is refl
 
   nothing_older : (layer : policies.Layer) → is_nothing newer layer ≡ true → is_nothing older layer ≡ true
-  unfolding handled_files handled_network
+  unfolding handled_at
   nothing_older layer none =
       let parts = both_parts _ _ none in
-      both (files.is_empty (supported_fs older (listed layer.handled_files))) (network.is_empty (supported_net older (listed_on_ports layer.handled_network)))
-      (ap files.is_empty (sym (fs_supported-older older newer (listed layer.handled_files) le))
-      ∙ supported_nothing older (supported_fs newer (listed layer.handled_files)) parts.0)
-      (ap network.is_empty (sym (net_supported-older older newer (listed_on_ports layer.handled_network) le))
-      ∙ net_supported_nothing older (supported_net newer (listed_on_ports layer.handled_network)) parts.1)
+      both (files.is_empty (supported_fs older (listed for_files layer.handled_files)))
+      (network.is_empty (supported_net older (listed for_network layer.handled_network)))
+      (ap files.is_empty (sym (fs_supported-older older newer (listed for_files layer.handled_files) le))
+      ∙ supported_nothing older (supported_fs newer (listed for_files layer.handled_files)) parts.0)
+      (ap network.is_empty (sym (net_supported-older older newer (listed for_network layer.handled_network) le))
+      ∙ net_supported_nothing older (supported_net newer (listed for_network layer.handled_network)) parts.1)
     where
       both_parts : (a b : Bool) → (a && b) ≡ true → (a ≡ true) × (b ≡ true)
       both_parts true b is = (refl, is)
@@ -260,7 +263,7 @@ module _ (tree : List Entry) (older newer : Abi) (le : number_of older ≤ numbe
   -- ---- whether some is refused
 
   -- a layer of which the older version knows nothing has no rule there
-  refused_one : (none_newer none : Bool) (index : ℕ) (layer : policies.Layer) → files.has (listed layer.handled_files) files.other ≡ false →
+  refused_one : (none_newer none : Bool) (index : ℕ) (layer : policies.Layer) → files.has (listed for_files layer.handled_files) files.other ≡ false →
       (none_newer ≡ true → none ≡ true) → is_nothing older layer ≡ none
       → list_any refuses_in (if none_newer then [] else fitted_layer older index layer ∷ [])
       ≡ list_any refuses_in (if none then [] else fitted_layer older index layer ∷ [])
@@ -280,8 +283,8 @@ module _ (tree : List Entry) (older newer : Abi) (le : number_of older ≤ numbe
   refused_head numbered fit =
       let layer : policies.Layer = numbered.1 in
       let parts = fits_if (misfits.knows_all layer) (misfits.handles_nothing layer) (wrong.UnknownRight numbered.0) (wrong.HandlesNothing numbered.0) _ fit in
-      let names = named_alone (files.has (listed layer.handled_files) files.other)
-      (network.has (listed_on_ports layer.handled_network) network.other) parts.0 in
+      let names = named_alone (files.has (listed for_files layer.handled_files) files.other)
+      (network.has (listed for_network layer.handled_network) network.other) parts.0 in
       refused_one (is_nothing newer layer) (is_nothing older layer) numbered.0 layer names.0 (nothing_older layer) refl
 
   refused_all : (xs : List (ℕ × policies.Layer)) → All Fit xs → list_any refuses_in (kept xs) ≡ list_any refuses_in (flat_map (fitted_if_any older) xs)

@@ -16,7 +16,8 @@ use Rattle.ll_rights.proofs.Supported.{fs_has-supported, net_has-supported, fs_s
 use Rattle.ll_fitting.specs.declared.written.PathRule.{PathRule}
 use Rattle.ll_fitting.specs.declared.written.Parent.{Parent}
 use Rattle.ll_fitting.specs.declared.written.Parent.TheVariants.{There, Missing}
-use Rattle.ll_fitting.specs.Written.{Layer, listed, common}
+use Rattle.ll_rights.specs.Families.{for_files, common}
+use Rattle.ll_fitting.specs.Written.{Layer, listed}
 use Rattle.ll_fitting.specs.Fitting.{left_of, rights_on_kind, rights_at}
 use Rattle.ll_fitting.proofs.Left.{false_and}
 
@@ -54,10 +55,10 @@ nothing_supported abi =
 pub older_rights : (older newer : Abi) → number_of older ≤ number_of newer → (layer : Layer) (rule : PathRule) (parent : Parent)
     → supported_fs older (rights_at newer layer rule parent) ≡ rights_at older layer rule parent
 unfolding rights_on_kind left_of
-older_rights older newer le layer rule (There object kind) = fs_supported-older older newer (common _ (listed layer.handled_files)) le
+older_rights older newer le layer rule (There object kind) = fs_supported-older older newer (common for_files _ (listed for_files layer.handled_files)) le
 older_rights older newer le layer rule Missing = elim (cases_Bool rule.included) [
   | inl is ↦ rw is (nothing_supported older)
-  | inr is ↦ rw is (fs_supported-older older newer (common (listed rule.allowed) (listed layer.handled_files)) le)
+  | inr is ↦ rw is (fs_supported-older older newer (common for_files (listed for_files rule.allowed) (listed for_files layer.handled_files)) le)
 ]
 
 -- nothing is within nothing but nothing

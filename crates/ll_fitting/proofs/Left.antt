@@ -1,6 +1,6 @@
 -- What a version leaves of a policy, the kernel takes.
 use Rattle.std.proofs.Common.{◌≡◌, ℕ, Bool, true, false, not, ◌&&◌, ◌||◌, List, [], ◌∷◌, length, Option, Some, None, refl, sym, ap, ◌∙◌, arith}
-use Rattle.std.proofs.Common.{if◌then◌else◌, nat_lt, All, inl, inr, ◌⊎◌}
+use Rattle.std.proofs.Common.{if◌then◌else◌, nat_lt, All, inl, inr}
 use Rattle.std.specs.Prelude.{option_map, ◌==◌}
 use Rattle.std.specs.List.{flat_map, enumerate_from}
 use Rattle.std.specs.Option.{option_or}
@@ -10,12 +10,13 @@ use Rattle.ll_rights.specs.declared.abi.Abi.{Abi}
 use Rattle.ll_rights.specs.declared.fs.Fs.{Fs}
 use Rattle.ll_rights.specs.declared.net.Net.{Net}
 use Rattle.ll_rights.specs.declared.net.TheConstants.{LARGEST_PORT}
-use Rattle.ll_rights.specs.Abis.{knows_fs, knows_net}
+use Rattle.ll_rights.specs.Abis.{knows_net}
+use Rattle.ll_rights.specs.Families.{for_files, for_network, common}
 use Rattle.ll_rights.specs.Supported.{supported_fs, supported_net}
 use Rattle.ll_rights.specs.Rights as files
 use Rattle.ll_rights.specs.NetRights as network
-use Rattle.ll_rights.proofs.Supported.{fs_has-supported, net_has-supported}
-use Rattle.ll_rights.proofs.Bitwise.{known_below, has_bit-and, zero_bit, all_each, any_none}
+use Rattle.ll_rights.proofs.Supported.{net_has-supported}
+use Rattle.ll_rights.proofs.Bitwise.{zero_bit, any_none}
 use Rattle.ll_rules.specs.Rulesets.{create_fault, has_ports, knows_all}
 use Rattle.ll_rules.specs.declared.errno.Errno.TheVariants.{Inval, NoMsg, TooBig}
 use Rattle.ll_fitting.specs.declared.written.PathRule.{PathRule}
@@ -25,98 +26,22 @@ use Rattle.ll_fitting.specs.declared.written.Parent.TheVariants.{There, Missing}
 use Rattle.ll_fitting.specs.declared.fitting.FittedPathRule.{FittedPathRule}
 use Rattle.ll_fitting.specs.declared.fitting.FittedPortRule.{FittedPortRule}
 use Rattle.ll_fitting.specs.declared.policy.TheConstants.{MOST_LAYERS}
+use Rattle.ll_fitting.specs.declared.policy.RuleMisfit.{RuleMisfit}
 use Rattle.ll_fitting.specs.declared.policy.RuleMisfit.TheVariants as misfit
 use Rattle.ll_fitting.specs.declared.policy.Misfit.{Misfit}
 use Rattle.ll_fitting.specs.declared.policy.Misfit.TheVariants as wrong
-use Rattle.ll_fitting.specs.Written.{Layer, listed, listed_on_ports, common, common_on_ports}
+use Rattle.ll_fitting.specs.Written.{Layer, listed}
 use Rattle.ll_fitting.specs.Fitting.{left_of, rights_on_kind, rights_at, rights_on, rights_on_port, fitted_path_rule, fitted_port_rule, fitted_path_rules}
-use Rattle.ll_fitting.specs.Fitting.{fitted_port_rules, handled_files, handled_network, fitted_if_any, fitted}
+use Rattle.ll_fitting.specs.Fitting.{fitted_port_rules, handled_at, handled_files, handled_network, fitted_if_any, fitted}
 use Rattle.ll_fitting.specs.Misfits as misfits
 use Rattle.ll_fitting.specs.Taken.{IsValid}
-
--- ---- rights of sets
-
--- an intersection with known rights has what both have
-pub has_common : (a b : Fs) (right : files.FsRight) → files.has b files.other ≡ false → files.has (common a b) right ≡ (files.has a right && files.has b right)
-unfolding files.has
-has_common a b right known = has_bit-and (files.bit_of files.other) a.0 b.0 (files.bit_of right) (known_below (files.bit_of files.other) b.0 known)
-
-pub has_common_on_ports : (a b : Net) (right : network.NetRight) → network.has b network.other ≡ false
-    → network.has (common_on_ports a b) right ≡ (network.has a right && network.has b right)
-unfolding network.has
-has_common_on_ports a b right known =
-    has_bit-and (network.bit_of network.other) a.0 b.0 (network.bit_of right) (known_below (network.bit_of network.other) b.0 known)
-
-kept_within : (a b k : Bool) → (not ((a && b) && k) || (b && k)) ≡ true
-kept_within true true true = refl
-kept_within true true false = refl
-kept_within true false k = refl
-kept_within false true true = refl
-kept_within false true false = refl
-kept_within false false k = refl
-
-within : (abi : Abi) (a b : Fs) → files.has b files.other ≡ false → files.is_within (supported_fs abi (common a b)) (supported_fs abi b) ≡ true
-unfolding files.every_right
-within abi a b known =
-    all_each (λ right. not (files.has (supported_fs abi (common a b)) right) || files.has (supported_fs abi b) right)
-    (λ right. rw (fs_has-supported abi (common a b) right, fs_has-supported abi b right, has_common a b right known)
-    (kept_within (files.has a right) (files.has b right) (knows_fs abi right || files.is_right right files.other))) files.all_rights
-
-within_on_ports : (abi : Abi) (a b : Net) → network.has b network.other ≡ false
-    → network.is_within (supported_net abi (common_on_ports a b)) (supported_net abi b) ≡ true
-unfolding network.every_right
-within_on_ports abi a b known =
-    all_each (λ right. not (network.has (supported_net abi (common_on_ports a b)) right) || network.has (supported_net abi b) right)
-    (λ right. rw (net_has-supported abi (common_on_ports a b) right, net_has-supported abi b right, has_common_on_ports a b right known)
-    (kept_within (network.has a right) (network.has b right) (knows_net abi right || network.is_right right network.other))) network.all_rights
+use Rattle.ll_fitting.proofs.Families.{file_sets, port_sets, within, knows_supported}
 
 pub nothing_within : (whole : Fs) → files.is_within files.no_right whole ≡ true
-unfolding files.every_right files.has
+unfolding files.has
 nothing_within whole =
-    all_each (λ right. not (files.has files.no_right right) || files.has whole right)
-    (λ right. rw (zero_bit (files.bit_of files.other) (files.bit_of right)) refl) files.all_rights
-
--- a right with a name is supported only where the version knows it
-known_or : (has knows is_other : Bool) → is_other ≡ false → (not (has && (knows || is_other)) || knows) ≡ true
-known_or true true other is = refl
-known_or false true other is = refl
-known_or true false false is = refl
-known_or false false other is = refl
-known_or true false true is = absurd (cc)
-
-not_there : (has knows known : Bool) → has ≡ false → (not (has && knows) || known) ≡ true
-not_there false knows known is = refl
-not_there true knows known is = absurd (cc)
-
-pub other_or_not : (right : files.FsRight) → (right ≡ files.other) ⊎ (files.is_right right files.other ≡ false)
-other_or_not files.other = inl refl
-other_or_not right = inr refl
-
-pub other_or_not_on_ports : (right : network.NetRight) → (right ≡ network.other) ⊎ (network.is_right right network.other ≡ false)
-other_or_not_on_ports network.other = inl refl
-other_or_not_on_ports right = inr refl
-
-knows_supported : (abi : Abi) (set : Fs) → files.has set files.other ≡ false
-    → files.every_right (λ right. not (files.has (supported_fs abi set) right) || knows_fs abi right) ≡ true
-unfolding files.every_right
-knows_supported abi set known =
-    all_each (λ right. not (files.has (supported_fs abi set) right) || knows_fs abi right)
-    (λ right. rw (fs_has-supported abi set right) (elim (other_or_not right) [
-      | inl is ↦ not_there (files.has set right) (knows_fs abi right || files.is_right right files.other) (knows_fs abi right)
-          (ap (λ (r : files.FsRight). files.has set r) is ∙ known)
-      | inr is ↦ known_or (files.has set right) (knows_fs abi right) (files.is_right right files.other) is
-    ])) files.all_rights
-
-knows_supported_on_ports : (abi : Abi) (set : Net) → network.has set network.other ≡ false
-    → network.every_right (λ right. not (network.has (supported_net abi set) right) || knows_net abi right) ≡ true
-unfolding network.every_right
-knows_supported_on_ports abi set known =
-    all_each (λ right. not (network.has (supported_net abi set) right) || knows_net abi right)
-    (λ right. rw (net_has-supported abi set right) (elim (other_or_not_on_ports right) [
-      | inl is ↦ not_there (network.has set right) (knows_net abi right || network.is_right right network.other) (knows_net abi right)
-          (ap (λ (r : network.NetRight). network.has set r) is ∙ known)
-      | inr is ↦ known_or (network.has set right) (knows_net abi right) (network.is_right right network.other) is
-    ])) network.all_rights
+    file_sets.every (λ right. not (files.has files.no_right right) || files.has whole right)
+    (λ right. rw (zero_bit (files.bit_of files.other) (files.bit_of right)) refl)
 
 -- ---- versions without rules for ports
 
@@ -171,18 +96,18 @@ both : (a b : Bool) → a ≡ true → b ≡ true → (a && b) ≡ true
 both true b is other = other
 both false b is other = absurd (cc)
 
-pub created : (abi : Abi) (layer : Layer) → files.has (listed layer.handled_files) files.other ≡ false →
-    network.has (listed_on_ports layer.handled_network) network.other ≡ false →
+pub created : (abi : Abi) (layer : Layer) → files.has (listed for_files layer.handled_files) files.other ≡ false →
+    network.has (listed for_network layer.handled_network) network.other ≡ false →
     (files.is_empty (handled_files abi layer) && network.is_empty (handled_network abi layer)) ≡ false
     → create_fault abi (handled_files abi layer) (handled_network abi layer) ≡ None
-unfolding handled_files handled_network
+unfolding handled_at
 created abi layer known known_on_ports some =
-    let on_files : Fs = supported_fs abi (listed layer.handled_files) in
-    let on_ports : Net = supported_net abi (listed_on_ports layer.handled_network) in
+    let on_files : Fs = supported_fs abi (listed for_files layer.handled_files) in
+    let on_ports : Net = supported_net abi (listed for_network layer.handled_network) in
     faultless (not (network.is_empty on_ports) && not (has_ports abi)) (knows_all abi on_files on_ports) (files.is_empty on_files && network.is_empty on_ports)
-    (longer (network.is_empty on_ports) (has_ports abi) (ports_there abi (listed_on_ports layer.handled_network) known_on_ports))
-    (both _ _ (knows_supported abi (listed layer.handled_files) known)
-    (knows_supported_on_ports abi (listed_on_ports layer.handled_network) known_on_ports)) some
+    (longer (network.is_empty on_ports) (has_ports abi) (ports_there abi (listed for_network layer.handled_network) known_on_ports))
+    (both _ _ (knows_supported file_sets abi (listed for_files layer.handled_files) known)
+    (knows_supported port_sets abi (listed for_network layer.handled_network) known_on_ports)) some
 
 -- ---- lists
 
@@ -212,13 +137,13 @@ none_told tell (x ∷ xs) is =
 
 -- ---- rules for files
 
-module _ (abi : Abi) (layer : Layer) (known : files.has (listed layer.handled_files) files.other ≡ false) where
+module _ (abi : Abi) (layer : Layer) (known : files.has (listed for_files layer.handled_files) files.other ≡ false) where
   abbrev pub IsHandled : Fs → Type 0
   IsHandled rights = files.is_within rights (handled_files abi layer) ≡ true
 
-  pub left_within : (rights : Fs) → IsHandled (left_of abi layer rights)
-  unfolding left_of handled_files
-  left_within rights = within abi rights (listed layer.handled_files) known
+  pub left_within : (rights : Fs) → IsHandled (left_of for_files abi layer.handled_files rights)
+  unfolding left_of handled_at
+  left_within rights = within file_sets abi rights (listed for_files layer.handled_files) known
 
   either : (b : Bool) (x y : Fs) → IsHandled x → IsHandled y → IsHandled (if b then x else y)
   either true x y first second = first
@@ -227,7 +152,7 @@ module _ (abi : Abi) (layer : Layer) (known : files.has (listed layer.handled_fi
   pub on_within : (rule : PathRule) (parent : Parent) → IsHandled (rights_at abi layer rule parent)
   unfolding rights_on_kind
   on_within rule (There object kind) = left_within _
-  on_within rule Missing = either rule.included _ _ (nothing_within (handled_files abi layer)) (left_within (listed rule.allowed))
+  on_within rule Missing = either rule.included _ _ (nothing_within (handled_files abi layer)) (left_within (listed for_files rule.allowed))
 
   abbrev IsAsked : FittedPathRule → Type 0
   IsAsked rule = (files.is_empty rule.rights ≡ false) × (files.is_within rule.rights (handled_files abi layer) ≡ true)
@@ -241,19 +166,16 @@ module _ (abi : Abi) (layer : Layer) (known : files.has (listed layer.handled_fi
 
 -- ---- rules for ports
 
-port_fits : (within nothing : Bool) (large : Bool)
-    → (if not within then Some misfit.NotHandled else (if nothing then Some misfit.GrantsNothing else (if large then Some misfit.NoPort else None))) ≡ None
-    → large ≡ false
-port_fits true false false is = refl
-port_fits true false true is = absurd (cc)
-port_fits true true large is = absurd (cc)
-port_fits false nothing large is = absurd (cc)
+port_fits : (rights : Option RuleMisfit) (large : Bool) → option_or rights (if large then Some misfit.NoPort else None) ≡ None → large ≡ false
+port_fits None false is = refl
+port_fits None true is = absurd (cc)
+port_fits (Some wrong) large is = absurd (cc)
 
 pub told_none : {X Y : Type 0} (f : X → Y) (told : Option X) → option_map f told ≡ None → told ≡ None
 told_none f None is = refl
 told_none f (Some x) is = absurd (cc)
 
-module _ (abi : Abi) (layer : Layer) (known : network.has (listed_on_ports layer.handled_network) network.other ≡ false) where
+module _ (abi : Abi) (layer : Layer) (known : network.has (listed for_network layer.handled_network) network.other ≡ false) where
   abbrev pub IsAskedOnPort : FittedPortRule → Type 0
   IsAskedOnPort rule =
       (has_ports abi ≡ true) × (network.is_empty rule.rights ≡ false) × (network.is_within rule.rights (handled_network abi layer) ≡ true)
@@ -263,20 +185,19 @@ module _ (abi : Abi) (layer : Layer) (known : network.has (listed_on_ports layer
   AreFit numbered = misfits.port_rule_misfit layer numbered.1 ≡ None
 
   pub port_valid : (numbered : ℕ × PortRule) → AreFit numbered → All IsAskedOnPort (fitted_port_rule abi layer numbered)
-  unfolding fitted_port_rule rights_on_port handled_network misfits.port_rule_misfit
+  unfolding fitted_port_rule rights_on_port left_of handled_at misfits.port_rule_misfit misfits.rule_misfit
   port_valid numbered fits =
       let rule : PortRule = numbered.1 in
-      let both_have : Net = common_on_ports (listed_on_ports rule.allowed) (listed_on_ports layer.handled_network) in
+      let both_have : Net = common for_network (listed for_network rule.allowed) (listed for_network layer.handled_network) in
       let unnamed : network.has both_have network.other ≡ false =
-      has_common_on_ports (listed_on_ports rule.allowed) (listed_on_ports layer.handled_network) network.other known
-      ∙ and_false (network.has (listed_on_ports rule.allowed) network.other) _ known in
+      port_sets.both (listed for_network rule.allowed) (listed for_network layer.handled_network) network.other known
+      ∙ and_false (network.has (listed for_network rule.allowed) network.other) _ known in
       all_if IsAskedOnPort (network.is_empty (supported_net abi both_have)) _
       (λ some. (
         ports_there abi both_have unnamed some,
         some,
-        within_on_ports abi (listed_on_ports rule.allowed) (listed_on_ports layer.handled_network) known,
-        port_fits (network.is_within rule.allowed.named (listed_on_ports layer.handled_network)) (network.is_empty both_have)
-            (nat_lt LARGEST_PORT rule.port) fits,
+        within port_sets abi (listed for_network rule.allowed) (listed for_network layer.handled_network) known,
+        port_fits (misfits.rule_misfit for_network layer.handled_network rule.allowed) (nat_lt LARGEST_PORT rule.port) fits,
       ))
 
   ports_valid : (index : ℕ) → misfits.misfit_on_ports index layer ≡ None → All IsAskedOnPort (fitted_port_rules abi layer)
@@ -306,7 +227,7 @@ unfolding misfits.layer_misfit fitted_if_any
 layer_valid abi numbered fits =
     let layer : Layer = numbered.1 in
     let parts = fits_if (misfits.knows_all layer) (misfits.handles_nothing layer) _ _ _ fits in
-    let names = named_alone (files.has (listed layer.handled_files) files.other) (network.has (listed_on_ports layer.handled_network) network.other) parts.0 in
+    let names = named_alone (misfits.has_other for_files layer.handled_files) (misfits.has_other for_network layer.handled_network) parts.0 in
     let rules = none_or (misfits.misfit_on_paths numbered.0 layer) (misfits.misfit_on_ports numbered.0 layer) parts.1 in
     all_if (IsValid abi) (files.is_empty (handled_files abi layer) && network.is_empty (handled_network abi layer)) _
     (λ some. record {

@@ -8,38 +8,39 @@ use Rattle.ll_rights.specs.declared.net.Net.{Net}
 use Rattle.ll_rights.specs.declared.kind.Kind.{Kind}
 use Rattle.ll_rights.specs.Rights as files
 use Rattle.ll_rights.specs.NetRights as network
-use Rattle.ll_rights.specs.Supported.{supported_fs, supported_net}
+use Rattle.ll_rights.specs.Families.{Family, for_files, for_network, common}
 use Rattle.ll_tree.specs.Trees.{is_dir}
+use Rattle.ll_fitting.specs.declared.written.Access.{Access}
 use Rattle.ll_fitting.specs.declared.written.PathRule.{PathRule}
 use Rattle.ll_fitting.specs.declared.written.PortRule.{PortRule}
 use Rattle.ll_fitting.specs.declared.written.Parent.{Parent}
 use Rattle.ll_fitting.specs.declared.written.Parent.TheVariants.{There, Missing}
 use Rattle.ll_fitting.specs.declared.fitting.FittedPathRule.{FittedPathRule}
 use Rattle.ll_fitting.specs.declared.fitting.FittedPortRule.{FittedPortRule}
-use Rattle.ll_fitting.specs.Written.{Layer, listed, listed_on_ports, listed_for_files, common, common_on_ports}
+use Rattle.ll_fitting.specs.Written.{Layer, listed, listed_for_files}
 
 -- ---- the rights of a rule
 
 -- of the rights that a rule lists, those that its layer handles and the version knows
-unfoldable pub left_of : Abi → Layer → Fs → Fs
-left_of abi layer rights = supported_fs abi (common rights (listed layer.handled_files))
+unfoldable pub left_of : {S R : Type 0} → Family S R → Abi → Access S → S → S
+left_of family abi handled rights = family.supported abi (common family rights (listed family handled))
 
 -- a rule has a right for files among those that its layer handles, whatever a version knows
 unfoldable pub is_for_files : Layer → PathRule → Bool
-is_for_files layer rule = not (files.is_empty (common (listed_for_files rule.allowed) (listed layer.handled_files)))
+is_for_files layer rule = not (files.is_empty (common for_files (listed_for_files rule.allowed) (listed for_files layer.handled_files)))
 
 -- What counts of a rule on what isn't a directory: of a group, what the object can have. Where a rule of the policy's own has no right for files, all of it counts, and the kernel refuses it.
 unfoldable pub counted_on_files : Layer → PathRule → Fs
-counted_on_files layer rule = if is_for_files layer rule || rule.included then listed_for_files rule.allowed else listed rule.allowed
+counted_on_files layer rule = if is_for_files layer rule || rule.included then listed_for_files rule.allowed else listed for_files rule.allowed
 
 -- what a rule asks for on an object of a kind
 unfoldable pub rights_on_kind : Abi → Layer → PathRule → Kind → Fs
-rights_on_kind abi layer rule kind = left_of abi layer (if is_dir kind then listed rule.allowed else counted_on_files layer rule)
+rights_on_kind abi layer rule kind = left_of for_files abi layer.handled_files (if is_dir kind then listed for_files rule.allowed else counted_on_files layer rule)
 
 -- a rule of an included group is left out where its object is missing
 abbrev pub rights_at : Abi → Layer → PathRule → Parent → Fs
 rights_at abi layer rule (There object kind) = rights_on_kind abi layer rule kind
-rights_at abi layer rule Missing = if rule.included then files.no_right else left_of abi layer (listed rule.allowed)
+rights_at abi layer rule Missing = if rule.included then files.no_right else left_of for_files abi layer.handled_files (listed for_files rule.allowed)
 
 -- what a rule asks for; a rule that asks for nothing is left out
 unfoldable pub rights_on : Abi → Layer → PathRule → Fs
@@ -47,7 +48,7 @@ rights_on abi layer rule = rights_at abi layer rule rule.parent
 
 -- what a rule asks for on its port
 unfoldable pub rights_on_port : Abi → Layer → PortRule → Net
-rights_on_port abi layer rule = supported_net abi (common_on_ports (listed_on_ports rule.allowed) (listed_on_ports layer.handled_network))
+rights_on_port abi layer rule = left_of for_network abi layer.handled_network (listed for_network rule.allowed)
 
 -- ---- the rules and layers that are left
 
@@ -71,11 +72,14 @@ unfoldable pub fitted_port_rules : Abi → Layer → List FittedPortRule
 fitted_port_rules abi layer = flat_map (fitted_port_rule abi layer) (enumerate_from 0 layer.port_rules)
 
 -- what a layer handles at a version
-unfoldable pub handled_files : Abi → Layer → Fs
-handled_files abi layer = supported_fs abi (listed layer.handled_files)
+unfoldable pub handled_at : {S R : Type 0} → Family S R → Abi → Access S → S
+handled_at family abi handled = family.supported abi (listed family handled)
 
-unfoldable pub handled_network : Abi → Layer → Net
-handled_network abi layer = supported_net abi (listed_on_ports layer.handled_network)
+abbrev pub handled_files : Abi → Layer → Fs
+handled_files abi layer = handled_at for_files abi layer.handled_files
+
+abbrev pub handled_network : Abi → Layer → Net
+handled_network abi layer = handled_at for_network abi layer.handled_network
 
 -- a layer as it is at a version: its index in the policy, what it handles, and its rules
 pub record Fitted : Type 0 where

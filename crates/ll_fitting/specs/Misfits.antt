@@ -4,8 +4,8 @@ use Rattle.std.specs.Prelude.{ℕ, Bool, not, ◌&&◌, ◌||◌, nat_lt, List, 
 use Rattle.std.specs.List.{enumerate_from}
 use Rattle.std.specs.Option.{option_or}
 use Rattle.ll_rights.specs.declared.net.TheConstants.{LARGEST_PORT}
-use Rattle.ll_rights.specs.Rights as files
-use Rattle.ll_rights.specs.NetRights as network
+use Rattle.ll_rights.specs.Families.{Family, for_files, for_network, common, is_empty, is_within}
+use Rattle.ll_fitting.specs.declared.written.Access.{Access}
 use Rattle.ll_fitting.specs.declared.written.PathRule.{PathRule}
 use Rattle.ll_fitting.specs.declared.written.PortRule.{PortRule}
 use Rattle.ll_fitting.specs.declared.written.Scopes.{Scopes}
@@ -14,34 +14,42 @@ use Rattle.ll_fitting.specs.declared.policy.RuleMisfit.{RuleMisfit}
 use Rattle.ll_fitting.specs.declared.policy.RuleMisfit.TheVariants.{NotHandled, GrantsNothing, NoPort}
 use Rattle.ll_fitting.specs.declared.policy.Misfit.{Misfit}
 use Rattle.ll_fitting.specs.declared.policy.Misfit.TheVariants as wrong
-use Rattle.ll_fitting.specs.Written.{Layer, listed, listed_on_ports, common, common_on_ports}
+use Rattle.ll_fitting.specs.Written.{Layer, listed}
 
 -- the first of some values of which something is told, and what is told of it
 unfoldable pub first_of : {X M : Type 0} → (X → Option M) → List X → Option M
 first_of tell [] = None
 first_of tell (x ∷ xs) = option_or (tell x) (first_of tell xs)
 
+-- a list has a right without a name
+abbrev pub has_other : {S R : Type 0} → Family S R → Access S → Bool
+has_other family access = family.has (listed family access) family.other
+
 -- all rights that a layer handles have a name
 abbrev pub knows_all : Layer → Bool
-knows_all layer = not (files.has (listed layer.handled_files) files.other) && not (network.has (listed_on_ports layer.handled_network) network.other)
+knows_all layer = not (has_other for_files layer.handled_files) && not (has_other for_network layer.handled_network)
 
 abbrev pub has_scope : Scopes → Bool
 has_scope scopes = scopes.abstract_unix_socket || scopes.signal
 
 abbrev pub handles_nothing : Layer → Bool
-handles_nothing layer = files.is_empty (listed layer.handled_files) && network.is_empty (listed_on_ports layer.handled_network) && not (has_scope layer.scopes)
+handles_nothing layer =
+    is_empty for_files (listed for_files layer.handled_files) && is_empty for_network (listed for_network layer.handled_network) && not (has_scope layer.scopes)
 
 -- a rule names only what its layer handles, and grants something of it
-unfoldable pub path_rule_misfit : Layer → PathRule → Option RuleMisfit
-path_rule_misfit layer rule =
-    if not (files.is_within rule.allowed.named (listed layer.handled_files)) then Some NotHandled
-    else (if files.is_empty (common (listed rule.allowed) (listed layer.handled_files)) then Some GrantsNothing else None)
+unfoldable pub rule_misfit : {S R : Type 0} → Family S R → Access S → Access S → Option RuleMisfit
+rule_misfit family handled allowed =
+    if not (is_within family allowed.named (listed family handled)) then Some NotHandled
+    else (if is_empty family (common family (listed family allowed) (listed family handled)) then Some GrantsNothing else None)
+
+abbrev pub path_rule_misfit : Layer → PathRule → Option RuleMisfit
+path_rule_misfit layer rule = rule_misfit for_files layer.handled_files rule.allowed
+
+abbrev pub port_misfit : ℕ → Option RuleMisfit
+port_misfit port = if nat_lt LARGEST_PORT port then Some NoPort else None
 
 unfoldable pub port_rule_misfit : Layer → PortRule → Option RuleMisfit
-port_rule_misfit layer rule =
-    if not (network.is_within rule.allowed.named (listed_on_ports layer.handled_network)) then Some NotHandled
-    else (if network.is_empty (common_on_ports (listed_on_ports rule.allowed) (listed_on_ports layer.handled_network)) then Some GrantsNothing
-    else (if nat_lt LARGEST_PORT rule.port then Some NoPort else None))
+port_rule_misfit layer rule = option_or (rule_misfit for_network layer.handled_network rule.allowed) (port_misfit rule.port)
 
 -- the same of a rule with its index
 abbrev pub told_of_path_rule : ℕ → Layer → ℕ × PathRule → Option Misfit

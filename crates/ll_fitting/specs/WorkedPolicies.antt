@@ -6,8 +6,9 @@ use Rattle.ll_rights.specs.Rights.{FsRight, execute, write_file, read_file, read
 use Rattle.ll_rights.specs.Rights.{make_block, make_sym, named_rights}
 use Rattle.ll_rights.specs.NetRights.{NetRight, connect_tcp}
 use Rattle.ll_rules.specs.WorkedRules.{these, these_on_ports}
-use Rattle.ll_fitting.specs.declared.written.FileAccess.{FileAccess}
-use Rattle.ll_fitting.specs.declared.written.PortAccess.{PortAccess}
+use Rattle.ll_rights.specs.declared.fs.Fs.{Fs}
+use Rattle.ll_rights.specs.declared.net.Net.{Net}
+use Rattle.ll_fitting.specs.declared.written.Access.{Access}
 use Rattle.ll_fitting.specs.declared.written.PathRule.{PathRule}
 use Rattle.ll_fitting.specs.declared.written.PortRule.{PortRule}
 use Rattle.ll_fitting.specs.declared.written.Scopes.{Scopes}
@@ -20,10 +21,10 @@ use Rattle.ll_fitting.specs.Fitting.{Fitted}
 
 -- ---- lists of rights
 
-abbrev pub lists : List FsRight → List FsRight → FileAccess
+abbrev pub lists : List FsRight → List FsRight → Access Fs
 lists named grouped = record { named = these named; grouped = these grouped }
 
-abbrev pub lists_on_ports : List NetRight → PortAccess
+abbrev pub lists_on_ports : List NetRight → Access Net
 lists_on_ports named = record { named = these_on_ports named; grouped = these_on_ports [] }
 
 -- the groups `read` and `execute`
@@ -32,16 +33,16 @@ reading = read_file ∷ read_dir ∷ execute ∷ []
 
 -- ---- rules and layers
 
-abbrev pub on : FileAccess → Parent → PathRule
+abbrev pub on : Access Fs → Parent → PathRule
 on allowed parent = record { allowed = allowed; parent = parent; included = false }
 
-abbrev pub of_group : FileAccess → Parent → PathRule
+abbrev pub of_group : Access Fs → Parent → PathRule
 of_group allowed parent = record { allowed = allowed; parent = parent; included = true }
 
 abbrev pub no_scopes : Scopes
 no_scopes = record { abstract_unix_socket = false; signal = false }
 
-abbrev pub layer : FileAccess → PortAccess → List PathRule → List PortRule → Layer
+abbrev pub layer : Access Fs → Access Net → List PathRule → List PortRule → Layer
 layer handled handled_on_ports path_rules port_rules =
     record { handled_files = handled; handled_network = handled_on_ports; path_rules = path_rules; port_rules = port_rules; scopes = no_scopes }
 
@@ -106,9 +107,9 @@ unfolding
     Rattle.ll_fitting.specs.Fitting.left_of Rattle.ll_fitting.specs.Fitting.is_for_files Rattle.ll_fitting.specs.Fitting.counted_on_files
     Rattle.ll_fitting.specs.Fitting.rights_on_kind Rattle.ll_fitting.specs.Fitting.rights_on
     Rattle.ll_fitting.specs.Fitting.rights_on_port Rattle.ll_fitting.specs.Fitting.fitted_path_rule Rattle.ll_fitting.specs.Fitting.fitted_port_rule
-    Rattle.ll_fitting.specs.Fitting.fitted_path_rules Rattle.ll_fitting.specs.Fitting.fitted_port_rules Rattle.ll_fitting.specs.Fitting.handled_files
-    Rattle.ll_fitting.specs.Fitting.handled_network Rattle.ll_fitting.specs.Fitting.fitted_if_any Rattle.ll_fitting.specs.Fitting.fitted
+    Rattle.ll_fitting.specs.Fitting.fitted_path_rules Rattle.ll_fitting.specs.Fitting.fitted_port_rules Rattle.ll_fitting.specs.Fitting.handled_at
+    Rattle.ll_fitting.specs.Fitting.fitted_if_any Rattle.ll_fitting.specs.Fitting.fitted
     Rattle.ll_fitting.specs.Taken.is_refused Rattle.ll_fitting.specs.Taken.first_refused Rattle.ll_fitting.specs.Misfits.first_of
-    Rattle.ll_fitting.specs.Misfits.path_rule_misfit Rattle.ll_fitting.specs.Misfits.port_rule_misfit Rattle.ll_fitting.specs.Misfits.layer_misfit
+    Rattle.ll_fitting.specs.Misfits.rule_misfit Rattle.ll_fitting.specs.Misfits.port_rule_misfit Rattle.ll_fitting.specs.Misfits.layer_misfit
     Rattle.ll_fitting.specs.Misfits.misfit
 fitting = tt

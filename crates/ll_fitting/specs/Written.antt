@@ -1,13 +1,11 @@
 -- A policy as its author writes it: layers, each with what it handles and its rules.
 -- Source: landlock_create_ruleset(2), landlock_add_rule(2); docs/POLICIES.md.
-use Rattle.std.specs.Prelude.{List, bit_and, filter}
+use Rattle.std.specs.Prelude.{List, filter}
 use Rattle.ll_rights.specs.declared.fs.Fs.{Fs}
 use Rattle.ll_rights.specs.declared.net.Net.{Net}
 use Rattle.ll_rights.specs.Rights as files
-use Rattle.ll_rights.specs.NetRights as network
-use Rattle.ll_rights.specs.Supported.{bits_of}
-use Rattle.ll_fitting.specs.declared.written.FileAccess.{FileAccess}
-use Rattle.ll_fitting.specs.declared.written.PortAccess.{PortAccess}
+use Rattle.ll_rights.specs.Families.{Family, for_files, set_of, common}
+use Rattle.ll_fitting.specs.declared.written.Access.{Access}
 use Rattle.ll_fitting.specs.declared.written.PathRule.{PathRule}
 use Rattle.ll_fitting.specs.declared.written.PortRule.{PortRule}
 use Rattle.ll_fitting.specs.declared.written.Scopes.{Scopes}
@@ -15,8 +13,8 @@ use Rattle.ll_fitting.specs.declared.written.Layer as code
 
 -- a layer: what it handles, its rules in the order in which they are written, and its scopes
 pub record Layer : Type 0 where
-  pub handled_files : FileAccess
-  pub handled_network : PortAccess
+  pub handled_files : Access Fs
+  pub handled_network : Access Net
   pub path_rules : List PathRule
   pub port_rules : List PortRule
   pub scopes : Scopes
@@ -33,24 +31,14 @@ written layer = record {
 
 -- ---- lists of rights
 
--- the rights that both of two sets have
-abbrev pub common : Fs → Fs → Fs
-common a b = record { 0 = bit_and a.0 b.0 }
-
-abbrev pub common_on_ports : Net → Net → Net
-common_on_ports a b = record { 0 = bit_and a.0 b.0 }
-
 -- all rights of a list
-abbrev pub listed : FileAccess → Fs
-listed access = files.united access.named access.grouped
-
-abbrev pub listed_on_ports : PortAccess → Net
-listed_on_ports access = network.united access.named access.grouped
+abbrev pub listed : {S R : Type 0} → Family S R → Access S → S
+listed family access = family.united access.named access.grouped
 
 -- the rights that apply to what isn't a directory
 abbrev pub file_rights : Fs
-file_rights = record { 0 = bits_of files.row (filter files.is_file_right files.named_rights) }
+file_rights = set_of for_files (filter files.is_file_right files.named_rights)
 
 -- what a list stands for on what isn't a directory: of a group, those of its rights that apply to such objects
-abbrev pub listed_for_files : FileAccess → Fs
-listed_for_files access = files.united access.named (common access.grouped file_rights)
+abbrev pub listed_for_files : Access Fs → Fs
+listed_for_files access = files.united access.named (common for_files access.grouped file_rights)

@@ -2,12 +2,12 @@
 
 ghost use Rattle.std.specs.Prelude.{◌≡◌, IfOk, map};
 ghost use Rattle.ll_fitting.specs.Written.{written};
-ghost use Rattle.ll_fitting.specs.Fitting.{fitted, fitted_layer, fitted_path_rules, fitted_port_rules, handled_files, handled_network};
+ghost use Rattle.ll_fitting.specs.Fitting.{fitted, fitted_layer, fitted_path_rules, fitted_port_rules, handled_at};
 ghost use Rattle.ll_fitting.specs.Shown.{shown};
 
-use crate::rights::{listed, listed_on_ports, rights_on, rights_on_port};
-use crate::written::{Layer, Parent};
-use ll_rights::{Abi, Fs, Net};
+use crate::rights::{listed, rights_on, rights_on_port};
+use crate::written::{Access, Layer, Parent};
+use ll_rights::{Abi, Fs, Net, RightSet};
 use std::alloc::{AllocError, Global};
 
 /// A rule with the rights that are asked for on its parent. The rule is named by its index in its layer.
@@ -37,20 +37,12 @@ pub struct FittedLayer {
     pub port_rules: Vec<FittedPortRule>,
 }
 
-/// The rights for files that a layer handles at a version.
-#[tactic(auto, unfolding(crate::specs::Fitting::handled_files))]
-fn handled_files(layer: &Layer, abi: Abi) -> Fs
-    ensures { result ≡ handled_files abi (written layer.now) }
+/// The rights that a layer which handles a list handles at a version.
+#[tactic(auto, unfolding(crate::specs::Fitting::handled_at))]
+fn handled_at<S: RightSet>(handled: Access<S>, abi: Abi) -> S
+    ensures { result ≡ handled_at S.family abi handled }
 {
-    listed(layer.handled_files).supported(abi)
-}
-
-/// The rights for the network that a layer handles at a version.
-#[tactic(auto, unfolding(crate::specs::Fitting::handled_network))]
-fn handled_network(layer: &Layer, abi: Abi) -> Net
-    ensures { result ≡ handled_network abi (written layer.now) }
-{
-    listed_on_ports(layer.handled_network).supported(abi)
+    listed(handled).supported(abi)
 }
 
 /// The rules for files of a layer that are left at a version.
@@ -102,8 +94,8 @@ fn fit_layer(
 {
     Ok(FittedLayer {
         layer: index,
-        files: handled_files(layer, abi),
-        network: handled_network(layer, abi),
+        files: handled_at(layer.handled_files, abi),
+        network: handled_at(layer.handled_network, abi),
         path_rules: fit_path_rules(alloc, layer, abi)?,
         port_rules: fit_port_rules(alloc, layer, abi)?,
     })
@@ -120,8 +112,8 @@ pub(crate) fn fit_layers(
 {
     let mut left = Vec::new(alloc);
     for (index, layer) in layers.iter().enumerate() {
-        let files = handled_files(layer, abi);
-        let network = handled_network(layer, abi);
+        let files = handled_at(layer.handled_files, abi);
+        let network = handled_at(layer.handled_network, abi);
         if !files.is_empty() || !network.is_empty() {
             left.push(fit_layer(alloc, index, layer, abi)?)?;
         }

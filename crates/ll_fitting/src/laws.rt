@@ -4,12 +4,13 @@ ghost use Rattle.std.specs.Prelude.{◌≡◌, ◌&&◌, ◌||◌, ℕ, true, fa
 ghost use Rattle.ll_rights.specs.declared.kind.Kind.{Kind as ObjectKind};
 ghost use Rattle.ll_rights.specs.Rights as files;
 ghost use Rattle.ll_rights.specs.NetRights as network;
+ghost use Rattle.ll_rights.specs.Families.{for_files, for_network};
 ghost use Rattle.ll_tree.specs.Trees.{is_dir};
 ghost use Rattle.ll_fitting.specs.declared.written.PathRule.{PathRule as Rule};
 ghost use Rattle.ll_fitting.specs.declared.written.PortRule.{PortRule as RuleOnPort};
-ghost use Rattle.ll_fitting.specs.ByRight.{lists, lists_on_ports, lists_for_files, is_left, is_left_on_ports};
+ghost use Rattle.ll_fitting.specs.ByRight.{lists, lists_for_files, is_left};
 ghost use Rattle.ll_rights.specs.declared.abi.Abi.{Abi};
-ghost use Rattle.ll_fitting.specs.Written.{Layer, listed, listed_on_ports};
+ghost use Rattle.ll_fitting.specs.Written.{Layer, listed};
 ghost use Rattle.ll_fitting.specs.Fitting.{fitted, is_for_files, rights_at, rights_on_port};
 ghost use Rattle.ll_fitting.specs.Misfits.{misfit};
 ghost use Rattle.ll_fitting.specs.Taken.{IsValid};
@@ -31,15 +32,15 @@ pub fn what_is_left_is_valid()
 pub fn rules_ask_right_by_right()
     ensures directory { (abi : Abi) (layer : Layer) (rule : Rule) (object : ℕ)
         (right : files.FsRight)
-        → files.has (listed layer.handled_files) files.other ≡ false
+        → files.has (listed for_files layer.handled_files) files.other ≡ false
         → files.has (rights_at abi layer rule (Parent.There object Kind.Dir)) right
-        ≡ (lists rule.allowed right && is_left abi layer right) }
+        ≡ (lists for_files rule.allowed right && is_left for_files abi layer.handled_files right) }
     ensures file { (abi : Abi) (layer : Layer) (rule : Rule) (object : ℕ) (kind : ObjectKind)
         (right : files.FsRight)
-        → files.has (listed layer.handled_files) files.other ≡ false → is_dir kind ≡ false
+        → files.has (listed for_files layer.handled_files) files.other ≡ false → is_dir kind ≡ false
         → (is_for_files layer rule || rule.included) ≡ true
         → files.has (rights_at abi layer rule (Parent.There object kind)) right
-        ≡ (lists_for_files rule.allowed right && is_left abi layer right) }
+        ≡ (lists_for_files rule.allowed right && is_left for_files abi layer.handled_files right) }
     ensures whole { (abi : Abi) (layer : Layer) (rule : Rule) (object : ℕ) (kind : ObjectKind)
         → is_dir kind ≡ false
         → (is_for_files layer rule || rule.included) ≡ false
@@ -48,7 +49,8 @@ pub fn rules_ask_right_by_right()
     ensures missing { (abi : Abi) (layer : Layer) (rule : Rule) → rule.included ≡ true
         → rights_at abi layer rule Parent.Missing ≡ files.no_right }
     ensures port { (abi : Abi) (layer : Layer) (rule : RuleOnPort) (right : network.NetRight)
-        → network.has (listed_on_ports layer.handled_network) network.other ≡ false
+        → network.has (listed for_network layer.handled_network) network.other ≡ false
         → network.has (rights_on_port abi layer rule) right
-        ≡ (lists_on_ports rule.allowed right && is_left_on_ports abi layer right) }
+        ≡ (lists for_network rule.allowed right
+        && is_left for_network abi layer.handled_network right) }
 {}

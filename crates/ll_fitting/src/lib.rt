@@ -14,4 +14,4 @@ pub use laws::{rules_ask_right_by_right, what_is_left_is_valid};
 pub use policy::{MOST_LAYERS, Misfit, Policy, RuleMisfit};
 pub use refusing::{RefusedRule, first_refused};
 pub use worked::{worked_misfits, worked_rules, worked_versions};
-pub use written::{FileAccess, Layer, Parent, PathRule, PortAccess, PortRule, Scopes};
+pub use written::{Access, Layer, Parent, PathRule, PortRule, Scopes};

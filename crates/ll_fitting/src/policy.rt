@@ -1,17 +1,16 @@
 //! Policies: layers of which the kernel can make what they say.
 
 ghost use Rattle.std.specs.Prelude.{◌≡◌, false, map, Some, None, IfOk, IfErr};
-ghost use Rattle.ll_rights.specs.Rights as files;
-ghost use Rattle.ll_rights.specs.NetRights as network;
-ghost use Rattle.ll_fitting.specs.Written.{written, listed, listed_on_ports};
+ghost use Rattle.ll_rights.specs.Families.{for_files, for_network};
+ghost use Rattle.ll_fitting.specs.Written.{written};
 ghost use Rattle.ll_fitting.specs.Fitting.{fitted};
 ghost use Rattle.ll_fitting.specs.Misfits as misfits;
 ghost use Rattle.ll_fitting.specs.Shown.{shown};
 
 use crate::fitting::{FittedLayer, fit_layers};
-use crate::rights::{common, common_on_ports, listed, listed_on_ports};
-use crate::written::{Layer, PathRule, PortRule, Scopes};
-use ll_rights::{Abi, FsRight, LARGEST_PORT, NetRight};
+use crate::rights::listed;
+use crate::written::{Access, Layer, PortRule, Scopes};
+use ll_rights::{Abi, LARGEST_PORT, RightSet};
 use std::alloc::{AllocError, Global};
 use std::marker::Model;
 
@@ -62,8 +61,7 @@ pub enum Misfit {
 fn knows_all(layer: &Layer) -> bool
     ensures { result ≡ misfits.knows_all (written layer.now) }
 {
-    !listed(layer.handled_files).has(FsRight::Other)
-        && !listed_on_ports(layer.handled_network).has(NetRight::Other)
+    !listed(layer.handled_files).has_other() && !listed(layer.handled_network).has_other()
 }
 
 /// Whether a layer has a scope.
@@ -78,21 +76,21 @@ fn handles_nothing(layer: &Layer) -> bool
     ensures { result ≡ misfits.handles_nothing (written layer.now) }
 {
     listed(layer.handled_files).is_empty()
-        && listed_on_ports(layer.handled_network).is_empty()
+        && listed(layer.handled_network).is_empty()
         && !has_scope(layer.scopes)
 }
 
-/// What is wrong with a rule for files.
-#[tactic(auto, unfolding(crate::specs::Misfits::path_rule_misfit))]
-fn path_rule_misfit(layer: &Layer, rule: PathRule) -> Option<RuleMisfit>
-    requires known { files.has (listed layer.now.handled_files) files.other ≡ false }
-    ensures { result ≡ misfits.path_rule_misfit (written layer.now) rule }
+/// What is wrong with the rights that a rule lists in a layer that handles others.
+#[tactic(auto, unfolding(crate::specs::Misfits::rule_misfit))]
+fn rule_misfit<S: RightSet>(handled: Access<S>, allowed: Access<S>) -> Option<RuleMisfit>
+    requires known { misfits.has_other S.family handled ≡ false }
+    ensures { result ≡ misfits.rule_misfit S.family handled allowed }
 {
-    let handled = listed(layer.handled_files);
-    if !rule.allowed.named.is_within(handled) {
+    let handled = listed(handled);
+    if !allowed.named.is_within(handled) {
         return Some(RuleMisfit::NotHandled);
     }
-    if common(listed(rule.allowed), handled).is_empty() {
+    if listed(allowed).common(handled).is_empty() {
         return Some(RuleMisfit::GrantsNothing);
     }
     None
@@ -101,30 +99,24 @@ fn path_rule_misfit(layer: &Layer, rule: PathRule) -> Option<RuleMisfit>
 /// What is wrong with a rule for a port.
 #[tactic(auto, unfolding(crate::specs::Misfits::port_rule_misfit))]
 fn port_rule_misfit(layer: &Layer, rule: PortRule) -> Option<RuleMisfit>
-    requires known { network.has (listed_on_ports layer.now.handled_network) network.other ≡ false }
+    requires known { misfits.has_other for_network layer.now.handled_network ≡ false }
     ensures { result ≡ misfits.port_rule_misfit (written layer.now) rule }
 {
-    let handled = listed_on_ports(layer.handled_network);
-    if !rule.allowed.named.is_within(handled) {
-        return Some(RuleMisfit::NotHandled);
-    }
-    if common_on_ports(listed_on_ports(rule.allowed), handled).is_empty() {
-        return Some(RuleMisfit::GrantsNothing);
-    }
-    if rule.port > LARGEST_PORT {
+    let misfit = rule_misfit(layer.handled_network, rule.allowed);
+    if misfit.is_none() && rule.port > LARGEST_PORT {
         return Some(RuleMisfit::NoPort);
     }
-    None
+    misfit
 }
 
 /// The first rule for files of a layer that is wrong.
 #[tactic(auto, unfolding(crate::specs::Misfits::first_of))]
 fn misfit_on_paths(index: usize, layer: &Layer) -> Option<Misfit>
-    requires known { files.has (listed layer.now.handled_files) files.other ≡ false }
+    requires known { misfits.has_other for_files layer.now.handled_files ≡ false }
     ensures { result ≡ misfits.misfit_on_paths index (written layer.now) }
 {
     for (rule_index, rule) in layer.path_rules.iter().enumerate() {
-        if let Some(misfit) = path_rule_misfit(layer, *rule) {
+        if let Some(misfit) = rule_misfit(layer.handled_files, rule.allowed) {
             return Some(Misfit::PathRule {
                 layer: index,
                 rule: rule_index,
@@ -138,7 +130,7 @@ fn misfit_on_paths(index: usize, layer: &Layer) -> Option<Misfit>
 /// The first rule for a port of a layer that is wrong.
 #[tactic(auto, unfolding(crate::specs::Misfits::first_of))]
 fn misfit_on_ports(index: usize, layer: &Layer) -> Option<Misfit>
-    requires known { network.has (listed_on_ports layer.now.handled_network) network.other ≡ false }
+    requires known { misfits.has_other for_network layer.now.handled_network ≡ false }
     ensures { result ≡ misfits.misfit_on_ports index (written layer.now) }
 {
     for (rule_index, rule) in layer.port_rules.iter().enumerate() {

@@ -1,59 +1,35 @@
 //! The rights that a rule asks for on its object.
 
 ghost use Rattle.std.specs.Prelude.{◌≡◌, ◌&&◌, ◌||◌, not};
-ghost use Rattle.ll_rights.specs.Rights as files;
-ghost use Rattle.ll_rights.specs.NetRights as network;
 ghost use Rattle.ll_tree.specs.Trees.{is_dir};
 ghost use Rattle.ll_rules.specs.Rulesets.{are_file_rights};
-ghost use Rattle.ll_fitting.specs.Written.{written, listed, listed_on_ports, listed_for_files, common, common_on_ports};
+ghost use Rattle.ll_fitting.specs.Written.{written, listed, listed_for_files};
 ghost use Rattle.ll_fitting.specs.Fitting as fitted;
 
-use crate::written::{FileAccess, Layer, Parent, PathRule, PortAccess, PortRule};
-use bitflags::Flags;
-use ll_rights::{Abi, Fs, Kind, Net};
-
-/// The rights that both of two sets have.
-pub(crate) fn common(a: Fs, b: Fs) -> Fs
-    ensures { result ≡ common a b }
-{
-    Fs::from_bits_retain(a.bits() & b.bits())
-}
-
-/// The rights for the network that both of two sets have.
-pub(crate) fn common_on_ports(a: Net, b: Net) -> Net
-    ensures { result ≡ common_on_ports a b }
-{
-    Net::from_bits_retain(a.bits() & b.bits())
-}
+use crate::written::{Access, Layer, Parent, PathRule, PortRule};
+use ll_rights::{Abi, Fs, Kind, Net, RightSet};
 
 /// All rights of a list.
-pub(crate) fn listed(access: FileAccess) -> Fs
-    ensures { result ≡ listed access }
-{
-    access.named.union(access.grouped)
-}
-
-/// All rights of a list for the network.
-pub(crate) fn listed_on_ports(access: PortAccess) -> Net
-    ensures { result ≡ listed_on_ports access }
+pub(crate) fn listed<S: RightSet>(access: Access<S>) -> S
+    ensures { result ≡ listed S.family access }
 {
     access.named.union(access.grouped)
 }
 
 /// The rights that a list stands for on what isn't a directory.
 #[tactic(auto, unfolding(ll_rights::specs::Rights::named_rights))]
-fn listed_for_files(access: FileAccess) -> Fs
+fn listed_for_files(access: Access<Fs>) -> Fs
     ensures { result ≡ listed_for_files access }
 {
-    access.named.union(common(access.grouped, Fs::FILE))
+    access.named.union(access.grouped.common(Fs::FILE))
 }
 
 /// What is left of rights that a rule lists: those that the layer handles and the version knows.
 #[tactic(auto, unfolding(crate::specs::Fitting::left_of))]
-fn left_of(layer: &Layer, abi: Abi, rights: Fs) -> Fs
-    ensures { result ≡ fitted.left_of abi (written layer.now) rights }
+fn left_of<S: RightSet>(handled: Access<S>, abi: Abi, rights: S) -> S
+    ensures { result ≡ fitted.left_of S.family abi handled rights }
 {
-    common(rights, listed(layer.handled_files)).supported(abi)
+    rights.common(listed(handled)).supported(abi)
 }
 
 /// Whether an object of a kind is a directory.
@@ -68,7 +44,9 @@ pub(crate) fn is_directory(kind: Kind) -> bool
 fn is_for_files(layer: &Layer, rule: PathRule) -> bool
     ensures { result ≡ fitted.is_for_files (written layer.now) rule }
 {
-    !common(listed_for_files(rule.allowed), listed(layer.handled_files)).is_empty()
+    !listed_for_files(rule.allowed)
+        .common(listed(layer.handled_files))
+        .is_empty()
 }
 
 /// What counts of a rule on what isn't a directory.
@@ -93,7 +71,7 @@ fn rights_on_kind(layer: &Layer, abi: Abi, rule: PathRule, kind: Kind) -> Fs
     } else {
         counted_on_files(layer, rule)
     };
-    left_of(layer, abi, counted)
+    left_of(layer.handled_files, abi, counted)
 }
 
 /// The rights that a rule asks for on its parent at a version: none if it is left out.
@@ -104,7 +82,7 @@ pub(crate) fn rights_on(layer: &Layer, abi: Abi, rule: PathRule) -> Fs
     match rule.parent {
         Parent::There { kind, .. } => rights_on_kind(layer, abi, rule, kind),
         Parent::Missing if rule.included => Fs::NONE,
-        Parent::Missing => left_of(layer, abi, listed(rule.allowed)),
+        Parent::Missing => left_of(layer.handled_files, abi, listed(rule.allowed)),
     }
 }
 
@@ -113,6 +91,5 @@ pub(crate) fn rights_on(layer: &Layer, abi: Abi, rule: PathRule) -> Fs
 pub(crate) fn rights_on_port(layer: &Layer, abi: Abi, rule: PortRule) -> Net
     ensures { result ≡ fitted.rights_on_port abi (written layer.now) rule }
 {
-    let handled = listed_on_ports(layer.handled_network);
-    common_on_ports(listed_on_ports(rule.allowed), handled).supported(abi)
+    left_of(layer.handled_network, abi, listed(rule.allowed))
 }

@@ -2,18 +2,11 @@
 
 use ll_rights::{Fs, Kind, Net};
 
-/// Rights for files as a policy lists them: those that it names outright, and those that groups stand for.
+/// Rights as a policy lists them: those that it names outright, and those that groups stand for.
 #[derive(Clone, Copy, Debug, PartialEq, Eq)]
-pub struct FileAccess {
-    pub named: Fs,
-    pub grouped: Fs,
-}
-
-/// Rights for the network as a policy lists them.
-#[derive(Clone, Copy, Debug, PartialEq, Eq)]
-pub struct PortAccess {
-    pub named: Net,
-    pub grouped: Net,
+pub struct Access<S> {
+    pub named: S,
+    pub grouped: S,
 }
 
 /// The object that a rule is on.
@@ -28,7 +21,7 @@ pub enum Parent {
 /// A rule on an object and on all under it. A policy that names several parents has a rule for each.
 #[derive(Clone, Copy, Debug, PartialEq, Eq)]
 pub struct PathRule {
-    pub allowed: FileAccess,
+    pub allowed: Access<Fs>,
     pub parent: Parent,
     /// Whether it belongs to a group of rules that the policy includes.
     pub included: bool,
@@ -37,7 +30,7 @@ pub struct PathRule {
 /// A rule on a TCP port.
 #[derive(Clone, Copy, Debug, PartialEq, Eq)]
 pub struct PortRule {
-    pub allowed: PortAccess,
+    pub allowed: Access<Net>,
     pub port: u64,
 }
 
@@ -51,8 +44,8 @@ pub struct Scopes {
 /// A layer: what it handles, its rules, and its scopes.
 #[derive(Drop)]
 pub struct Layer {
-    pub handled_files: FileAccess,
-    pub handled_network: PortAccess,
+    pub handled_files: Access<Fs>,
+    pub handled_network: Access<Net>,
     pub path_rules: Vec<PathRule>,
     pub port_rules: Vec<PortRule>,
     pub scopes: Scopes,

@@ -2,31 +2,23 @@
 
 use ll_enforcing::{Call, enforce};
 use ll_fitting::{
-    FileAccess, FittedLayer, Layer, Misfit, Parent, PathRule, Policy, PortAccess, PortRule,
-    RefusedRule, Scopes, first_refused,
+    Access, FittedLayer, Layer, Misfit, Parent, PathRule, Policy, PortRule, RefusedRule, Scopes,
+    first_refused,
 };
-use ll_rights::{Abi, Fs, Kind, Net};
+use ll_rights::{Abi, Fs, Kind, Net, RightSet};
 use std::alloc::Global;
 use std::test::Fail;
 
-/// Rights for files that a policy names outright.
-fn named(files: Fs) -> FileAccess {
-    FileAccess {
-        named: files,
-        grouped: Fs::NONE,
-    }
-}
-
-/// Rights for ports that a policy names outright.
-fn named_on_ports(network: Net) -> PortAccess {
-    PortAccess {
-        named: network,
-        grouped: Net::NONE,
+/// Rights that a policy names outright.
+fn named<S: RightSet>(rights: S) -> Access<S> {
+    Access {
+        named: rights,
+        grouped: S::none(),
     }
 }
 
 /// A rule of the policy's own on object 1.
-fn rule_on(kind: Kind, allowed: FileAccess) -> PathRule {
+fn rule_on(kind: Kind, allowed: Access<Fs>) -> PathRule {
     PathRule {
         allowed,
         parent: Parent::There { object: 1, kind },
@@ -36,7 +28,7 @@ fn rule_on(kind: Kind, allowed: FileAccess) -> PathRule {
 
 /// A layer that handles reading and connecting, with a rule on an object and one on port 443.
 fn layer_with(alloc: Global, rule: PathRule) -> Result<Layer, Fail> {
-    let connecting = named_on_ports(Net::CONNECT_TCP);
+    let connecting = named(Net::CONNECT_TCP);
     let mut path_rules = Vec::new(alloc);
     path_rules.push(rule)?;
     let mut port_rules = Vec::new(alloc);
@@ -105,7 +97,7 @@ fn refused_with(alloc: Global, rule: PathRule) -> Result<Option<RefusedRule>, Fa
 #[test]
 fn rules_on_files(rt: HostRuntime) -> Result<(), Fail> {
     let reading = Fs::READ_FILE.union(Fs::READ_DIR);
-    let group = FileAccess {
+    let group = Access {
         named: Fs::NONE,
         grouped: reading,
     };

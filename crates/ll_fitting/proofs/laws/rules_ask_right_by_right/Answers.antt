@@ -1,4 +1,4 @@
-use Rattle.ll_fitting.proofs.RightByRight.{on_directories, on_files, on_files_whole, on_nothing, on_port_by_right}
+use Rattle.ll_fitting.proofs.RightByRight.{on_directories, on_files, on_files_whole, on_nothing, on_ports}
 use Rattle.ll_fitting.proofs.laws.rules_ask_right_by_right.Goals as goal
 
 pub returns-clause-directory : goal.returns-clause-directory
@@ -14,4 +14,4 @@ pub returns-clause-missing : goal.returns-clause-missing
 returns-clause-missing c = on_nothing
 
 pub returns-clause-port : goal.returns-clause-port
-returns-clause-port c = on_port_by_right
+returns-clause-port c = on_ports
