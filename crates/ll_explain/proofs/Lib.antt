@@ -1,3 +1,4 @@
+pub mod Tables
 pub mod PlainTexts
 pub mod Buffering
 pub mod Listing

@@ -1,44 +1,18 @@
--- A list of rights as the code has them names the same as the table that it stands for.
+-- The words for the rights of a set are those for the rights of its table that it has.
 -- Source: landlock(7), "Filesystem actions"; the kernel's userspace document on Landlock, "Network flags".
-use Rattle.std.proofs.Common.{◌≡◌, ◌∙◌, ℕ, Bool, true, false, List, [], ◌∷◌, map, refl, ap, cond}
+use Rattle.std.proofs.Common.{◌≡◌, refl}
 use Rattle.std.specs.Prelude.{filter}
 use Rattle.ll_rights.specs.declared.fs.Fs.{Fs}
-use Rattle.ll_rights.specs.declared.fs.FsRight.{FsRight}
 use Rattle.ll_rights.specs.declared.net.Net.{Net}
-use Rattle.ll_rights.specs.declared.net.NetRight.{NetRight}
-use Rattle.ll_rights.specs.CodeRights.{fs_right, net_right}
 use Rattle.ll_rights.specs.Rights as files
 use Rattle.ll_rights.specs.NetRights as network
 use Rattle.ll_explanations.specs.Meanings.{port_rights_in, rights_in}
-use Rattle.ll_explain.specs.Words.{word_for, words_of}
+use Rattle.ll_explain.specs.Words.{words_of}
 
-module _ {D R : Type 0} (right_of : D → R) where
-  kept : (b : Bool) (item : D) (items : List D) (rights : List R) → map right_of items ≡ rights → map right_of (cond b (item ∷ items) items) ≡ cond b (right_of item ∷ rights) rights
-  kept true item items rights is = ap (λ more. right_of item ∷ more) is
-  kept false item items rights is = is
-
-  filtered : (test : R → Bool) (items : List D) → map right_of (filter (λ item. test (right_of item)) items) ≡ filter test (map right_of items)
-  filtered test [] = refl
-  filtered test (item ∷ items) = kept (test (right_of item)) item _ _ (filtered test items)
-
-  named : (name_of : R → List ℕ) (items : List D) → map (λ item. name_of (right_of item)) items ≡ map name_of (map right_of items)
-  named name_of [] = refl
-  named name_of (item ∷ items) = ap (λ names. name_of (right_of item) ∷ names) (named name_of items)
-
-  words_alike : (name_of : R → List ℕ) (all : List R) (items : List D) → map right_of items ≡ all → (test : R → Bool) →
-      words_of (λ item. name_of (right_of item)) (filter (λ item. test (right_of item)) items) ≡ words_of name_of (filter test all)
-  words_alike name_of all items is test =
-      named (λ right. word_for (name_of right)) (filter (λ item. test (right_of item)) items)
-      ∙ ap (words_of name_of) (filtered test items ∙ ap (filter test) is)
-
--- of a set for files, and of one for ports
-pub file_words : (all : List FsRight) → map fs_right all ≡ files.all_rights → (set : Fs)
-    → words_of (λ right. files.name_of (fs_right right)) (filter (λ right. files.has set (fs_right right)) all) ≡ words_of files.name_of (rights_in set)
+pub file_words : (set : Fs) → words_of files.name_of (filter (files.has set) files.all_rights) ≡ words_of files.name_of (rights_in set)
 unfolding rights_in
-file_words all is set = words_alike fs_right files.name_of files.all_rights all is (files.has set)
+file_words set = refl
 
-pub port_words : (all : List NetRight) → map net_right all ≡ network.all_rights → (set : Net)
-    → words_of (λ right. network.name_of (net_right right)) (filter (λ right. network.has set (net_right right)) all)
-    ≡ words_of network.name_of (port_rights_in set)
+pub port_words : (set : Net) → words_of network.name_of (filter (network.has set) network.all_rights) ≡ words_of network.name_of (port_rights_in set)
 unfolding port_rights_in
-port_words all is set = words_alike net_right network.name_of network.all_rights all is (network.has set)
+port_words set = refl

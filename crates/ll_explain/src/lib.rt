@@ -14,5 +14,5 @@ pub use buffer::TextBuffer;
 pub use found::{push_found, push_value};
 pub use laws::{findings_say_what_is_judged, worked_words};
 pub use objections::{line_at, line_made, path_opened};
-pub use rights::{RightSet, word_for};
+pub use rights::{WordedSet, word_for};
 pub use words::{push_escaped, push_number, push_words};

@@ -12,7 +12,7 @@ ghost use Rattle.ll_json.specs.Why.{by_condition, condition_json, rights_json, w
 use crate::json_text::JsonText;
 use crate::rights::write_rights_as;
 use crate::words::{begin_by, write_alone, write_number, write_numbered, write_text};
-use ll_explain::RightSet;
+use ll_explain::WordedSet;
 use ll_explanations::{Condition, Which, text_of};
 use ll_rights::{Abi, Fs};
 use ll_trace::Op;
@@ -38,7 +38,7 @@ fn write_portless(out: &mut JsonText, abi: Abi)
 }
 
 /// Writes, by a word for it, which rights a ruleset doesn't handle.
-fn write_unhandled<R: RightSet>(out: &mut JsonText, word: &str, rights: R)
+fn write_unhandled<R: WordedSet>(out: &mut JsonText, word: &str, rights: R)
     ensures { out.new ≡ writing out.old (json_tokens
         (by_condition word.now ((codes "rights", words_json (R.words rights)) ∷ []))) }
 {

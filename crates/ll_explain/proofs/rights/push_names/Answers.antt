@@ -1,6 +1,7 @@
 use Rattle.std.proofs.Common.{◌∙◌, codes, cond, ap, sym}
 use Rattle.ll_explain.specs.Buffers.{adding}
 use Rattle.ll_explain.specs.Words.{behind, joined, word_for}
+use Rattle.ll_explain.proofs.Tables.{words_alike}
 use Rattle.ll_explain.proofs.Listing.{written_all, written_with, written_without}
 use Rattle.ll_explain.proofs.rights.push_names.Goals as goal
 use Rattle.ll_explain.proofs.rights.push_names.Goals.{then-has, else-has}
@@ -21,7 +22,9 @@ loop-right-preserved g c =
 
 pub returns : goal.returns
 returns g c =
+    let sets = g.S.RightSet in
     written_all _ _ (codes ", ") c.args.text.now c.loop-right.text c.loop-right.is_first c.all-right-items.result.now c.loop-right.right-index
     c.loop-right-test.false c.loop-right.invariant
     ∙ ap (λ words. adding c.args.text.now (joined (codes ", ") words))
-    (g.met.S.RightSet.named c.all-right-items.result.now c.all-right-items.ensures c.args.rights)
+    (words_alike sets.named (λ right. (sets.family.row right).name) sets.family.all_rights c.all-right-items.result.now c.all-right-items.ensures
+    (sets.family.has c.args.rights) ∙ g.met.S.WordedSet.worded c.args.rights)

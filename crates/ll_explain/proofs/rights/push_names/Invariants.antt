@@ -8,5 +8,5 @@ use Rattle.ll_explain.proofs.rights.push_names.Given as goal
 abbrev pub invariant-loop-right : goal.invariant-loop-right
 invariant-loop-right g l =
     let set = g.S.RightSet in
-    let rest = left (set.has l.rights) (λ right. word_for (set.name right)) (codes ", ") in
+    let rest = left (λ right. set.family.has l.rights (set.named right)) (λ right. word_for (set.family.row (set.named right)).name) (codes ", ") in
     adding l.text (rest l.is_first (drop l.right-index l.right-items)) ≡ adding l.fn.text (rest true l.right-items)

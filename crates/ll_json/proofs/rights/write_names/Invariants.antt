@@ -8,5 +8,5 @@ use Rattle.ll_json.proofs.rights.write_names.Given as goal
 abbrev pub invariant-loop-right : goal.invariant-loop-right
 invariant-loop-right g l =
     let set = g.S.RightSet in
-    let words = flat_map (λ right. word_if (set.has l.rights right) (set.name right)) in
+    let words = flat_map (λ right. word_if (set.family.has l.rights (set.named right)) (set.family.row (set.named right)).name) in
     writing l.out (words (drop l.right-index l.all)) ≡ writing l.fn.out (words l.all)
