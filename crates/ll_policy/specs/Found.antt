@@ -17,6 +17,10 @@ use Rattle.ll_policy.specs.Granted.{granting, root}
 abbrev pub asked_of : Fs → FsRight → List (RulesOn ℕ) → List (RulesOn ℕ)
 asked_of asked right layers = if has asked right then layers else []
 
+-- what these say of it
+abbrev pub said : Fs → FsRight → List (RulesOn ℕ) → List Granting
+said asked right layers = map (granting right) (asked_of asked right layers)
+
 -- what is found of a right for files: for each old layer nothing, or a chain
 abbrev pub TellsObjects : (ℕ → Bool) → List (RulesOn ℕ) → List (RulesOn ℕ) → FsRight → Vec (Option (Vec ℕ Global)) Global → Type 0
 TellsObjects is_file old new right found = AllZip (Tells is_file root (map (granting right) new)) (map (granting right) old) found.items

@@ -6,8 +6,8 @@ ghost use Rattle.std.specs.List.{AllZip};
 ghost use Rattle.ll_rights.specs.CodeRights.{fs_right};
 ghost use Rattle.ll_rights.specs.Rights as for_files;
 ghost use Rattle.ll_policy.specs.Chains.{AreDirectories};
-ghost use Rattle.ll_policy.specs.Found.{TellsObjects, TellsGains, TellsSingleObjects, asked_of};
-ghost use Rattle.ll_policy.specs.Granted.{granting, root};
+ghost use Rattle.ll_policy.specs.Found.{TellsObjects, TellsGains, TellsSingleObjects, asked_of, said};
+ghost use Rattle.ll_policy.specs.Granted.{root};
 ghost use Rattle.ll_policy.specs.Places.{is_file_in};
 ghost use Rattle.ll_policy.specs.Policies.{rules_of};
 
@@ -25,9 +25,8 @@ fn said_if_asked(
     layers: &[Layer],
     right: FsRight,
 ) -> Result<Vec<Granting>, AllocError>
-    ensures { IfOk result (λ said. said.items
-        ≡ map (granting (fs_right right))
-        (asked_of asked (fs_right right) (map rules_of layers.now))) }
+    ensures { IfOk result (λ found. found.items
+        ≡ said asked (fs_right right) (map rules_of layers.now)) }
 {
     if asked.has(right) {
         return all_on_objects(alloc, layers, right);
@@ -35,7 +34,7 @@ fn said_if_asked(
     Ok(Vec::new(alloc))
 }
 
-/// What is found of each right for files, of what old layers say of it, if it is asked about, and what new ones say.
+/// What is found of each right for files, of what old layers and new ones say of it, if it is asked about.
 fn found_of_each<T: Drop, F: Fn(&[Granting], &[Granting]) -> Result<Vec<T>, AllocError>>(
     alloc: Global,
     asked: Fs,
@@ -45,15 +44,14 @@ fn found_of_each<T: Drop, F: Fn(&[Granting], &[Granting]) -> Result<Vec<T>, Allo
 ) -> Result<Vec<Vec<T>>, AllocError>
     requires { F.IsAlwaysCallable compare }
     ensures { IfOk result (λ found. AllZip
-        (λ right told. FnReturnsAtPair F.Fn compare
-        (map (granting right) (asked_of asked right (map rules_of old.now)))
-        (map (granting right) (map rules_of new.now)) (Ok told))
+        (λ right told. FnReturnsAtPair F.Fn compare (said asked right (map rules_of old.now))
+        (said asked right (map rules_of new.now)) (Ok told))
         for_files.all_rights found.items) }
 {
     let mut found = Vec::new(alloc);
     for right in FsRight::all() {
         let old = said_if_asked(alloc, asked, old, *right)?;
-        let new = all_on_objects(alloc, new, *right)?;
+        let new = said_if_asked(alloc, asked, new, *right)?;
         found.push(compare(&old, &new)?)?;
     }
     Ok(found)
@@ -71,7 +69,8 @@ pub fn more_on_objects(
     requires { AreDirectories (is_file_in files.now) root }
     ensures { IfOk result (λ found. AllZip
         (λ right. TellsObjects (is_file_in files.now)
-        (asked_of asked right (map rules_of old.now)) (map rules_of new.now) right)
+        (asked_of asked right (map rules_of old.now))
+        (asked_of asked right (map rules_of new.now)) right)
         for_files.all_rights found.items) }
 {
     Ok(found_of_each(alloc, asked, old, new, |old, new| {
@@ -90,7 +89,8 @@ pub fn more_on_single_objects(
 ) -> Result<Vec<Vec<Vec<usize>>>, AllocError>
     ensures { IfOk result (λ found. AllZip
         (λ right. TellsSingleObjects count
-        (asked_of asked right (map rules_of old.now)) (map rules_of new.now) right)
+        (asked_of asked right (map rules_of old.now))
+        (asked_of asked right (map rules_of new.now)) right)
         for_files.all_rights found.items) }
 {
     Ok(found_of_each(alloc, asked, old, new, |old, new| {
@@ -110,7 +110,8 @@ pub fn more_gains(
     requires { AreDirectories (is_file_in files.now) root }
     ensures { IfOk result (λ found. AllZip
         (λ right. TellsGains (is_file_in files.now)
-        (asked_of asked right (map rules_of old.now)) (map rules_of new.now) right)
+        (asked_of asked right (map rules_of old.now))
+        (asked_of asked right (map rules_of new.now)) right)
         for_files.all_rights found.items) }
 {
     Ok(found_of_each(alloc, asked, old, new, |old, new| {

@@ -18,13 +18,16 @@ pub returns : goal.returns
 returns c =
     let about = c.args.comparison.now in
     let objects = λ (files : List Bool) (old new : List Layer). AllZip
-    (λ (right : FsRight). TellsObjects (is_file_in files) (asked_of about.asked.objects right (map rules_of old)) (map rules_of new) right)
+    (λ (right : FsRight). TellsObjects (is_file_in files)
+    (asked_of about.asked.objects right (map rules_of old)) (asked_of about.asked.objects right (map rules_of new)) right)
     for_files.all_rights c.in_ok-objects.objects.items in
     let single = λ (count : ℕ) (old new : List Layer). AllZip
-    (λ (right : FsRight). TellsSingleObjects count (asked_of about.asked.single right (map rules_of old)) (map rules_of new) right)
+    (λ (right : FsRight). TellsSingleObjects count
+    (asked_of about.asked.single right (map rules_of old)) (asked_of about.asked.single right (map rules_of new)) right)
     for_files.all_rights c.in_ok-single.single.items in
     let gains = λ (files : List Bool) (old new : List Layer). AllZip
-    (λ (right : FsRight). TellsGains (is_file_in files) (asked_of about.asked.gains right (map rules_of old)) (map rules_of new) right)
+    (λ (right : FsRight). TellsGains (is_file_in files)
+    (asked_of about.asked.gains right (map rules_of old)) (asked_of about.asked.gains right (map rules_of new)) right)
     for_files.all_rights c.in_ok-gains.gains.items in
     record {
       regions = search rules;

@@ -4,8 +4,7 @@ use Rattle.std.specs.Fn.{FnReturnsAtPair}
 use Rattle.ll_rights.specs.declared.fs.FsRight.{FsRight as Code}
 use Rattle.ll_rights.specs.Rights.{FsRight}
 use Rattle.ll_rights.specs.CodeRights.{fs_right}
-use Rattle.ll_policy.specs.Found.{asked_of}
-use Rattle.ll_policy.specs.Granted.{granting}
+use Rattle.ll_policy.specs.Found.{said}
 use Rattle.ll_policy.specs.Policies.{rules_of}
 use Rattle.ll_policy.proofs.Lists.{zip_more, zip_map, zip_all}
 use Rattle.ll_policy.proofs.comparing.found_of_each.Goals as goal
@@ -13,8 +12,8 @@ use Rattle.ll_policy.proofs.comparing.found_of_each.Goals as goal
 pub loop-right-preserved : goal.loop-right-preserved
 loop-right-preserved g c =
     let says = λ (right : Code) (told : Vec g.row.T.Denot Global). FnReturnsAtPair g.F.Fn c.args.compare
-    (map (granting (fs_right right)) (asked_of c.args.asked (fs_right right) (map rules_of c.args.old.now)))
-    (map (granting (fs_right right)) (map rules_of c.args.new.now)) (Ok told) in
+    (said c.args.asked (fs_right right) (map rules_of c.args.old.now))
+    (said c.args.asked (fs_right right) (map rules_of c.args.new.now)) (Ok told) in
     zip_more says c.all-right-items.result.now c.loop-right.right-index _ c.loop-right.found.items c.push.new.self.items
     c.in_ok-compare.field-0 c.loop-right-test.true c.loop-right.invariant
     (record {
@@ -28,7 +27,7 @@ loop-right-preserved g c =
 pub returns : goal.returns
 returns g c =
     let says = λ (right : FsRight) (told : Vec g.row.T.Denot Global). FnReturnsAtPair g.F.Fn c.args.compare
-    (map (granting right) (asked_of c.args.asked right (map rules_of c.args.old.now))) (map (granting right) (map rules_of c.args.new.now)) (Ok told) in
+    (said c.args.asked right (map rules_of c.args.old.now)) (said c.args.asked right (map rules_of c.args.new.now)) (Ok told) in
     subst (λ (rights : List FsRight). AllZip says rights c.loop-right.found.items) c.all-right-items.ensures
     (zip_map says fs_right c.all-right-items.result.now c.loop-right.found.items
     (zip_all (λ (right : Code). says (fs_right right)) c.all-right-items.result.now c.loop-right.right-index c.loop-right.found.items

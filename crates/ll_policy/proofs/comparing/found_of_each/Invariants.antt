@@ -2,8 +2,7 @@ use Rattle.std.proofs.Common.{map, take, Ok}
 use Rattle.std.specs.List.{AllZip}
 use Rattle.std.specs.Fn.{FnReturnsAtPair}
 use Rattle.ll_rights.specs.CodeRights.{fs_right}
-use Rattle.ll_policy.specs.Found.{asked_of}
-use Rattle.ll_policy.specs.Granted.{granting}
+use Rattle.ll_policy.specs.Found.{said}
 use Rattle.ll_policy.specs.Policies.{rules_of}
 use Rattle.ll_policy.proofs.comparing.found_of_each.Given as goal
 
@@ -11,6 +10,6 @@ use Rattle.ll_policy.proofs.comparing.found_of_each.Given as goal
 abbrev pub invariant-loop-right : goal.invariant-loop-right
 invariant-loop-right g l =
     AllZip
-    (λ right told. FnReturnsAtPair g.F.Fn l.compare (map (granting (fs_right right)) (asked_of l.asked (fs_right right) (map rules_of l.old)))
-    (map (granting (fs_right right)) (map rules_of l.new)) (Ok told))
+    (λ right told. FnReturnsAtPair g.F.Fn l.compare (said l.asked (fs_right right) (map rules_of l.old))
+    (said l.asked (fs_right right) (map rules_of l.new)) (Ok told))
     (take l.right-index l.right-items) l.found.items
