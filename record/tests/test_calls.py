@@ -115,6 +115,21 @@ class Calls(StraceLines):
         (removed,) = self.convert(f'rmdir("f/") = {error}')
         self.assertEqual(removed["op"], "rmdir")
 
+    def test_a_link_before_a_slash_is_not_followed_where_a_name_is_made_or_removed(self) -> None:
+        """The kernel looks up the name itself (filename_create, do_rmdir): what the link leads to is as it was."""
+        made = f'openat({CWD}, "far", 0x41 /* O_WRONLY|O_CREAT */, 0644) = 3</w/d/none>'
+        exists = "-1 EEXIST (File exists)"
+        address = '{sa_family=1 /* AF_UNIX */, sun_path="far/"}'
+        for call in (
+            f'mkdir("far/", 0777) = {exists}',
+            f'mknod("far/", 0x81a4 /* S_IFREG|0644 */) = {exists}',
+            f"bind(9<UNIX:[7]>, {address}, 7) = -1 EADDRINUSE (Address already in use)",
+        ):
+            trace = self.convert('symlink("d/none", "far") = 0', call, made)
+            self.assertEqual((trace[-1]["path"], trace[-1].get("create")), ("/w/d/none~new~", True), call)
+        (removed,) = self.convert('rmdir("to-d/") = -1 ENOTDIR (Not a directory)')
+        self.assertEqual((removed["op"], removed["path"]), ("rmdir", "/w/to-d"))
+
     def test_what_a_file_forbids_comes_before_landlock(self) -> None:
         for error in ("ETXTBSY (Text file busy)", "EPERM (Operation not permitted)", "EROFS (Read-only file system)"):
             with self.subTest(error):

@@ -57,22 +57,30 @@ def number_at(call: Call, index: int) -> int:
 
 def spot_at(scene: Scene, thread: Thread, call: Call, base: int | None, path: int, follow: bool) -> Spot:
     """What a path argument names, from the directory that the argument `base` is a descriptor of."""
+    return scene.spot(thread, descriptor_at(call, base), _asked_path(call, path), follow)
+
+
+def _asked_path(call: Call, index: int) -> str:
+    """The path that an argument is, unless the call failed before Landlock was asked."""
     if call.error == _READ_ONLY or is_before_paths(call):
         raise NotAsked(f"{call.error} before Landlock is asked")
-    named = path_at(call, path)
+    named = path_at(call, index)
     if call.error == "ENOTDIR" and named.endswith("/") and call.name not in REMOVING:
         raise NotAsked("ENOTDIR of a path that ends in a slash, before Landlock is asked")
-    return scene.spot(thread, descriptor_at(call, base), named, follow)
+    return named
 
 
 def name_at(scene: Scene, thread: Thread, call: Call, base: int | None, path: int) -> Spot:
-    """What a path argument of a call that makes, moves or removes a name stands for: a link there is not followed.
+    """What a path argument of a call that makes, moves or removes a name stands for: a link there is not followed, even
+    if a slash is behind it.
 
     If the path ends in no name, as `x/..`, such a call fails before Landlock is asked (`LAST_NORM` in the kernel's
     fs/namei.c).
     """
-    spot = spot_at(scene, thread, call, base, path, False)
-    if path_at(call, path).rstrip("/").rpartition("/")[2] in ("", ".", ".."):
+    named = _asked_path(call, path)
+    name = named.rstrip("/")
+    spot = scene.spot(thread, descriptor_at(call, base), name or named, False)
+    if name.rpartition("/")[2] in ("", ".", ".."):
         raise NotAsked("a path that ends in no name, before Landlock is asked")
     return spot
 

@@ -62,7 +62,8 @@ def bound(scene: Scene, thread: Thread, call: Call) -> None:
     path = values.member(call.arguments[1], "sun_path")
     name = values.text(path) if path is not None else None
     if name and not arguments.is_before_paths(call):
-        _made(scene, thread, call, "mknod", scene.spot(thread, None, name, False), Node("sock"), kind="sock")
+        spot = scene.spot(thread, None, name.rstrip("/") or name, False)
+        _made(scene, thread, call, "mknod", spot, Node("sock"), kind="sock")
 
 
 def _remove(scene: Scene, thread: Thread, call: Call) -> None:
