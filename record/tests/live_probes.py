@@ -107,6 +107,11 @@ EXPECTED = {
     "made": _of(),
     "kinds": _of("rename directory, rename pipe", told=True),
     "swapped": _of("make by the first", told=True),
+    "unlike": _of(
+        "unlink a directory, remove a file as a directory, put a file in a directory's place, "
+        "put a directory in a file's place, link a directory, open a socket",
+        "unlink, rmdir, rename, mkdir, open",
+    ),
     "script": _of("run", told=True),
     "without_times": _of(told=True, unsure=MADE_OR_THERE),
     "for_ioctl": _of("make, cut", "mknod, truncate"),
@@ -140,6 +145,9 @@ class LiveProbes(unittest.TestCase):
             (self.work / name).write_text(f"{name}\n")
         shutil.copy(HERE / "probes.py", self.work)
         shutil.copy("/bin/true", self.work / "program")
+        (self.work / "out" / "made").touch()
+        with socket.socket(socket.AF_UNIX) as bound:
+            bound.bind(str(self.work / "socket"))
         self.fill_state(Path(f"{self.work}-state"))
 
     def fill_state(self, state: Path) -> None:

@@ -632,6 +632,19 @@ def swapped() -> None:
     attempt("make by the second", lambda: (STATE / "now" / "sub").mkdir())
 
 
+def unlike() -> None:
+    """Calls for a directory about what is none, and the reverse: the kernel asks Landlock before it says so."""
+    os.symlink("none", STATE / "far")
+    attempt("make by a link and a slash", lambda: os.mkdir(f"{STATE}/far/"))
+    attempt("make by the link", lambda: os.close(os.open(STATE / "far", os.O_WRONLY | os.O_CREAT)))
+    attempt("unlink a directory", lambda: os.unlink("kept"))
+    attempt("remove a file as a directory", lambda: os.rmdir("given"))
+    attempt("put a file in a directory's place", lambda: os.rename("out/made", "kept"))
+    attempt("put a directory in a file's place", lambda: os.rename("kept", "given"))
+    attempt("link a directory", lambda: os.link("kept", "linked"))
+    attempt("open a socket", lambda: os.open("socket", os.O_RDONLY))
+
+
 def script() -> None:
     """A script that is made, run and removed; its program may not be run."""
     path = STATE / "script"
@@ -748,6 +761,7 @@ PROBES: dict[str, Callable[[], None]] = {
         made,
         kinds,
         swapped,
+        unlike,
         script,
         without_times,
         for_ioctl,

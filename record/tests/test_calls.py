@@ -128,7 +128,49 @@ class Calls(StraceLines):
             trace = self.convert('symlink("d/none", "far") = 0', call, made)
             self.assertEqual((trace[-1]["path"], trace[-1].get("create")), ("/w/d/none~new~", True), call)
         (removed,) = self.convert('rmdir("to-d/") = -1 ENOTDIR (Not a directory)')
-        self.assertEqual((removed["op"], removed["path"]), ("rmdir", "/w/to-d"))
+        self.assertEqual((removed["op"], removed["shown"]), ("rmdir", "/w/to-d"))
+
+    def test_removals_that_fail_since_one_object_is_a_directory_ask_as_those_of_the_other_kind(self) -> None:
+        for call, op, kind in (
+            ('unlink("d") = -1 EISDIR (Is a directory)', "unlink", "reg"),
+            (f'unlinkat({CWD}, "d", 0) = -1 EISDIR (Is a directory)', "unlink", "reg"),
+            ('rmdir("f") = -1 ENOTDIR (Not a directory)', "rmdir", "dir"),
+            (f'unlinkat({CWD}, "f", 0x200 /* AT_REMOVEDIR */) = -1 ENOTDIR (Not a directory)', "rmdir", "dir"),
+        ):
+            (asked,) = self.convert(call)
+            self.assertEqual((asked["op"], asked["path"]), (op, f"{asked['shown']}~2~"), call)
+            self.assertEqual(self.tree()[asked["path"]], kind, call)
+        _, refused = self.convert(CONFINED, 'unlink("d") = -1 EACCES (Permission denied)')
+        self.assertEqual((refused["path"], refused["kernel"]), ("/w/d~2~", "EACCES"))
+        self.assertEqual(self.convert('unlink("d/") = -1 EISDIR (Is a directory)'), [])
+
+    def test_a_rename_to_an_object_of_another_kind_asks_for_the_removal_and_the_move(self) -> None:
+        for call, removed, move in (
+            ('rename("f", "d") = -1 EISDIR (Is a directory)', ("rmdir", "/w/d"), ("/w/f", "/w/d~new~")),
+            ('rename("e", "d/in") = -1 ENOTDIR (Not a directory)', ("unlink", "/w/d/in"), ("/w/e", "/w/d/in~new~")),
+        ):
+            first, second = self.convert(call)
+            self.assertEqual((first["op"], first["path"]), removed)
+            self.assertEqual((second["op"], second["from"], second["to"]), ("rename", *move))
+        above = 'rename("d/in", "d") = -1 ENOTEMPTY (Directory not empty)'
+        self.assertEqual([record["op"] for record in self.convert(above)], ["rename"])
+
+    def test_a_link_of_a_directory_asks_to_make_one(self) -> None:
+        error = "-1 EPERM (Operation not permitted)"
+        self.assertEqual(self.one(f'link("d", "e2") = {error}'), {"op": "mkdir", "path": "/w/e2~new~"})
+        self.assertEqual(self.convert(f'link("d", "e/d") = {error}'), [])
+        self.assertEqual(self.unsaid(), ["a link of a directory to another directory"])
+
+    def test_a_socket_is_opened_like_a_pipe_with_the_same_rules(self) -> None:
+        disk = [*strace_lines.DISK, {"path": "/w/s", "kind": "sock"}]
+        self.enterContext(mock.patch.object(strace_lines, "DISK", disk))
+        opened = f'openat({CWD}, "s", 0x1 /* O_WRONLY */) = -1 ENXIO (No such device or address)'
+        self.assertEqual([one["path"] for one in self.convert(opened, opened) if one["op"] == "open"], ["/w/s~2~"] * 2)
+        self.assertEqual(self.listed()["/w/s~2~"], {"kind": "fifo", "made": True, "same": "/w/s", "shown": "/w/s"})
+        bound = 'bind(9<UNIX:[7]>, {sa_family=1 /* AF_UNIX */, sun_path="new"}, 7) = 0'
+        _, first, _, second, _ = self.convert(bound, *[opened.replace('"s"', '"new"')] * 2)
+        self.assertEqual((first["path"], second["path"]), ("/w/new", "/w/new"))
+        self.assertEqual(self.listed()["/w/new"], {"kind": "fifo", "made": True})
 
     def test_what_a_file_forbids_comes_before_landlock(self) -> None:
         for error in ("ETXTBSY (Text file busy)", "EPERM (Operation not permitted)", "EROFS (Read-only file system)"):

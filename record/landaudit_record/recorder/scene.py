@@ -132,6 +132,7 @@ class Scene:
         self.ended: dict[int, Process] = {}
         self.ruled: list[tuple[str, Node]] = []
         self.handles: dict[str, str] = {}
+        self._opened_sockets: dict[Node, Node] = {}
         self._walked: set[tuple[str, str, str]] = set()
         self._links: ThreadLinks | None = None
 
@@ -303,6 +304,20 @@ class Scene:
     def there(self, real: str, node: Node) -> Spot:
         """An object at a real path."""
         return Spot(self.tree, real, node)
+
+    def stand_in(self, spot: Spot, kind: str) -> Spot:
+        """An object of another kind at the place of one: what the kernel asks Landlock by a call that is not for it."""
+        return self.there(spot.real, Node(kind))
+
+    def as_opened(self, spot: Spot, socket: Node) -> Spot:
+        """A socket as a pipe, with the same rules on it: it can't be opened, but first the kernel asks Landlock."""
+        pipe = self._opened_sockets.get(socket)
+        if pipe is None and socket.shares:
+            return self.stand_in(spot, "fifo")
+        if pipe is None:
+            self.tree.place(spot.real, socket)
+            pipe = self._opened_sockets[socket] = Node("fifo", ruled=True, first=socket.first)
+        return self.there(spot.real, pipe)
 
     def absent(self, real: str) -> Spot:
         """A name in a directory at which, as the kernel says, nothing is, whatever was known before."""

@@ -70,12 +70,30 @@ def _remove(scene: Scene, thread: Thread, call: Call) -> None:
     op = call.name
     if op == "unlinkat":
         op = "rmdir" if arguments.number_at(call, 2) & AT_REMOVEDIR else "unlink"
-    spot = arguments.object_at(scene, call, _name(scene, thread, call), "dir" if op == "rmdir" else "reg")
+    spot = _removed(scene, call, op, _name(scene, thread, call))
     scene.say(thread, call, op, path=spot.path, **arguments.shown(spot))
     if call.ok and spot.node is not None:
         scene.names.is_of(spot.node, *(("dir",) if op == "rmdir" else NO_DIRECTORIES))
     if call.ok:
         scene.names.put(spot.real, None)
+
+
+def _removed(scene: Scene, call: Call, op: str, spot: Spot) -> Spot:
+    """The object that a call removes. If it is a directory and may be none, or the reverse, the call fails, but only
+    after the kernel has asked Landlock about the removal of what the call is for.
+    """
+    directory = op == "rmdir"
+    if call.error == "EISDIR":
+        if arguments.path_at(call, _NAMES[call.name][1]).endswith("/"):
+            raise NotAsked("EISDIR of a path that ends in a slash, before Landlock is asked")
+        arguments.object_at(scene, call, spot, "dir")
+        return scene.stand_in(spot, "reg")
+    if call.error == "ENOTDIR" and directory and spot.in_directory:
+        return scene.stand_in(spot, "dir")
+    spot = arguments.object_at(scene, call, spot, "dir" if directory else "reg")
+    if spot.node is None or spot.node.others or (spot.node.kind == "dir") is directory:
+        return spot
+    return scene.stand_in(spot, "dir" if directory else "reg")
 
 
 def _truncate(scene: Scene, thread: Thread, call: Call) -> None:

@@ -14,6 +14,7 @@ from . import arguments
 RENAME_NOREPLACE = 1
 RENAME_EXCHANGE = 2
 RENAME_WHITEOUT = 4
+OF_DIRECTORY = "a link of a directory to another directory"
 
 
 #: Where calls with the descriptors of directories have these and their paths, and where the others have theirs.
@@ -47,6 +48,9 @@ def _rename(scene: Scene, thread: Thread, call: Call) -> None:
     if moved.node is not None and moved.node is target.node and moved.real == target.real:
         _say_move(scene, thread, call, "rename", moved, scene.missing(target.real), False)
         return
+    if not exchange and _are_unlike(call, moved, target):
+        _say_unlike(scene, thread, call, moved, target)
+        return
     if flags & RENAME_WHITEOUT and scene.names.whiteouts == "reg":
         _say_whiteout(scene, thread, call, moved)
     if call.ok and moved.node is not None and not exchange and scene.names.may_be_replaced(target.real):
@@ -57,6 +61,32 @@ def _rename(scene: Scene, thread: Thread, call: Call) -> None:
         _take_place(scene, moved, target, exchange)
     if call.ok and flags & RENAME_WHITEOUT:
         scene.names.put(moved.real, Node(scene.names.whiteouts))
+
+
+#: Errors of a rename of a directory to what is none, and of the reverse.
+_UNLIKE = frozenset({"EISDIR", "ENOTDIR"})
+
+
+def _are_unlike(call: Call, moved: Spot, target: Spot) -> bool:
+    """Whether a rename would put a directory in the place of an object that is none, or the reverse, and neither is
+    above the other, which the kernel finds before it asks Landlock.
+    """
+    one, other = moved.node, target.node
+    if call.ok or one is None or target.real.startswith(f"{moved.real}/") or moved.real.startswith(f"{target.real}/"):
+        return False
+    if call.error in _UNLIKE:
+        return target.in_directory
+    return other is not None and not (one.others or other.others) and (one.kind == "dir") != (other.kind == "dir")
+
+
+def _say_unlike(scene: Scene, thread: Thread, call: Call, moved: Spot, target: Spot) -> None:
+    """A rename that can replace nothing since only one of both objects is a directory, as the kernel finds after it has
+    asked Landlock: about the removal of what is at the new name, and about the move.
+    """
+    directory = target.node.kind == "dir" if target.node is not None else call.error == "EISDIR"
+    removed = target if target.node is not None else scene.stand_in(target, "dir" if directory else "reg")
+    scene.say(thread, call, "rmdir" if directory else "unlink", path=removed.path, **arguments.shown(removed))
+    _say_move(scene, thread, call, "rename", moved, scene.missing(target.real), False)
 
 
 def _say_both(scene: Scene, thread: Thread, call: Call, moved: Spot, node: Node, target: Spot) -> Spot:
@@ -140,10 +170,20 @@ def _link(scene: Scene, thread: Thread, call: Call) -> None:
         target = scene.absent(target.real)
     elif call.error == "EEXIST" and target.node is None and target.in_directory:
         target = scene.present(target.real, "reg")
+    if not call.ok and source.node is not None and source.node.kind == "dir" and target.node is None:
+        _say_directory(scene, thread, call, source, target)
+        return
     _say_move(scene, thread, call, "link", source, target, False)
     if call.ok:
         scene.names.put(target.real, source.node)
         scene.names.stays(target.real)
+
+
+def _say_directory(scene: Scene, thread: Thread, call: Call, source: Spot, target: Spot) -> None:
+    """A link of a directory, which no file system makes: the kernel says so after it has asked Landlock about one."""
+    if source.real.rpartition("/")[0] != target.real.rpartition("/")[0]:
+        raise CannotSay(OF_DIRECTORY)
+    scene.say(thread, call, "mkdir", path=target.path, **arguments.shown(target))
 
 
 HANDLERS = {"rename": _rename, "renameat": _rename, "renameat2": _rename, "link": _link, "linkat": _link}

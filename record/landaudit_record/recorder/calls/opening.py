@@ -307,6 +307,8 @@ def _after_failure(scene: Scene, call: Call, spot: Spot, flags: int) -> Spot:
         return _without_name(scene, join([*split(spot.real), UNNAMED])) if there else scene.as_missing(spot)
     if flags & O_CREAT:
         return scene.as_missing(spot) if call.error == "ENOENT" else spot
+    if spot.node is not None and spot.node.kind == "sock":
+        return scene.as_opened(spot, spot.node)
     if call.error == "ENXIO":
         return arguments.object_at(scene, call, spot, WITHOUT_READER[0], WITHOUT_READER)
     return arguments.object_at(scene, call, spot, "dir" if flags & O_DIRECTORY else "reg", _kinds(flags))
