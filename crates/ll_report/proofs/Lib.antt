@@ -11,3 +11,9 @@ pub mod SpansWhole
 pub mod RowsSaid
 pub mod FoundJudged
 pub mod OneVersion
+pub mod TextKeys
+pub mod KindsCounted
+pub mod KindsParted
+pub mod ByKind
+pub mod Grouping
+pub mod WholeRows

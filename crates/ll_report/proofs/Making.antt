@@ -11,7 +11,7 @@ use Rattle.ll_trace.specs.declared.op.Record.{Record}
 use Rattle.ll_report.specs.declared.options.Shown.{Shown}
 use Rattle.ll_report.specs.Found.{Found}
 use Rattle.ll_report.specs.Rows.{row_text, rows_from, told_of}
-use Rattle.ll_report.specs.Made.{Made, part_at, row_at, rows_of}
+use Rattle.ll_report.specs.Made.{Made, line_numbers, part_at, row_at, rows_of}
 
 -- what the report has from an index on
 abbrev pub left : Made → ℕ → List ℕ
@@ -52,7 +52,7 @@ row_is row index (suc k) (first ∷ others) r is =
 
 -- the row of the record at an index
 pub row_at_index : (row : ℕ → Record → List ℕ) (index : ℕ) (records : List Record) (r : Record) (last : List ℕ) → slice_get records index ≡ Some r
-    → row_at (record { shown = rows_of row 0 records; last = last }) index ≡ row index r
+    → row_at (record { lines = line_numbers records; shown = rows_of row 0 records; last = last }) index ≡ row index r
 row_at_index row index records r last is =
     let none : 0 + index ≡ index = omega arith in
     ap (λ found. unwrap_or found []) (row_is row 0 index records r is) ∙ ap (λ n. row n r) none
@@ -64,19 +64,19 @@ next_rows row index r others = flat_map-cons (λ (x : List ℕ). x) (row index r
 
 -- no record, no row
 pub row_past : (row : ℕ → Record → List ℕ) (index : ℕ) (records : List Record) (last : List ℕ) → length records ≤ index
-    → row_at (record { shown = rows_of row 0 records; last = last }) index ≡ []
+    → row_at (record { lines = line_numbers records; shown = rows_of row 0 records; last = last }) index ≡ []
 row_past row index records last past =
     ap (λ found. unwrap_or found []) (slice_get_past (rows_of row 0 records) index (omega (arith, past, length-rows row 0 records)))
 
 -- the row that is found by looking for its record
 pub found_row : (row : ℕ → Record → List ℕ) (index : ℕ) (records found : List Record) (last : List ℕ) (r : Record) → found ≡ records
-    → true ≡ nat_lt index (length found) → r ≡ get_or found index r → row_at (record { shown = rows_of row 0 records; last = last }) index ≡ row index r
+    → true ≡ nat_lt index (length found) → r ≡ get_or found index r → row_at (record { lines = line_numbers records; shown = rows_of row 0 records; last = last }) index ≡ row index r
 found_row row index records found last r are below is =
     row_at_index row index records r last
     (ap (λ rs. slice_get rs index) (sym are) ∙ slice_get-get_or found index r (ltb-true index (length found) (sym below)) ∙ ap (λ x. Some x) (sym is))
 
 pub no_row : (row : ℕ → Record → List ℕ) (index : ℕ) (records found : List Record) (last : List ℕ) → found ≡ records
-    → false ≡ nat_lt index (length found) → row_at (record { shown = rows_of row 0 records; last = last }) index ≡ []
+    → false ≡ nat_lt index (length found) → row_at (record { lines = line_numbers records; shown = rows_of row 0 records; last = last }) index ≡ []
 no_row row index records found last are past =
     row_past row index records last (omega (arith, ltb-false index (length found) (sym past), ap length are))
 

@@ -113,22 +113,22 @@ module _ (shown : Shown) (findings : List FindingValue) (index : ℕ) (tree : Li
   as_agreed is differing =
       sym (left_out ∙ ap₂ (λ a b. a || (b && agree (printed_under verdict_printed tree records findings index))) is differing)
 
-module _ (shown : Shown) (oldest : ℕ) (tree : List Entry) (records : List Record) (findings : List FindingValue) (index : ℕ) (r : Record) where
+module _ (shown : Shown) (oldest : ℕ) (tree : List Entry) (records : List Record) (findings : List FindingValue) (index : ℕ) (told : List ℕ) where
   abbrev founds : List Found
   founds = founds_in shown.explanations tree records findings
 
-  pub apart_out : is_row_left_out shown (answers_in findings) index ≡ true → [] ≡ row_text shown oldest founds index (told_of r)
+  pub apart_out : is_row_left_out shown (answers_in findings) index ≡ true → [] ≡ row_text shown oldest founds index told
   apart_out out =
       let hidden : is_row_left_out shown founds index ≡ true = sym (same_left_out findings index shown.explanations tree records shown) ∙ out in
       sym (rw hidden refl)
 
   pub apart_shown : (behind : List ℕ) → is_row_left_out shown (answers_in findings) index ≡ false
       → behind ≡ behind_line shown.explanations (versions_text Explanations oldest (explanations_said founds index))
-      → told_of r ++ versions_text Answers oldest (printed_under verdict_printed tree records findings index) ++ codes "\n" ++ behind
-      ≡ row_text shown oldest founds index (told_of r)
+      → told ++ versions_text Answers oldest (printed_under verdict_printed tree records findings index) ++ codes "\n" ++ behind
+      ≡ row_text shown oldest founds index told
   apart_shown behind shows is =
       let seen : is_row_left_out shown founds index ≡ false = sym (same_left_out findings index shown.explanations tree records shown) ∙ shows in
-      ap₂ (λ (texts : List (List ℕ)) (l : List ℕ). told_of r ++ versions_text Answers oldest texts ++ codes "\n" ++ l)
+      ap₂ (λ (texts : List (List ℕ)) (l : List ℕ). told ++ versions_text Answers oldest texts ++ codes "\n" ++ l)
       (sym (answered_in findings index shown.explanations tree records)) is
       ∙ sym (rw seen refl)
 

@@ -2,6 +2,9 @@ pub mod Report
 pub mod Lines
 pub mod Shown
 pub mod Made
+pub mod Kinds
+pub mod Counted
+pub mod Calls
 pub mod Writing
 pub mod Found
 pub mod Printed

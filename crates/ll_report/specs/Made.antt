@@ -1,11 +1,12 @@
--- What a report is made of: what is shown of each record, one after another, and the last lines.
+-- What a report is made of: what is shown of each record, one after another, the lines of the records, and the last lines.
 -- Source: docs/FORMATS.md, "The report".
-use Rattle.std.specs.Prelude.{◌+◌, ◌++◌, ℕ, List, [], ◌∷◌, slice_get, unwrap_or}
+use Rattle.std.specs.Prelude.{◌+◌, ◌++◌, ℕ, List, [], ◌∷◌, map, slice_get, unwrap_or}
 use Rattle.std.specs.List.{flat_map}
 use Rattle.ll_trace.specs.declared.op.Record.{Record}
 
 -- a row is what is shown of a record, which may be nothing
 pub record Made : Type 0 where
+  pub lines : List ℕ
   pub shown : List (List ℕ)
   pub last : List ℕ
 
@@ -16,6 +17,10 @@ text_of made = flat_map (λ row. row) made.shown ++ made.last
 -- the row at an index
 abbrev pub row_at : Made → ℕ → List ℕ
 row_at made index = unwrap_or (slice_get made.shown index) []
+
+-- the lines of records
+abbrev pub line_numbers : List Record → List ℕ
+line_numbers records = map (λ (r : Record). r.line) records
 
 -- The rows of records, the first of which is at an index of the trace. A row is given by the index of its record and the record.
 unfoldable pub rows_of : (ℕ → Record → List ℕ) → ℕ → List Record → List (List ℕ)

@@ -1,14 +1,17 @@
 -- The report over versions, which may be one alone: of each record what is answered under each of them, and one total a
 -- version.
--- Source: docs/FORMATS.md, "The report", "Explanations" and "Several versions".
+-- Source: docs/FORMATS.md, "The report", "Explanations", "Several versions" and "Kinds".
 use Rattle.std.specs.Prelude.{◌+◌, ◌&&◌, ◌||◌, ◌++◌, ℕ, Bool, not, List, [], ◌∷◌, codes, count_by, decimal, if◌then◌else◌, length, map, nat_lt}
 use Rattle.std.specs.List.{list_any, range_with_len}
 use Rattle.ll_trace.specs.declared.op.Record.{Record}
 use Rattle.ll_report.specs.declared.options.Shown.{Shown}
 use Rattle.ll_trace.specs.Operations.{op_name}
 use Rattle.ll_report.specs.declared.spans.Form.TheVariants.{Answers, Explanations}
+use Rattle.ll_report.specs.Calls.{call_text}
 use Rattle.ll_report.specs.Found.{Found, answer_at, explanation_at}
 use Rattle.ll_report.specs.Lines.{verdict_of}
+use Rattle.ll_report.specs.Kinds.{kinds_text}
+use Rattle.ll_report.specs.Made.{line_numbers, rows_of}
 use Rattle.ll_report.specs.Report.{Verdict, counts_text, is_allowed, is_moot, is_refused, record_text, verdict_text}
 use Rattle.ll_report.specs.Shown.{behind_line}
 use Rattle.ll_report.specs.Spans.{agree, versions_text}
@@ -16,6 +19,10 @@ use Rattle.ll_report.specs.Spans.{agree, versions_text}
 -- how the report tells of the record of a line
 abbrev pub told_of : Record → List ℕ
 told_of r = record_text r.line r.pid (op_name r.op)
+
+-- how it tells of a record alone, or of the record's call
+abbrev pub told_as : Bool → Record → List ℕ
+told_as kinds r = if kinds then call_text r.op else told_of r
 
 -- what is answered to the record at an index, and how it is explained, under each version
 abbrev pub answers_said : List Found → ℕ → List (List ℕ)
@@ -73,9 +80,26 @@ totals_from are_of_several abi (found ∷ others) = total_under_text are_of_seve
 abbrev pub totals_text : ℕ → List Found → List ℕ
 totals_text oldest founds = totals_from (are_several founds) oldest founds
 
+-- ---- by kind
+
+-- what is said of each record, from its operation on
+abbrev pub said_of : Shown → ℕ → List Found → List Record → List (List ℕ)
+said_of shown oldest founds records = rows_of (λ index r. row_text shown oldest founds index (call_text r.op)) 0 records
+
+-- what is before that on the line of a kind: how many records are of it, and the line of the first
+abbrev pub kind_head : ℕ → ℕ → List ℕ
+kind_head records line = decimal records ++ codes " " ++ decimal line ++ codes " "
+
+-- ---- the report
+
+-- what is shown of records, or of their kinds
+abbrev pub shown_text : Shown → ℕ → List Found → List Record → List ℕ
+shown_text shown oldest founds records =
+    if shown.kinds then kinds_text kind_head (line_numbers records) (said_of shown oldest founds records) else rows_from shown oldest founds 0 records
+
 -- the report over versions of which the oldest has this number
 abbrev pub rows_text : Shown → ℕ → List Found → List Record → List ℕ
-rows_text shown oldest founds records = rows_from shown oldest founds 0 records ++ totals_text oldest founds
+rows_text shown oldest founds records = shown_text shown oldest founds records ++ totals_text oldest founds
 
 -- how many records some version refuses
 abbrev pub refused_under_some : List Found → List Record → ℕ

@@ -10,9 +10,9 @@ use Rattle.ll_report.specs.declared.options.Shown.{Shown}
 use Rattle.ll_report.specs.declared.rows.Row.{Row}
 use Rattle.ll_report.specs.Found.{Found}
 use Rattle.ll_report.specs.Lines.{verdict_of}
-use Rattle.ll_report.specs.Made.{Made, rows_of}
+use Rattle.ll_report.specs.Made.{Made, line_numbers, rows_of}
 use Rattle.ll_report.specs.Report.{is_refused}
-use Rattle.ll_report.specs.Rows.{row_text, told_of, totals_text}
+use Rattle.ll_report.specs.Rows.{row_text, told_as, totals_text}
 
 -- what a finding says, by the tree and the records of the trace: the answers, and the explanations, where they are shown
 abbrev pub found_in : Bool → List Entry → List Record → FindingValue → Found
@@ -25,10 +25,11 @@ found_in explains tree records finding = record {
 abbrev pub founds_in : Bool → List Entry → List Record → List FindingValue → List Found
 founds_in explains tree records findings = map (found_in explains tree records) findings
 
--- what is shown of each record, and the last lines
+-- what is shown of each record, or said of it where kinds are shown, and the last lines
 abbrev pub rows_made : Shown → ℕ → List Found → List Record → Made
 rows_made shown oldest founds records = record {
-  shown = rows_of (λ index r. row_text shown oldest founds index (told_of r)) 0 records;
+  lines = line_numbers records;
+  shown = rows_of (λ index r. row_text shown oldest founds index (told_as shown.kinds r)) 0 records;
   last = totals_text oldest founds;
 }
 
@@ -48,4 +49,4 @@ abbrev pub row_of : Row → List ℕ
 row_of row =
     row_text row.shown row.oldest
     (founds_in row.shown.explanations row.found.tree.now row.found.records.now row.found.findings.now)
-    row.found.index (told_of row.record.now)
+    row.found.index (told_as row.shown.kinds row.record.now)

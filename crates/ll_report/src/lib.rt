@@ -1,8 +1,11 @@
-//! The report: of each record its line and its explanation, and the totals of each version.
+//! The report: of each record or each kind of records its line and its explanation, and the totals of each version.
 #![tactic(auto)]
 
 mod audited;
+mod calls;
 mod findings_at;
+mod grouped;
+mod kinds;
 mod laws;
 mod made;
 mod names;
@@ -18,8 +21,13 @@ mod version_rows;
 mod writing;
 
 pub use audited::Audited;
+pub use calls::Named;
 pub use findings_at::FindingsAt;
-pub use laws::{empty_report, findings_say_what_is_found, spans_give_back_what_was_said};
+pub use grouped::{Grouped, KindRows};
+pub use laws::{
+    empty_report, findings_say_what_is_found, kinds_part_the_records,
+    spans_give_back_what_was_said, worked_kinds,
+};
 pub use made::Rows;
 pub use names::error_name;
 pub use options::{ALL_LINES, Format, Options, Shown};

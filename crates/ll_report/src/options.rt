@@ -12,13 +12,16 @@ pub struct Shown {
     pub refused_alone: bool,
     /// Whether the lines of records alone are shown whose answer isn't the same under all versions.
     pub differing_alone: bool,
+    /// Whether records of which the same is said are one line.
+    pub kinds: bool,
 }
 
-/// All records are shown, without explanations.
+/// All records are shown, one by one, without explanations.
 pub const ALL_LINES: Shown = Shown {
     explanations: false,
     refused_alone: false,
     differing_alone: false,
+    kinds: false,
 };
 
 /// In which form a report is written. Both forms say the same of the same records.

@@ -3,9 +3,10 @@
 ghost use Rattle.std.specs.Prelude.{◌≡◌, ◌+◌, ◌<◌, ◌^◌, ◌&&◌, IfOk, OnOk, count_by, false, length, not};
 ghost use Rattle.std.specs.List.{range_with_len};
 ghost use Rattle.ll_explain.specs.Buffers.{adding};
-ghost use Rattle.ll_report.specs.Rows.{is_row_left_out};
+ghost use Rattle.ll_report.specs.Rows.{is_row_left_out, told_as};
 ghost use Rattle.ll_report.specs.Versions.{answers_in, row_of, some_refuses};
 
+use crate::calls::push_call;
 use crate::findings_at::FindingsAt;
 use crate::options::Shown;
 use crate::pages::{Pages, TooLong};
@@ -80,6 +81,22 @@ pub(crate) struct Row<'f> {
 }
 
 impl<'f> Row<'f> {
+    /// Adds how the report tells of the record: alone, or of its call where kinds are shown.
+    fn push_told(&self, text: &mut TextBuffer)
+        ensures { text.new ≡ adding text.old (told_as self.now.shown.kinds self.now.record.now) }
+    {
+        if self.shown.kinds {
+            push_call(text, &self.record.op);
+        } else {
+            push_record(
+                text,
+                self.record.line,
+                self.record.pid,
+                self.record.op.name(),
+            );
+        }
+    }
+
     /// Adds the record's line, and the explanations if these are shown.
     fn push_line(&self, text: &mut TextBuffer, pages: &mut Pages) -> Result<(), TooLong>
         requires few { self.now.oldest + length self.now.found.findings.now < 2 ^ 64 }
@@ -87,12 +104,7 @@ impl<'f> Row<'f> {
             (answers_in self.now.found.findings.now) self.now.found.index ≡ false }
         ensures { OnOk result (text.new ≡ adding text.old (row_of self.now)) }
     {
-        push_record(
-            text,
-            self.record.line,
-            self.record.pid,
-            self.record.op.name(),
-        );
+        self.push_told(text);
         self.found
             .push_versions::<Verdicts>(text, pages, Form::Answers, self.oldest)?;
         push_words(text, "\n");

@@ -2,23 +2,24 @@
 
 ghost use Rattle.std.specs.Prelude.{◌≡◌, ◌+◌, ◌<◌, ◌^◌, IfOk, length};
 ghost use Rattle.ll_explain.specs.Buffers.{adding};
-ghost use Rattle.ll_report.specs.Rows.{refused_under_some, rows_text, total_under_text, totals_from, totals_text};
+ghost use Rattle.ll_report.specs.Rows.{kind_head, refused_under_some, rows_text, total_under_text, totals_from, totals_text};
 ghost use Rattle.ll_report.specs.Versions.{answered, answers_in, founds_in, rows_made};
 
 use crate::audited::Audited;
 use crate::findings_at::FindingsAt;
+use crate::grouped::{Grouped, KindRows};
 use crate::made::Rows;
 use crate::options::Shown;
 use crate::pages::{Pages, TooLong};
 use crate::report::Totals;
 use crate::row_report::RowReport;
 use crate::rows::{Row, refused_under_some};
-use ll_explain::TextBuffer;
+use ll_explain::{TextBuffer, push_number, push_words};
 use ll_findings::Finding;
 use std::alloc::{AllocError, Global};
 use std::marker::Model;
 
-/// What is shown of the records of a trace over versions of which the oldest has this number, by what was found under
+/// What is shown or, where kinds are shown, said of the records of a trace over versions of which the oldest has this number, by what was found under
 /// each.
 #[derive(Drop)]
 pub struct VersionRows {
@@ -103,6 +104,21 @@ impl Rows for VersionRows {
     }
 }
 
+impl KindRows for VersionRows {
+    ghost head = { kind_head };
+
+    fn line(&self, index: usize) -> u64 {
+        self.audited.located.trace.records()[index].line
+    }
+
+    fn push_head(text: &mut TextBuffer, records: u64, line: u64) {
+        push_number(text, records);
+        push_words(text, " ");
+        push_number(text, line);
+        push_words(text, " ");
+    }
+}
+
 /// The report over versions of which the oldest has this number, by what was found under each, as much as is shown of
 /// it.
 pub fn report_over(
@@ -110,7 +126,7 @@ pub fn report_over(
     audited: Audited,
     shown: Shown,
     oldest: u64,
-) -> Result<RowReport<VersionRows>, AllocError>
+) -> Result<RowReport<Grouped<VersionRows>>, AllocError>
     requires { oldest + length audited.findings < 2 ^ 64 }
     ensures text { IfOk result (λ report. report.text ≡ rows_text shown oldest (founds_in
         shown.explanations audited.located.tree audited.located.trace audited.findings)
@@ -127,6 +143,7 @@ pub fn report_over(
         oldest,
         pages,
     };
+    let rows = Grouped::of(alloc, rows, shown.kinds)?;
     let report = RowReport::of(alloc, rows, refused)?;
     Ok(report)
 }

@@ -2,10 +2,10 @@ use Rattle.std.proofs.Common.{◌∙◌, ◌++◌, List, ℕ, length, ap, count_
 use Rattle.std.specs.List.{range_with_len}
 use Rattle.ll_trace.specs.declared.op.Record.{Record}
 use Rattle.ll_report.specs.Found.{Found}
-use Rattle.ll_report.specs.Rows.{totals_text}
+use Rattle.ll_report.specs.Made.{text_of}
 use Rattle.ll_report.specs.Shown.{Told}
 use Rattle.ll_report.specs.Versions.{founds_in, some_refuses}
-use Rattle.ll_report.proofs.Making.{rows_are}
+use Rattle.ll_report.proofs.ByKind.{text_grouped}
 use Rattle.ll_report.proofs.RowsSaid.{same_refused}
 use Rattle.ll_report.proofs.version_rows.report_over.Goals as goal
 
@@ -14,7 +14,8 @@ returns-clause-text c =
     let records : List Record = c.args.audited.located.trace in
     let founds : List Found = founds_in c.args.shown.explanations c.args.audited.located.tree records c.args.audited.findings in
     ap (λ (t : Told). t.text) c.in_ok-report.ensures
-    ∙ ap (λ (rows : List ℕ). rows ++ totals_text c.args.oldest founds) (rows_are c.args.shown c.args.oldest founds 0 records)
+    ∙ ap text_of c.in_ok-rows.ensures
+    ∙ text_grouped c.args.shown c.args.oldest founds records
 
 pub returns-clause-refused : goal.returns-clause-refused
 returns-clause-refused c =
