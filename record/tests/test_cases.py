@@ -79,6 +79,13 @@ class Reading(unittest.TestCase):
             with self.subTest(call):
                 self.assertEqual(self.case(f'call = "{call}"\npath = "@/way/x"'), [wanted])
 
+    def test_an_open_makes_what_a_link_leads_to(self) -> None:
+        """open(2) with O_CREAT follows a link that leads to nothing; other calls make nothing where a link is."""
+        os.symlink("dir/none", self.folder / "ahead")
+        wanted = {"op": "open", "path": "@/dir/none~new~", "mode": "w", "create": True}
+        self.assertEqual(self.case('call = "open w create"\npath = "@/ahead"'), [wanted])
+        self.assertEqual(self.case('call = "mkdir"\npath = "@/ahead"'), [{"op": "mkdir", "path": "@/ahead~new~"}])
+
     def test_moves(self) -> None:
         self.assertEqual(
             self.case('call = "rename"\nfrom = "@/file"\nto = "@/way/x"'),

@@ -201,15 +201,18 @@ class _CaseReader:
             (self.place / kind_key).fault(f"{path} has kind {seen.kind!r} on this machine: leave out {kind_key}")
         kind = given if seen is None else seen.kind
         if kind is None and or_new:
-            return self._new(key)
+            return self._new(key, follows=follows)
         if kind is None:
             (self.place / key).fault(f'{path} is not on this machine: give its kind, as {kind_key} = "reg"')
         self._list(path, kind, key)
         return path
 
-    def _new(self, key: str) -> str:
-        """The path of an object that a call makes: Landlock judges it by its directory alone, so the name is a new one."""
-        path = self._real(key, follows=False)
+    def _new(self, key: str, *, follows: bool = False) -> str:
+        """The path of an object that a call makes: Landlock judges it by its directory alone, so the name is a new one.
+
+        An open follows a link that leads to nothing, and makes what it leads to.
+        """
+        path = self._real(key, follows=follows)
         directory = directory_of(path)
         self._list(directory, "dir", key)
         return joined(directory, path.rpartition("/")[2] + NEW_NAME)
