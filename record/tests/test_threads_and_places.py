@@ -15,6 +15,7 @@ from landaudit_record.recorder import converting, recordings, tracing
 from landaudit_record.recorder.calls import descriptors, landlock
 from landaudit_record.recorder.scene import BY_UNSEEN_LAYER, MOVING
 
+from .kept_logs import bare
 from .written_logs import CONFINED, CWD, THREAD, WrittenLogs, told
 
 EACCES = "-1 EACCES (Permission denied)"
@@ -224,6 +225,19 @@ class Devices(WrittenLogs):
     def test_a_terminal_that_is_gone(self) -> None:
         opened = f'openat({CWD}, "/dev/pts/9", 0x2 /* O_RDWR */) = 3</dev/pts/9>'
         self.assertEqual(self.commands(opened, "ioctl(3</dev/pts/9>, 0x5401 /* TCGETS */, 0x7f) = 0"), ["char"])
+
+    def test_the_other_end_of_a_terminal_is_opened_by_its_number(self) -> None:
+        """strace 6.1 does not say the path behind the descriptor that TIOCGPTPEER gives."""
+        opened = f'openat({CWD}, "/dev/ptmx", 0x2 /* O_RDWR */) = 3</dev/ptmx<char 5:2>>'
+        peer = "ioctl(3</dev/ptmx<char 5:2>>, 0x5441 /* TIOCGPTPEER */, 0x102 /* O_RDWR|O_NOCTTY */) = 4"
+        number = "ioctl(3</dev/ptmx<char 5:2>>, 0x80045430 /* TIOCGPTN */, [7]) = 0"
+        asks = "ioctl(4</dev/pts/7>, 0x5401 /* TCGETS */, 0x7f) = 0"
+        trace = [bare(record) for record in self.convert(opened, number, peer, asks)]
+        self.assertIn({"op": "open", "path": "/dev/pts/7", "fd": 4, "mode": "rw"}, trace)
+        self.assertEqual(trace[-1], {"op": "ioctl", "fd": 4, "driver": True})
+        self.assertEqual(self.unsaid(), [])
+        self.convert(opened, peer)
+        self.assertEqual(self.unsaid(), [("a path of more than 4096 bytes", True)])
 
     def test_what_is_gone_may_have_been_a_device(self) -> None:
         opened = f'openat({CWD}, "/dev/gone", 0x2 /* O_RDWR */) = 3</dev/gone>'

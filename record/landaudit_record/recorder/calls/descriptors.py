@@ -32,7 +32,7 @@ FIXED = "append-only or immutable"
 AF_UNSPEC, AF_INET, AF_INET6 = 0, 2, 10
 SOCK_STREAM, SOCK_DGRAM, SOCK_RAW, SOCK_TYPE = 1, 2, 3, 0xF
 IPPROTO_TCP = 6
-TIOCGPTPEER = 0x5441
+TIOCGPTN, TIOCGPTPEER = 0x80045430, 0x5441
 
 FIOCLEX, FIONCLEX = 0x5451, 0x5450
 FIOSETOWN, SIOCSPGRP = 0x8901, 0x8902
@@ -56,6 +56,9 @@ LET_THROUGH = frozenset(
         0xC0045878,  # FITHAW
     }
 )
+#: Where terminals are, by the paths of the device that makes them (pts(4)).
+_TERMINALS = {"/dev/ptmx": "/dev/pts", "/dev/pts/ptmx": "/dev/pts"}
+_NUMBER = re.compile(r"\[(\d+)\]")
 _PORT = re.compile(r"htons\((\d+)\)")
 _PORT_AND_ADDRESS = 6
 OWN_TABLE = "a thread with a descriptor table of its own"
@@ -233,6 +236,8 @@ def _ioctl(scene: Scene, thread: Thread, call: Call) -> None:
     command = arguments.number_at(call, 1) & 0xFFFFFFFF
     if handle is not None and call.ok and command in (FIOCLEX, FIONCLEX):
         handle.close_on_exec = command == FIOCLEX
+    elif handle is not None and call.ok and command == TIOCGPTN:
+        handle.terminal = _terminal(call, of)
     elif command in (FIOSETOWN, SIOCSPGRP):
         scopes.owned(scene, thread, call)
     elif command in ptrace.NAMESPACE_OF_PROCESS:
@@ -246,12 +251,24 @@ def _ioctl(scene: Scene, thread: Thread, call: Call) -> None:
     scene.adopt(thread, call, of.number, handle)
     scene.say(thread, call, "ioctl", fd=of.number, driver=command not in LET_THROUGH)
     if command == TIOCGPTPEER and call.ok:
-        _opened_peer(scene, thread, call)
+        _opened_peer(scene, thread, call, handle)
 
 
-def _opened_peer(scene: Scene, thread: Thread, call: Call) -> None:
-    """The other end of a terminal, which Landlock judges as an open (ioctl_tty(2))."""
+def _terminal(call: Call, of: values.Descriptor) -> str | None:
+    """The path of the terminal whose number a program asks for, to which it has the master."""
+    number = _NUMBER.fullmatch(call.arguments.get(2, ""))
+    folder = _TERMINALS.get(of.path or "")
+    return f"{folder}/{number[1]}" if number is not None and folder is not None else None
+
+
+def _opened_peer(scene: Scene, thread: Thread, call: Call, master: Handle) -> None:
+    """The other end of a terminal, which Landlock judges as an open (ioctl_tty(2)).
+
+    strace 6.1 does not say the path behind the new descriptor; programs ask for the terminal's number before.
+    """
     result = values.descriptor(f"{call.value}{call.note}")
+    if result.behind is None and master.terminal is not None:
+        result = values.Descriptor(result.number, master.terminal, "char")
     flags = arguments.number_at(call, 2)
     scene.put(thread, call, result.number, Handle(result.path, close_on_exec=bool(flags & opening.O_CLOEXEC)))
     opening.succeeded(scene, thread, call, result, flags)
