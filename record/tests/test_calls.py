@@ -172,6 +172,16 @@ class Calls(StraceLines):
         self.assertEqual((first["path"], second["path"]), ("/w/new", "/w/new"))
         self.assertEqual(self.listed()["/w/new"], {"kind": "fifo", "made": True})
 
+    def test_a_socket_that_is_bound_on_a_read_only_file_system_and_an_address_that_is_too_long(self) -> None:
+        unix = 'bind(9<UNIX:[7]>, {sa_family=1 /* AF_UNIX */, sun_path="s"}, 4) = -1 EROFS (Read-only file system)'
+        tcp = "socket(0x2 /* AF_INET */, 0x1 /* SOCK_STREAM */, 0) = 3<TCP:[5]>"
+        port = '{sa_family=0x2 /* AF_INET */, sin_port=htons(80), sin_addr=inet_addr("127.0.0.1")}'
+        error = "= -1 EINVAL (Invalid argument)"
+        self.assertEqual(self.convert(unix, tcp, f"connect(3<TCP:[5]>, {port}, 129) {error}"), [])
+        self.assertEqual(self.unsaid(), ["EROFS before Landlock is asked", "EINVAL before Landlock is asked"])
+        asked = self.convert(tcp, f"connect(3<TCP:[5]>, {port}, 128) {error}")
+        self.assertEqual([bare(record) for record in asked], [{"op": "connect", "port": 80}])
+
     def test_what_a_file_forbids_comes_before_landlock(self) -> None:
         for error in ("ETXTBSY (Text file busy)", "EPERM (Operation not permitted)", "EROFS (Read-only file system)"):
             with self.subTest(error):

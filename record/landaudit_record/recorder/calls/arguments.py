@@ -21,7 +21,7 @@ AT_SYMLINK_NOFOLLOW = 0x100
 _BEFORE_PATHS = frozenset({"EBADF", "EFAULT", "EMFILE", "ENAMETOOLONG", "ENFILE", "ENOSYS"})
 
 #: The error of a call that would change a file system which is mounted read-only; the kernel finds it first.
-_READ_ONLY = "EROFS"
+READ_ONLY = "EROFS"
 
 #: Calls by which the kernel asks Landlock for the removal of a directory before it sees that there is none.
 REMOVING = frozenset({"rmdir", "unlinkat"})
@@ -62,7 +62,7 @@ def spot_at(scene: Scene, thread: Thread, call: Call, base: int | None, path: in
 
 def _asked_path(call: Call, index: int) -> str:
     """The path that an argument is, unless the call failed before Landlock was asked."""
-    if call.error == _READ_ONLY or is_before_paths(call):
+    if call.error == READ_ONLY or is_before_paths(call):
         raise NotAsked(f"{call.error} before Landlock is asked")
     named = path_at(call, index)
     if call.error == "ENOTDIR" and named.endswith("/") and call.name not in REMOVING:

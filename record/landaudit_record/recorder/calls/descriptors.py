@@ -61,6 +61,8 @@ _TERMINALS = {"/dev/ptmx": "/dev/pts", "/dev/pts/ptmx": "/dev/pts"}
 _NUMBER = re.compile(r"\[(\d+)\]")
 _PORT = re.compile(r"htons\((\d+)\)")
 _PORT_AND_ADDRESS = 6
+#: The size of the longest address, that of `struct sockaddr_storage`.
+_LONGEST_ADDRESS = 128
 OWN_TABLE = "a thread with a descriptor table of its own"
 UNREAD_ADDRESS = "an address that could not be read"
 OTHER_FAMILY = "an address of another family than the socket's"
@@ -189,6 +191,8 @@ def _on_port(scene: Scene, thread: Thread, call: Call, op: str) -> None:
     handle = scene.handle(thread, call, values.descriptor(call.arguments[0]))
     if handle is None or call.error == "EBADF":
         return
+    if call.error == "EINVAL" and arguments.number_at(call, 2) > _LONGEST_ADDRESS:
+        raise NotAsked("EINVAL before Landlock is asked")
     if handle.foreign and _family(call) in (AF_INET, AF_INET6):
         raise CannotSay("a port of a socket that came from elsewhere")
     if handle.tcp is not None:

@@ -61,6 +61,8 @@ def bound(scene: Scene, thread: Thread, call: Call) -> None:
     """A UNIX socket that is bound to a name is made like any other object (bind(2), unix(7))."""
     path = values.member(call.arguments[1], "sun_path")
     name = values.text(path) if path is not None else None
+    if call.error == arguments.READ_ONLY:
+        raise NotAsked("EROFS before Landlock is asked")
     if name and not arguments.is_before_paths(call):
         spot = scene.spot(thread, None, name.rstrip("/") or name, False)
         _made(scene, thread, call, "mknod", spot, Node("sock"), kind="sock")
