@@ -9,6 +9,7 @@ from __future__ import annotations
 from unittest import mock
 
 from landaudit_record.common import jsonl
+from landaudit_record.common.trace_lines import FIRST_MADE_UP
 from landaudit_record.recorder import recordings
 from landaudit_record.recorder.calls import descriptors
 
@@ -181,6 +182,18 @@ class Calls(StraceLines):
         self.assertEqual(self.unsaid(), ["EROFS before Landlock is asked", "EINVAL before Landlock is asked"])
         asked = self.convert(tcp, f"connect(3<TCP:[5]>, {port}, 128) {error}")
         self.assertEqual([bare(record) for record in asked], [{"op": "connect", "port": 80}])
+
+    def test_a_made_up_number_is_none_that_the_process_has(self) -> None:
+        """A process may have up to 1,048,576 descriptors (/proc/sys/fs/nr_open)."""
+        trace = self.convert(
+            f'openat({CWD}, "f", 0x1 /* O_WRONLY */) = 3</w/f>',
+            *(f"dup2(3</w/f>, {number}) = {number}</w/f>" for number in range(FIRST_MADE_UP, FIRST_MADE_UP + 3)),
+            f'openat({CWD}, "none", 0 /* O_RDONLY */) = -1 ENOENT (No such file or directory)',
+            f"ftruncate({FIRST_MADE_UP}</w/f>, 0) = 0",
+        )
+        missing = next(record for record in trace if record.get("path") == "/w/none~new~")
+        self.assertGreaterEqual(missing["fd"], FIRST_MADE_UP + 3)
+        self.assertNotIn(FIRST_MADE_UP, [record.get("fd") for record in trace if record["op"] == "close"])
 
     def test_what_a_file_forbids_comes_before_landlock(self) -> None:
         for error in ("ETXTBSY (Text file busy)", "EPERM (Operation not permitted)", "EROFS (Read-only file system)"):

@@ -101,7 +101,9 @@ class Process:
         return any(handle.ruleset == ruleset for handle in self.table.values())
 
     def made_up(self) -> int:
-        """A number that no descriptor of the process ever has."""
+        """A number that no descriptor of the process has during the call: its record is closed at once."""
+        while self.next_made_up in self.table:
+            self.next_made_up += 1
         self.next_made_up += 1
         return self.next_made_up - 1
 
