@@ -1,5 +1,6 @@
 -- Each record of which something is said is of one kind.
-use Rattle.std.proofs.Common.{◌≡◌, ◌∙◌, ◌+◌, ◌<◌, ◌≤◌, ◌&&◌, ◌||◌, ℕ, zero, suc, Bool, true, false, cond, List, [], ◌∷◌, ◌++◌, refl, sym, ap, ap₂, subst, arith, inl, inr}
+use Rattle.std.proofs.Common.{◌≡◌, ◌∙◌, ◌+◌, ◌<◌, ◌≤◌, ◌&&◌, ◌||◌, ℕ, zero, suc, Bool, true, false, cond, List, [], ◌∷◌, ◌++◌}
+use Rattle.std.proofs.Common.{refl, sym, ap, ap₂, subst, arith, inl, inr}
 use Rattle.std.proofs.Common.{get_or, length, take}
 use Rattle.std.specs.Prelude.{◌==◌, ◌⊎◌, bytes_eq, count_by, filter, if◌then◌else◌, map, not}
 use Rattle.std.specs.List.{All, list_any, range_with_len, sum_by}
@@ -13,7 +14,7 @@ use Rattle.std.proofs.lemmas.Slice.Eq.{bytes_eq-Decides}
 use Rattle.std.specs.Cmp.Lexicographic.{nat_list_eq_equiv}
 use Rattle.ll_report.specs.Kinds.{ArePartedByKind, IsLeast, is_kind_of, is_told, Kind, is_first, kind_from, kinds_of, records_like, said_at}
 use Rattle.ll_report.specs.Counted.{records_from}
-use Rattle.ll_report.proofs.KindsCounted.{new_first, and_false, blank_apart, new_first, new_from, new_like, new_said, old_first, old_from, old_said, over_nothing, repeated}
+use Rattle.ll_report.proofs.KindsCounted.{and_false, blank_apart, new_first, new_from, new_like, new_said, old_first, old_from, old_said, repeated}
 
 -- of a list that begins with none and gets one element more, again and again
 module _ (P : List (List ℕ) → Type 0) (none : P []) (more : (said : List (List ℕ)) (text : List ℕ) → P said → P (said ++ text ∷ [])) where
@@ -21,7 +22,8 @@ module _ (P : List (List ℕ) → Type 0) (none : P []) (more : (said : List (Li
   grown said zero fits = none
   grown said (suc k) fits =
       let next : suc k ≡ k + 1 = omega arith in
-      subst P (sym (ap (λ (n : ℕ). take n said) next ∙ take_more said k [] (omega (arith, fits)))) (more (take k said) (get_or said k []) (grown said k (omega (arith, fits))))
+      subst P (sym (ap (λ (n : ℕ). take n said) next ∙ take_more said k [] (omega (arith, fits))))
+      (more (take k said) (get_or said k []) (grown said k (omega (arith, fits))))
 
   pub for_each : (said : List (List ℕ)) → P said
   for_each said = subst P (take_all (length said) said (omega arith)) (grown said (length said) (omega arith))
@@ -82,14 +84,18 @@ module _ (text : List ℕ) (filled : (length text == 0) ≡ false) where
       go : (b : Bool) → list_any (bytes_eq text) said ≡ b → (bytes_eq text last ≡ true) ⊎ (bytes_eq text last ≡ false)
           → cond {A = ℕ} (list_any (bytes_eq text) said) 1 0 + cond ((not (length last == 0) && not (list_any (bytes_eq last) said)) && bytes_eq text last) 1 0
           ≡ cond (list_any (bytes_eq text) said || (bytes_eq text last || false)) 1 0
-      go true is (inl same) = ap₂ (λ (a : Bool) (c : Bool). cond {A = ℕ} a 1 0 + cond (c && bytes_eq text last) 1 0) is (alike same true is) ∙ ap (λ (a : Bool). cond {A = ℕ} (a || (bytes_eq text last || false)) 1 0) (sym is)
+      go true is (inl same) =
+          ap₂ (λ (a : Bool) (c : Bool). cond {A = ℕ} a 1 0 + cond (c && bytes_eq text last) 1 0) is (alike same true is)
+          ∙ ap (λ (a : Bool). cond {A = ℕ} (a || (bytes_eq text last || false)) 1 0) (sym is)
       go false is (inl same) =
           ap₂ (λ (a : Bool) (c : Bool). cond {A = ℕ} a 1 0 + cond (c && bytes_eq text last) 1 0) is (alike same false is)
           ∙ ap (λ (d : Bool). 0 + cond {A = ℕ} d 1 0) same
           ∙ ap₂ (λ (a d : Bool). cond {A = ℕ} (a || (d || false)) 1 0) (sym is) (sym same)
       go b is (inr differ) =
-          ap (λ (d : Bool). cond {A = ℕ} (list_any (bytes_eq text) said) 1 0 + cond {A = ℕ} ((not (length last == 0) && not (list_any (bytes_eq last) said)) && d) 1 0) differ
-          ∙ ap (λ (d : Bool). cond {A = ℕ} (list_any (bytes_eq text) said) 1 0 + cond {A = ℕ} d 1 0) (and_false (not (length last == 0) && not (list_any (bytes_eq last) said)))
+          ap (λ (d : Bool). cond {A = ℕ} (list_any (bytes_eq text) said) 1 0
+          + cond {A = ℕ} ((not (length last == 0) && not (list_any (bytes_eq last) said)) && d) 1 0) differ
+          ∙ ap (λ (d : Bool). cond {A = ℕ} (list_any (bytes_eq text) said) 1 0 + cond {A = ℕ} d 1 0)
+          (and_false (not (length last == 0) && not (list_any (bytes_eq last) said)))
           ∙ plain (list_any (bytes_eq text) said)
           ∙ ap (λ (d : Bool). cond {A = ℕ} (list_any (bytes_eq text) said || (d || false)) 1 0) (sym differ)
         where
@@ -158,7 +164,9 @@ have_all = for_each HaveAll refl have_more
 sum_filtered : {X : Type 0} (f : X → ℕ) (h : ℕ → X) (p : ℕ → Bool) (xs : List ℕ)
     → sum_by f (map h (filter p xs)) ≡ sum_by (λ (k : ℕ). k) (map (λ x. if p x then f (h x) else 0) xs)
 sum_filtered f h p [] = refl
-sum_filtered {X} f h p (x ∷ xs) = go (p x) (sum_filtered f h p xs) ∙ sym (sum_by-cons (λ (k : ℕ). k) (if p x then f (h x) else 0) (map (λ y. if p y then f (h y) else 0) xs))
+sum_filtered {X} f h p (x ∷ xs) =
+    go (p x) (sum_filtered f h p xs)
+    ∙ sym (sum_by-cons (λ (k : ℕ). k) (if p x then f (h x) else 0) (map (λ y. if p y then f (h y) else 0) xs))
   where
     go : (b : Bool) → sum_by f (map h (filter p xs)) ≡ sum_by (λ (k : ℕ). k) (map (λ y. if p y then f (h y) else 0) xs)
         → sum_by f (map h (cond b (x ∷ filter p xs) (filter p xs)))
@@ -188,7 +196,8 @@ pub parted : (said : List (List ℕ)) → ArePartedByKind said
 parted said = record {
   one = λ index below told.
       sum_filtered (λ (kind : Kind). cond (is_kind_of said index kind) 1 0) (kind_from said) (is_first said) (range_with_len 0 (length said))
-      ∙ total_same (λ first. if is_first said first then cond (is_kind_of said index (kind_from said first)) 1 0 else 0) (one_if_first said (said_at said index)) (length said)
+      ∙ total_same (λ first. if is_first said first then cond (is_kind_of said index (kind_from said first)) 1 0 else 0)
+      (one_if_first said (said_at said index)) (length said)
       (λ first _. nested (is_first said first) (bytes_eq (said_at said first) (said_at said index)))
       ∙ one_of_all (said_at said index) (not-true (length (said_at said index) == 0) told) said
       ∙ ap (λ (b : Bool). cond {A = ℕ} b 1 0)

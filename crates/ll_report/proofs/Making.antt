@@ -70,7 +70,8 @@ row_past row index records last past =
 
 -- the row that is found by looking for its record
 pub found_row : (row : ℕ → Record → List ℕ) (index : ℕ) (records found : List Record) (last : List ℕ) (r : Record) → found ≡ records
-    → true ≡ nat_lt index (length found) → r ≡ get_or found index r → row_at (record { lines = line_numbers records; shown = rows_of row 0 records; last = last }) index ≡ row index r
+    → true ≡ nat_lt index (length found) → r ≡ get_or found index r
+    → row_at (record { lines = line_numbers records; shown = rows_of row 0 records; last = last }) index ≡ row index r
 found_row row index records found last r are below is =
     row_at_index row index records r last
     (ap (λ rs. slice_get rs index) (sym are) ∙ slice_get-get_or found index r (ltb-true index (length found) (sym below)) ∙ ap (λ x. Some x) (sym is))

@@ -3,7 +3,8 @@ use Rattle.std.specs.Prelude.{◌==◌, bytes_eq}
 use Rattle.std.proofs.lemmas.Bool.{eqb-true}
 use Rattle.std.proofs.lemmas.List.{get_or_read}
 use Rattle.ll_report.specs.Counted.{AreCounted, IsFirstOf}
-use Rattle.ll_report.proofs.KindsCounted.{as_many, blank_counted, known, known_below, known_counted, known_few, known_firsts, blank_firsts, new_counted, new_firsts, unseen}
+use Rattle.ll_report.proofs.KindsCounted.{as_many, blank_counted, blank_firsts, known, known_below, known_counted, known_few, known_firsts}
+use Rattle.ll_report.proofs.KindsCounted.{new_counted, new_firsts, unseen}
 use Rattle.ll_report.proofs.TextKeys.{at_text, text_added}
 use Rattle.ll_report.proofs.kinds.Kinds.add.Goals as goal
 
@@ -26,20 +27,26 @@ index_mut-requires c =
 pub overflow_add-index_mut : goal.overflow_add-index_mut
 overflow_add-index_mut c =
     let counted = c.requires.counted in
-    let few = known_few counted.0 c.args.text.now _ counted.1.firsts c.in-Some.first.now (sym c.in-Some.ensures.value) c.args.self.now.counts.items counted.1.counts in
-    let below = known_below counted.0 c.args.text.now _ counted.1.firsts c.in-Some.first.now (sym c.in-Some.ensures.value) c.args.self.now.counts.items counted.1.counts in
+    let few =
+    known_few counted.0 c.args.text.now _ counted.1.firsts c.in-Some.first.now (sym c.in-Some.ensures.value)
+    c.args.self.now.counts.items counted.1.counts in
+    let below =
+    known_below counted.0 c.args.text.now _ counted.1.firsts c.in-Some.first.now (sym c.in-Some.ensures.value)
+    c.args.self.now.counts.items counted.1.counts in
     let read = get_or_read c.args.self.now.counts.items c.in-Some.first.now c.index_mut.result.now below c.index_mut.ensures.value 0 in
     omega (arith, few, read, c.args.self.now.counts.ok, c.args.self.now.counts.small)
 
 pub returns-in_ok-push-in-Some : goal.returns-in_ok-push-in-Some
 returns-in_ok-push-in-Some c = λ said counted.
-    let below = known_below said c.args.text.now _ counted.firsts c.in-Some.first.now (sym c.in-Some.ensures.value) c.args.self.now.counts.items counted.counts in
+    let below =
+    known_below said c.args.text.now _ counted.firsts c.in-Some.first.now (sym c.in-Some.ensures.value) c.args.self.now.counts.items counted.counts in
     let read = get_or_read c.args.self.now.counts.items c.in-Some.first.now c.index_mut.result.now below c.index_mut.ensures.value 0 in
     let first = known said c.args.text.now _ counted.firsts c.in-Some.first.now (sym c.in-Some.ensures.value) in
     record {
       counts =
           c.in_ok-push-in-Some.ensures.items
-          ∙ known_counted said c.args.text.now c.args.self.now.counts.items counted.counts c.in-Some.first.now first.0 first.1 first.2 c.index_mut.result.now read;
+          ∙ known_counted said c.args.text.now c.args.self.now.counts.items counted.counts c.in-Some.first.now first.0 first.1 first.2
+          c.index_mut.result.now read;
       firsts = known_firsts said c.args.text.now _ counted.firsts c.in-Some.first.now (sym c.in-Some.ensures.value);
     }
 
@@ -53,6 +60,11 @@ returns-in_ok-push-in-None c = λ said counted.
     omega (arith, c.len.ensures, c.args.self.now.counts.ok, as_many said c.args.text.now c.args.self.now.counts.items counted.counts) in
     let here = ap (at_text c.insert.new.self) (sym key_is) ∙ added.0 ∙ ap (λ (n : ℕ). Some n) number in
     record {
-      counts = c.in_ok-push-in-None.ensures.items ∙ new_counted said c.args.text.now c.args.self.now.counts.items counted.counts filled (unseen said c.args.text.now _ counted.firsts none filled);
-      firsts = new_firsts said c.args.text.now _ _ counted.firsts none filled here (λ other differ. added.1 other (ap (λ (t : List ℕ). bytes_eq t other) key_is ∙ differ));
+      counts =
+          c.in_ok-push-in-None.ensures.items
+          ∙ new_counted said c.args.text.now c.args.self.now.counts.items counted.counts filled
+          (unseen said c.args.text.now _ counted.firsts none filled);
+      firsts =
+          new_firsts said c.args.text.now _ _ counted.firsts none filled here
+          (λ other differ. added.1 other (ap (λ (t : List ℕ). bytes_eq t other) key_is ∙ differ));
     }

@@ -32,6 +32,7 @@ returns c =
     (told_as row.shown.kinds row.record.now) answers (codes "\n") texts
     c.push_told.ensures
     c.in_ok-push_versions.ensures c.push_words.ensures c.in_ok-push_versions-2.ensures
-    ∙ ap (adding c.args.text.now) (apart_shown row.shown row.oldest s.tree.now s.records.now s.findings.now s.index (told_as row.shown.kinds row.record.now) texts
+    ∙ ap (adding c.args.text.now) (apart_shown row.shown row.oldest s.tree.now s.records.now s.findings.now s.index
+    (told_as row.shown.kinds row.record.now) texts
     c.requires.shows
     (behind_told row.shown.explanations row.oldest s.tree.now s.records.now s.findings.now s.index c.if-not-self.false))

@@ -20,7 +20,8 @@ returns-in_ok-push_to-clause-row c =
     c.in-Some.ensures.lookup.0 c.in-Some.ensures.lookup.1 in
     c.in_ok-push_to.ensures
     ∙ ap (λ (rs : List Record). adding c.args.text.now (row_text rows.shown rows.oldest
-    (founds_in rows.shown.explanations all.located.tree rs all.findings) c.args.index (told_as rows.shown.kinds c.in-Some.record.now))) c.records-records.ensures.value
+    (founds_in rows.shown.explanations all.located.tree rs all.findings) c.args.index (told_as rows.shown.kinds c.in-Some.record.now)))
+    c.records-records.ensures.value
     ∙ ap (adding c.args.text.now) (sym row)
     ∙ ap (λ (m : Made). adding c.args.text.now (row_at m c.args.index)) c.self.view_is
 
