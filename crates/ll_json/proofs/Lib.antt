@@ -13,3 +13,4 @@ pub mod RowsTold
 pub mod Visible
 pub mod Shallow
 pub mod ReadBack
+pub mod KindsTold

@@ -14,9 +14,9 @@ use Rattle.serde_json.proofs.Numbers.{number_of-decimal}
 use Rattle.ll_tree.specs.Trees.{Entry}
 use Rattle.ll_trace.specs.declared.op.Record.{Record}
 use Rattle.ll_report.specs.declared.options.Shown.{Shown}
-use Rattle.ll_json.specs.Reports.{last_json, row_json}
+use Rattle.ll_json.specs.Reports.{kind_at, last_json, row_json}
 use Rattle.ll_json.specs.Versions.{Version}
-use Rattle.ll_json.proofs.Shallow.{shallow_last, shallow_row}
+use Rattle.ll_json.proofs.Shallow.{shallow_kind, shallow_last, shallow_row}
 use Rattle.ll_json.proofs.Visible.{visible}
 use Rattle.ll_json.specs.ReadBack.{FitsWords, ItemsFitWords, MembersFitWords, ReadsBack}
 
@@ -81,6 +81,11 @@ pub row_reads_back : (shown : Shown) (tree : List Entry) (oldest : ℕ) (version
     → FitsWords (row_json shown tree oldest versions index r)
     → ReadsBack (row_json shown tree oldest versions index r)
 row_reads_back shown tree oldest versions index r fits = reads_back _ fits (shallow_row shown tree oldest versions index r)
+
+pub kind_reads_back : (shown : Shown) (tree : List Entry) (oldest : ℕ) (versions : List Version) (index records : ℕ) (r : Record)
+    → FitsWords (kind_at shown tree oldest versions index records r)
+    → ReadsBack (kind_at shown tree oldest versions index records r)
+kind_reads_back shown tree oldest versions index records r fits = reads_back _ fits (shallow_kind shown tree oldest versions index records r)
 
 pub last_reads_back : (shown : Shown) (tree : List Entry) (oldest : ℕ) (versions : List Version) (program : List ℕ)
     → FitsWords (last_json shown tree oldest versions program)

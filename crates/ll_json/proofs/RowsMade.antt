@@ -30,7 +30,7 @@ module _ (shown : Shown) (oldest : ℕ) (tree : List Entry) (records : List Reco
         ∙ row_at_index (row_text shown oldest tree records findings) index records r (json_made shown oldest tree records findings program).last there
 
     abbrev line : List ℕ
-    line = line_of oldest r (printed_under said_of tree records findings index)
+    line = line_of shown.kinds oldest r (printed_under said_of tree records findings index)
 
     pub nothing_added : (text : Buffered) → is_row_left_out shown (answers_in findings) index ≡ true → text ≡ adding text (row_at made index)
     nothing_added text out =

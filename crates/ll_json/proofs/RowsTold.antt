@@ -24,7 +24,7 @@ use Rattle.ll_report.specs.Lines.{verdict_of}
 use Rattle.ll_report.specs.Made.{rows_of, text_of}
 use Rattle.ll_report.specs.Report.{is_refused, verdict_text}
 use Rattle.ll_report.specs.Printed.{printed_of, printed_under}
-use Rattle.ll_report.specs.Rows.{answers_said, is_refused_under_some}
+use Rattle.ll_report.specs.Rows.{answers_said, is_refused_under_some, is_row_left_out}
 use Rattle.ll_report.specs.Spans.{Span, spans_from, spans_of}
 use Rattle.ll_report.proofs.Making.{next_rows}
 use Rattle.ll_report.proofs.RowsSaid.{any_map, count_same, map_map, refused_alone}
@@ -34,7 +34,7 @@ use Rattle.ll_json.specs.Versions.{Version}
 use Rattle.ll_json.specs.Parts.{Named, line_text, named_tokens, values_tokens}
 use Rattle.ll_json.specs.Records.{answer_json, answer_members, members_at, members_with, record_json}
 use Rattle.ll_json.specs.Reports.{IsJsonReport, found_of, lines_from, row_line, said_under, total_json, totals_from, totals_json}
-use Rattle.ll_json.specs.Rows.{head_tokens, json_made, line_of, row_text, said_of, separated, span_text, versions_tokens}
+use Rattle.ll_json.specs.Rows.{head_tokens, line_of, opening_tokens, row_as, said_of, separated, span_text, versions_tokens}
 use Rattle.ll_json.specs.Spans.{answers_json, members_text, span_json}
 use Rattle.ll_json.proofs.Enclosing.{named_end, values_end}
 use Rattle.ll_json.proofs.Judged.{members_are, said_is}
@@ -74,7 +74,7 @@ module _ (shown : Shown) (tree : List Entry) (later : List Record) (index : ℕ)
         subst HasOne (sym (members_are tree version index r answer there answered shown.explanations)) (has_one shown.explanations tree version index answer r),
       )
 
-  each_says : (versions : List Version) (findings : List FindingValue) → AreFound shown.explanations tree later versions findings
+  pub each_says : (versions : List Version) (findings : List FindingValue) → AreFound shown.explanations tree later versions findings
       → (printed_under said_of tree later findings index ≡ map members_text (said_under shown tree versions index))
       × AllHaveOne (said_under shown tree versions index)
   each_says [] [] found = (refl, tt)
@@ -134,7 +134,7 @@ module _ (oldest : ℕ) (said : List (List Named)) where
       go true goes_on ends = goes_on
       go false goes_on ends = (fits, ends)
 
-fit_all : (oldest : ℕ) (said : List (List Named)) → AllHaveOne said → AllFit oldest said (spans_of oldest (map members_text said))
+pub fit_all : (oldest : ℕ) (said : List (List Named)) → AllHaveOne said → AllFit oldest said (spans_of oldest (map members_text said))
 fit_all oldest [] have = tt
 fit_all oldest (first ∷ others) have =
     let here : oldest - oldest ≡ 0 = omega arith in
@@ -144,7 +144,7 @@ fit_all oldest (first ∷ others) have =
 
 -- ---- the text of the answers
 
-members_behind : (named : Named) (more : List Named)
+pub members_behind : (named : Named) (more : List Named)
     → print_from true (named_tokens (named ∷ more) ++ token.end_object ∷ []) ≡ codes "," ++ members_text (named ∷ more)
 unfolding print_from
 members_behind named more = refl
@@ -175,7 +175,7 @@ answer_printed behind first last text (named ∷ more) is =
     ∙ append_assoc comma (print (versions_tokens first last)) (codes "," ++ text)
 
 module _ (oldest : ℕ) (said : List (List Named)) where
-  separated_is : (behind : Bool) (spans : List Span) → AllFit oldest said spans
+  pub separated_is : (behind : Bool) (spans : List Span) → AllFit oldest said spans
       → print_from behind (values_tokens (map (span_json oldest said) spans)) ≡ separated behind spans
   unfolding separated print_from
   separated_is behind [] fit = refl
@@ -191,7 +191,7 @@ module _ (oldest : ℕ) (said : List (List Named)) where
 
 -- ---- the line
 
-closing : (b : Bool) → print_from b (token.end_array ∷ token.end_object ∷ []) ≡ codes "]}"
+pub closing : (b : Bool) → print_from b (token.end_array ∷ token.end_object ∷ []) ≡ codes "]}"
 unfolding print_from
 closing true = refl
 closing false = refl
@@ -202,8 +202,8 @@ record_tokens r values =
     ap (λ (ts : List Token). head_tokens r ++ (ts ++ token.end_object ∷ [])) (sym (values_end values))
     ∙ ap (λ (ts : List Token). head_tokens r ++ ts) (append_assoc (values_tokens values) (token.end_array ∷ []) (token.end_object ∷ []))
 
-line_printed : (r : Record) (values : List Json) (text : List ℕ) → print_from false (values_tokens values) ≡ text
-    → line_text (record_json r values) ≡ print (head_tokens r) ++ (text ++ codes "]}\n")
+pub line_printed : (r : Record) (values : List Json) (text : List ℕ) → print_from false (values_tokens values) ≡ text
+    → line_text (record_json r values) ≡ print (opening_tokens false r) ++ (text ++ codes "]}\n")
 line_printed r values text is =
     let ends : List Token = token.end_array ∷ token.end_object ∷ [] in
     let last : Bool = ends_with false (values_tokens values) in
@@ -236,53 +236,49 @@ answered_alike shown tree later (version ∷ newer) (finding ∷ others) found =
 
 module _ (shown : Shown) (tree : List Entry) (later : List Record) (versions : List Version) (findings : List FindingValue)
     (found : AreFound shown.explanations tree later versions findings) where
-  answers_are : (index : ℕ) → answers_said (answers_in findings) index ≡ answers_said (found_of shown tree versions) index
+  pub answers_are : (index : ℕ) → answers_said (answers_in findings) index ≡ answers_said (found_of shown tree versions) index
   answers_are index =
       ap (λ (founds : List Found). answers_said founds index) (answered_alike shown tree later versions findings found)
       ∙ map_map (λ (one : Found). verdict_text (verdict_of (answer_at one index))) bare (found_of shown tree versions)
 
-  refused_are : (index : ℕ) → is_refused_under_some (answers_in findings) index ≡ is_refused_under_some (found_of shown tree versions) index
+  pub refused_are : (index : ℕ) → is_refused_under_some (answers_in findings) index ≡ is_refused_under_some (found_of shown tree versions) index
   refused_are index =
       ap (λ (founds : List Found). is_refused_under_some founds index) (answered_alike shown tree later versions findings found)
       ∙ any_map (λ (one : Found). is_refused (verdict_of (answer_at one index))) bare (found_of shown tree versions)
 
-  some_are : (index : ℕ) → some_refuses findings index ≡ is_refused_under_some (found_of shown tree versions) index
+  pub some_are : (index : ℕ) → some_refuses findings index ≡ is_refused_under_some (found_of shown tree versions) index
   some_are index = sym (refused_alone findings index) ∙ refused_are index
 
-  totals_are : (oldest : ℕ) → totals_from oldest (answers_in findings) ≡ totals_from oldest (found_of shown tree versions)
+  pub totals_are : (oldest : ℕ) → totals_from oldest (answers_in findings) ≡ totals_from oldest (found_of shown tree versions)
   totals_are oldest = ap (totals_from oldest) (answered_alike shown tree later versions findings found) ∙ bare_totals oldest (found_of shown tree versions)
 
 -- ---- the report
 
 module _ (shown : Shown) (oldest : ℕ) (tree : List Entry) (versions : List Version) (later : List Record) (findings : List FindingValue)
     (found : AreFound shown.explanations tree later versions findings) where
-  row_is : (index : ℕ) (r : Record) → index < length later
-      → row_text shown oldest tree later findings index r ≡ row_line shown tree oldest versions index r
-  row_is index r below =
+  -- what a row has, by the text of its answers
+  pub row_is : (kinds : Bool) (line : Record → List Json → List ℕ)
+      → ((r : Record) (values : List Json) (text : List ℕ) → print_from false (values_tokens values) ≡ text
+      → line r values ≡ print (opening_tokens kinds r) ++ (text ++ codes "]}\n"))
+      → (index : ℕ) (r : Record) → index < length later
+      → row_as kinds shown oldest tree later findings index r
+      ≡ (if is_row_left_out shown (found_of shown tree versions) index then [] else line r (answers_json oldest (said_under shown tree versions index)))
+  row_is kinds line printed index r below =
       let said : List (List Named) = said_under shown tree versions index in
       let each = each_says shown tree later index below r versions findings found in
       let spans : List Span = spans_of oldest (map members_text said) in
       ap₂ (λ (out : Bool) (line : List ℕ). if out then [] else line)
       (rw (refused_are shown tree later versions findings found index, answers_are shown tree later versions findings found index) refl)
-      (ap (line_of oldest r) each.0
-      ∙ sym (line_printed r (answers_json oldest said) (separated false spans) (separated_is oldest said false spans (fit_all oldest said each.1))))
+      (ap (line_of kinds oldest r) each.0
+      ∙ sym (printed r (answers_json oldest said) (separated false spans) (separated_is oldest said false spans (fit_all oldest said each.1))))
 
   pub rows_are : (index : ℕ) (records : List Record) → index + length records ≤ length later
-      → flat_map (λ (row : List ℕ). row) (rows_of (row_text shown oldest tree later findings) index records)
+      → flat_map (λ (row : List ℕ). row) (rows_of (row_as false shown oldest tree later findings) index records)
       ≡ lines_from shown tree oldest versions index records
   unfolding rows_of lines_from
   rows_are index [] fits = refl
   rows_are index (r ∷ others) fits =
-      next_rows (row_text shown oldest tree later findings) index r others
-      ∙ ap₂ (λ (line rest : List ℕ). line ++ rest) (row_is index r (omega (arith, fits))) (rows_are (index + 1) others (omega (arith, fits)))
-
-  pub report_is : (program : List ℕ) → IsJsonReport shown tree oldest versions later program (record {
-    text = text_of (json_made shown oldest tree later findings program);
-    refused = count_by (some_refuses findings) (range_with_len 0 (length later));
-  })
-  report_is program = record {
-    text = ap₂ (λ (rows : List ℕ) (totals : List Json). rows ++ line_text (totals_json totals program))
-        (rows_are 0 later (omega arith)) (totals_are shown tree later versions findings found oldest);
-    refused = count_same (some_refuses findings) (is_refused_under_some (found_of shown tree versions))
-        (some_are shown tree later versions findings found) (range_with_len 0 (length later));
-  }
+      next_rows (row_as false shown oldest tree later findings) index r others
+      ∙ ap₂ (λ (line rest : List ℕ). line ++ rest)
+      (row_is false (λ (x : Record) (values : List Json). line_text (record_json x values)) line_printed index r (omega (arith, fits)))
+      (rows_are (index + 1) others (omega (arith, fits)))

@@ -1,5 +1,5 @@
 -- No line of the report nests deeper than its readers read.
-use Rattle.std.proofs.Common.{ℕ, Bool, zero, suc, ◌+◌, ◌-◌, ◌≤◌, List, [], ◌∷◌, map, get_or, Option, Some, None, slice_get, arith}
+use Rattle.std.proofs.Common.{ℕ, Bool, zero, suc, ◌+◌, ◌-◌, ◌≤◌, List, [], ◌∷◌, ◌++◌, codes, map, get_or, Option, Some, None, slice_get, arith}
 use Rattle.json.specs.Json.{Json, string}
 use Rattle.json.specs.Tree.{depth, items_depth, members_depth}
 use Rattle.ll_rights.specs.Rights as files
@@ -7,7 +7,9 @@ use Rattle.ll_rights.specs.Rights.{FsRight}
 use Rattle.ll_rights.specs.NetRights as network
 use Rattle.ll_rights.specs.NetRights.{NetRight}
 use Rattle.ll_tree.specs.Trees.{Entry}
+use Rattle.ll_trace.specs.declared.op.Op.{Op}
 use Rattle.ll_trace.specs.declared.op.Record.{Record}
+use Rattle.ll_trace.specs.Operations.{paths_of}
 use Rattle.ll_semantics.specs.declared.answer.Answer.{Answer}
 use Rattle.ll_semantics.specs.declared.answer.Answer.TheVariants.{Allowed, Moot, Refused}
 use Rattle.ll_reasons.specs.Conditions as conditions
@@ -18,13 +20,15 @@ use Rattle.ll_reasons.specs.Reasons as reasons
 use Rattle.ll_reasons.specs.Reasons.{Reason}
 use Rattle.ll_semantics.specs.Worlds.{judged}
 use Rattle.ll_explain.specs.Words.{words_of}
+use Rattle.ll_report.specs.Calls.{port_of}
 use Rattle.ll_report.specs.Found.{Found}
 use Rattle.ll_report.specs.declared.options.Shown.{Shown}
 use Rattle.ll_report.specs.Spans.{spans_of}
-use Rattle.ll_json.specs.Parts.{items_of, members_of}
-use Rattle.ll_json.specs.Records.{answer_members, bare_layer, explained_if, layers_json, members_at, members_of_both, reason_members, why_members}
-use Rattle.ll_json.specs.Reports.{found_of, last_json, row_json, said_under, totals_from}
-use Rattle.ll_json.specs.Spans.{members_text, span_json}
+use Rattle.ll_json.specs.Parts.{Named, array_of, items_of, members_of}
+use Rattle.ll_json.specs.Records.{answer_members, bare_layer, call_members, explained_if, layers_json, members_at, members_of_both}
+use Rattle.ll_json.specs.Records.{paths_members, port_members, reason_members, said_members, why_members}
+use Rattle.ll_json.specs.Reports.{found_of, kind_at, last_json, row_json, said_under, totals_from}
+use Rattle.ll_json.specs.Spans.{answers_json, members_text, span_json}
 use Rattle.ll_json.specs.Versions.{Version}
 use Rattle.ll_json.specs.Why.{condition_json, layer_json, objection_json, port_rights_json, reason_json, rights_json}
 
@@ -142,6 +146,34 @@ shallow_row shown tree oldest versions index r =
       mapped (span_json oldest said) 6 (λ span. omega (arith, said_at shown tree index versions (span.first - oldest)))
           (spans_of oldest (map members_text said)),
     )
+
+both : (first more : List Named) (n : ℕ) → members_depth (members_of first) ≤ n → members_depth (members_of more) ≤ n
+    → members_depth (members_of (first ++ more)) ≤ n
+both [] more n first rest = rest
+both (named ∷ others) more n first rest = omega (arith, first, both others more n (omega (arith, first)) rest)
+
+on_paths : (paths : List (List ℕ)) → members_depth (members_of (paths_members paths)) ≤ 2
+on_paths [] = omega arith
+on_paths (path ∷ more) = omega (arith, mapped string 0 (λ text. omega arith) (path ∷ more))
+
+on_port : (port : Option ℕ) → members_depth (members_of (port_members port)) ≤ 2
+on_port None = omega arith
+on_port (Some port) = omega arith
+
+call : (op : Op) → members_depth (members_of (call_members op)) ≤ 2
+call op = omega (arith, both (paths_members (paths_of op)) (port_members (port_of op)) 2 (on_paths (paths_of op)) (on_port (port_of op)))
+
+pub shallow_kind : (shown : Shown) (tree : List Entry) (oldest : ℕ) (versions : List Version) (index records : ℕ) (r : Record)
+    → depth (kind_at shown tree oldest versions index records r) ≤ 127
+shallow_kind shown tree oldest versions index records r =
+    let said = said_under shown tree versions index in
+    let answers : List Json = answers_json oldest said in
+    let few : items_depth (items_of answers) ≤ 6 =
+    mapped (span_json oldest said) 6 (λ span. omega (arith, said_at shown tree index versions (span.first - oldest)))
+    (spans_of oldest (map members_text said)) in
+    let deep : members_depth (members_of (said_members r answers)) ≤ 7 =
+    both (call_members r.op) ((codes "answers", array_of answers) ∷ []) 7 (omega (arith, call r.op)) (omega (arith, few)) in
+    omega (arith, deep)
 
 total : (abi : ℕ) (founds : List Found) → items_depth (items_of (totals_from abi founds)) ≤ 1
 unfolding totals_from

@@ -1,15 +1,17 @@
--- A record and its answers as JSON, with their explanations.
--- Source: docs/FORMATS.md, "The report" and "Explanations".
-use Rattle.std.specs.Prelude.{ℕ, Bool, List, [], ◌∷◌, map, Option, Some, None, codes, slice_get, if◌then◌else◌}
+-- A record or a kind of records, and the answers to it, as JSON, with their explanations.
+-- Source: docs/FORMATS.md, "The report", "Explanations" and "Kinds".
+use Rattle.std.specs.Prelude.{ℕ, Bool, List, [], ◌∷◌, ◌++◌, map, Option, Some, None, codes, slice_get, if◌then◌else◌}
 use Rattle.json.specs.Json.{Json, string}
 use Rattle.ll_tree.specs.Trees.{Entry}
 use Rattle.ll_trace.specs.declared.op.Record.{Record}
-use Rattle.ll_trace.specs.Operations.{op_name}
+use Rattle.ll_trace.specs.declared.op.Op.{Op}
+use Rattle.ll_trace.specs.Operations.{op_name, paths_of}
 use Rattle.ll_semantics.specs.declared.answer.Answer.{Answer}
 use Rattle.ll_semantics.specs.declared.answer.Answer.TheVariants.{Allowed, Moot, Refused}
 use Rattle.ll_semantics.specs.Worlds.{judged}
 use Rattle.ll_reasons.specs.Reasons.{Reason}
 use Rattle.ll_reasons.specs.Explanations.{Explanation, nothing, objections, failure, mootness, explained_at, origins_at}
+use Rattle.ll_report.specs.Calls.{port_of}
 use Rattle.ll_report.specs.Lines.{error_name}
 use Rattle.ll_json.specs.Parts.{Named, array_of, object_of, whole}
 use Rattle.ll_json.specs.Versions.{Version}
@@ -64,6 +66,29 @@ record_of told answers = object_of ((codes "line", whole told.0) ∷ (codes "pid
 
 abbrev pub record_json : Record → List Json → Json
 record_json r answers = record_of (about r) answers
+
+-- ---- the call
+
+-- its paths, if it has any, and its port, if it has one
+abbrev pub paths_members : List (List ℕ) → List Named
+paths_members [] = []
+paths_members (path ∷ more) = (codes "paths", array_of (map string (path ∷ more))) ∷ []
+
+abbrev pub port_members : Option ℕ → List Named
+port_members None = []
+port_members (Some port) = (codes "port", whole port) ∷ []
+
+-- what tells of a call: its operation, its paths and its port
+abbrev pub call_members : Op → List Named
+call_members op = (codes "op", string (op_name op)) ∷ (paths_members (paths_of op) ++ port_members (port_of op))
+
+-- what is said of a record: its call and its answers
+abbrev pub said_members : Record → List Json → List Named
+said_members r answers = call_members r.op ++ (codes "answers", array_of answers) ∷ []
+
+-- a kind of so many records, by its first record
+abbrev pub kind_json : ℕ → Record → List Json → Json
+kind_json records r answers = object_of ((codes "records", whole records) ∷ (codes "line", whole r.line) ∷ said_members r answers)
 
 -- ---- what a version answers to the record at an index of its trace
 

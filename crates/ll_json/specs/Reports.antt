@@ -1,18 +1,21 @@
--- The report over versions as JSON: a line for each record that is shown, and one with the totals of each version. One version is a
--- range of one.
--- Source: docs/FORMATS.md, "The report as JSON"; RFC 8259.
-use Rattle.std.specs.Prelude.{◌≡◌, ◌+◌, ℕ, List, [], ◌∷◌, ◌++◌, codes, if◌then◌else◌, length, map}
+-- The report over versions as JSON: a line for each record that is shown, or for each kind of these, and one with the totals of each
+-- version. One version is a range of one.
+-- Source: docs/FORMATS.md, "The report as JSON" and "Kinds"; RFC 8259.
+use Rattle.std.specs.Prelude.{◌≡◌, ◌+◌, ℕ, List, [], ◌∷◌, ◌++◌, None, Option, Some, codes, if◌then◌else◌, length, map, slice_get}
+use Rattle.std.specs.List.{flat_map}
 use Rattle.json.specs.Json.{Json, string}
 use Rattle.ll_tree.specs.Trees.{Entry}
 use Rattle.ll_trace.specs.declared.op.Record.{Record}
 use Rattle.ll_report.specs.declared.options.Shown.{Shown}
 use Rattle.ll_report.specs.Shown.{Told}
 use Rattle.ll_report.specs.Found.{Found, found_under}
+use Rattle.ll_report.specs.Kinds.{Kind, kinds_of}
+use Rattle.ll_report.specs.Made.{rows_of}
 use Rattle.ll_report.specs.Report.{is_allowed, is_moot, is_refused}
 use Rattle.ll_report.specs.Rows.{count_under, is_row_left_out, refused_under_some}
 use Rattle.ll_json.specs.Parts.{Named, array_of, line_text, object_of, whole}
-use Rattle.ll_json.specs.Records.{members_at, record_json}
-use Rattle.ll_json.specs.Spans.{answers_json}
+use Rattle.ll_json.specs.Records.{kind_json, members_at, record_json, said_members}
+use Rattle.ll_json.specs.Spans.{answers_json, members_text}
 use Rattle.ll_json.specs.Versions.{Version}
 
 -- ---- the lines of records
@@ -41,6 +44,33 @@ lines_from shown tree oldest versions index [] = []
 lines_from shown tree oldest versions index (r ∷ others) =
     row_line shown tree oldest versions index r ++ lines_from shown tree oldest versions (index + 1) others
 
+-- ---- the lines of kinds
+
+-- what is said of the record at an index: the end of its line, from its operation on, or nothing of one that is left out
+abbrev pub said_line : Shown → List Entry → ℕ → List Version → ℕ → Record → List ℕ
+said_line shown tree oldest versions index r =
+    if is_row_left_out shown (found_of shown tree versions) index then []
+    else members_text (said_members r (answers_json oldest (said_under shown tree versions index))) ++ codes "\n"
+
+abbrev pub said_lines : Shown → List Entry → ℕ → List Version → List Record → List (List ℕ)
+said_lines shown tree oldest versions records = rows_of (said_line shown tree oldest versions) 0 records
+
+-- the value of a kind of so many records, the first of which is at an index
+abbrev pub kind_at : Shown → List Entry → ℕ → List Version → ℕ → ℕ → Record → Json
+kind_at shown tree oldest versions index records r = kind_json records r (answers_json oldest (said_under shown tree versions index))
+
+-- its line, where the first record is one of these
+abbrev pub kind_line : Shown → List Entry → ℕ → List Version → List Record → Kind → List ℕ
+kind_line shown tree oldest versions records kind = of_first (slice_get records kind.first)
+  where
+    of_first : Option Record → List ℕ
+    of_first None = []
+    of_first (Some r) = line_text (kind_at shown tree oldest versions kind.first kind.records r)
+
+abbrev pub kind_lines : Shown → List Entry → ℕ → List Version → List Record → List ℕ
+kind_lines shown tree oldest versions records =
+    flat_map (kind_line shown tree oldest versions records) (kinds_of (said_lines shown tree oldest versions records))
+
 -- ---- the totals
 
 -- how many records a version answers in each way
@@ -67,8 +97,13 @@ last_json shown tree oldest versions program = totals_json (totals_from oldest (
 
 -- ---- the report
 
+-- the lines of records, or of their kinds
+abbrev pub shown_lines : Shown → List Entry → ℕ → List Version → List Record → List ℕ
+shown_lines shown tree oldest versions records =
+    if shown.kinds then kind_lines shown tree oldest versions records else lines_from shown tree oldest versions 0 records
+
 -- over versions, of which the oldest has this number, on records whose calls meet this tree
 pub record IsJsonReport (shown : Shown) (tree : List Entry) (oldest : ℕ) (versions : List Version) (records : List Record) (program : List ℕ) (report : Told) : Type 0 where
   pub text : report.text
-      ≡ lines_from shown tree oldest versions 0 records ++ line_text (last_json shown tree oldest versions program)
+      ≡ shown_lines shown tree oldest versions records ++ line_text (last_json shown tree oldest versions program)
   pub refused : report.refused ≡ refused_under_some (found_of shown tree versions) records

@@ -1,5 +1,5 @@
 -- The lines of records as they are put together of what is found under each version.
--- Source: docs/FORMATS.md, "The report as JSON"; RFC 8259.
+-- Source: docs/FORMATS.md, "The report as JSON" and "Kinds"; RFC 8259.
 use Rattle.std.specs.Prelude.{ℕ, Bool, true, false, List, [], ◌∷◌, ◌++◌, Option, Some, None, codes, decimal, if◌then◌else◌, slice_get}
 use Rattle.json.specs.Print.{print}
 use Rattle.json.specs.Token as token
@@ -13,13 +13,13 @@ use Rattle.ll_semantics.specs.declared.answer.Answer.{Answer}
 use Rattle.ll_findings.specs.Findings.{FindingValue, said_by}
 use Rattle.ll_explanations.specs.declared.explanation.Explanation.{Explanation}
 use Rattle.ll_report.specs.declared.options.Shown.{Shown}
-use Rattle.ll_report.specs.Made.{Made, rows_of}
+use Rattle.ll_report.specs.Made.{Made, line_numbers, rows_of}
 use Rattle.ll_report.specs.Printed.{printed_under}
 use Rattle.ll_report.specs.Rows.{is_row_left_out}
 use Rattle.ll_report.specs.Spans.{Span, spans_of}
 use Rattle.ll_report.specs.Versions.{answers_in}
 use Rattle.ll_json.specs.Parts.{line_text, named_tokens}
-use Rattle.ll_json.specs.Records.{versions_json}
+use Rattle.ll_json.specs.Records.{call_members, versions_json}
 use Rattle.ll_json.specs.Reports.{totals_from, totals_json}
 use Rattle.ll_json.specs.Values.{answer_tokens, plain_members}
 
@@ -64,19 +64,41 @@ head_tokens r =
     ∷ token.key (codes "op") ∷ token.string (op_name r.op)
     ∷ token.key (codes "answers") ∷ token.begin_array ∷ []
 
--- what is shown of a record, by what each version says of it
-abbrev pub line_of : ℕ → Record → List (List ℕ) → List ℕ
-line_of oldest r said = print (head_tokens r) ++ (separated false (spans_of oldest said) ++ codes "]}\n")
+-- the same of a call alone
+abbrev pub call_tokens : Record → List Token
+call_tokens r = named_tokens (call_members r.op) ++ token.key (codes "answers") ∷ token.begin_array ∷ []
 
--- the row of the record at an index
-abbrev pub row_text : Shown → ℕ → List Entry → List Record → List FindingValue → ℕ → Record → List ℕ
-row_text shown oldest tree records findings index r =
+-- a record is told of alone, or its call
+abbrev pub opening_tokens : Bool → Record → List Token
+opening_tokens kinds r = if kinds then call_tokens r else head_tokens r
+
+-- what is shown of a record, by what each version says of it
+abbrev pub line_of : Bool → ℕ → Record → List (List ℕ) → List ℕ
+line_of kinds oldest r said = print (opening_tokens kinds r) ++ (separated false (spans_of oldest said) ++ codes "]}\n")
+
+-- what is before the call on the line of a kind: how many records are of it, and the line of the first
+abbrev pub kind_tokens : ℕ → ℕ → List Token
+kind_tokens records line =
+    token.begin_object
+    ∷ token.key (codes "records") ∷ token.number (decimal records)
+    ∷ token.key (codes "line") ∷ token.number (decimal line) ∷ []
+
+abbrev pub kind_head : ℕ → ℕ → List ℕ
+kind_head records line = print (kind_tokens records line) ++ codes ","
+
+-- the row of the record at an index, which is told of alone or by its call
+abbrev pub row_as : Bool → Shown → ℕ → List Entry → List Record → List FindingValue → ℕ → Record → List ℕ
+row_as kinds shown oldest tree records findings index r =
     if is_row_left_out shown (answers_in findings) index then []
-    else line_of oldest r (printed_under said_of tree records findings index)
+    else line_of kinds oldest r (printed_under said_of tree records findings index)
+
+abbrev pub row_text : Shown → ℕ → List Entry → List Record → List FindingValue → ℕ → Record → List ℕ
+row_text shown = row_as shown.kinds shown
 
 -- what a report is made of, over versions of which the oldest has this number
 abbrev pub json_made : Shown → ℕ → List Entry → List Record → List FindingValue → List ℕ → Made
 json_made shown oldest tree records findings program = record {
+  lines = line_numbers records;
   shown = rows_of (row_text shown oldest tree records findings) 0 records;
   last = line_text (totals_json (totals_from oldest (answers_in findings)) program);
 }

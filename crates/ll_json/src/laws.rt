@@ -18,7 +18,7 @@ ghost use Rattle.ll_tree.specs.Trees.{Entry};
 ghost use Rattle.ll_trace.specs.declared.op.Record.{Record as OneRecord};
 ghost use Rattle.ll_report.specs.declared.options.Shown.{Shown as Options};
 ghost use Rattle.ll_json.specs.{ReadBack.FitsWords, ReadBack.ReadsBack, Versions.Version};
-ghost use Rattle.ll_json.specs.Reports.{last_json, row_json};
+ghost use Rattle.ll_json.specs.Reports.{kind_at, last_json, row_json};
 ghost use Rattle.ll_json.specs.Why.{condition_json, objection_json, reason_json};
 
 /// The text of some objections.
@@ -82,11 +82,15 @@ pub fn worked_answers()
 
 /// A line of the report is read as the value that was printed, if no number in it is past 64 bits. Before the line feed
 /// that ends it, it has no control character.
-#[tactic(auto, using(crate::proofs::ReadBack::row_reads_back, crate::proofs::ReadBack::last_reads_back))]
+#[tactic(auto, using(crate::proofs::ReadBack::row_reads_back, crate::proofs::ReadBack::kind_reads_back, crate::proofs::ReadBack::last_reads_back))]
 pub fn lines_read_back()
     ensures records { (shown : Options) (tree : List Entry) (oldest : ℕ) (versions : List Version)
         (index : ℕ) (r : OneRecord) → FitsWords (row_json shown tree oldest versions index r)
         → ReadsBack (row_json shown tree oldest versions index r) }
+    ensures kinds { (shown : Options) (tree : List Entry) (oldest : ℕ) (versions : List Version)
+        (index count : ℕ) (r : OneRecord)
+        → FitsWords (kind_at shown tree oldest versions index count r)
+        → ReadsBack (kind_at shown tree oldest versions index count r) }
     ensures totals { (shown : Options) (tree : List Entry) (oldest : ℕ) (versions : List Version)
         (program : List ℕ) → FitsWords (last_json shown tree oldest versions program)
         → ReadsBack (last_json shown tree oldest versions program) }

@@ -1,16 +1,18 @@
-//! The report as JSON: a line for each record that is shown, and one with the totals of each version.
+//! The report as JSON: a line for each record that is shown or for each kind of these, and one with the totals of each version.
 #![tactic(auto, unfolding(crate::specs::Writing::writing))]
 
 ghost use Rattle.std.specs.Prelude.{◌≡◌, ◌+◌, ◌<◌, ◌^◌, IfOk, List, length};
-ghost use Rattle.ll_json.specs.Reports.{IsJsonReport};
+ghost use Rattle.ll_explain.specs.Buffers.{adding};
+ghost use Rattle.ll_json.specs.{Reports.IsJsonReport, Rows.kind_head};
 ghost use Rattle.ll_json.specs.Judged.{AreFound};
 ghost use Rattle.ll_json.specs.Versions.{Version};
 
-use crate::rows::push_line;
+use crate::rows::{push_kind_head, push_line};
 use crate::totals::push_last;
 use ll_explain::TextBuffer;
 use ll_report::{
-    Audited, FindingsAt, Pages, RowReport, Rows, Shown, TooLong, is_left_out, refused_under_some,
+    Audited, FindingsAt, Grouped, KindRows, Pages, RowReport, Rows, Shown, TooLong, is_left_out,
+    refused_under_some,
 };
 use ll_trace::Located;
 use std::alloc::{AllocError, Global};
@@ -63,7 +65,14 @@ impl<'p> Rows for JsonRows<'p> {
         if out {
             return Ok(());
         }
-        push_line(text, &mut self.pages, &row, found, self.oldest)?;
+        push_line(
+            text,
+            &mut self.pages,
+            &row,
+            found,
+            self.shown.kinds,
+            self.oldest,
+        )?;
         Ok(())
     }
 
@@ -77,6 +86,20 @@ impl<'p> Rows for JsonRows<'p> {
     }
 }
 
+impl<'p> KindRows for JsonRows<'p> {
+    ghost head = { kind_head };
+
+    fn line(&self, index: usize) -> u64 {
+        self.audited.located.trace.records()[index].line
+    }
+
+    fn push_head(text: &mut TextBuffer, records: u64, line: u64)
+        ensures { text.new ≡ adding text.old (kind_head records line) }
+    {
+        push_kind_head(text, records, line);
+    }
+}
+
 /// The report as JSON over versions of which the oldest has this number, by what is found under each, as much as is
 /// shown of it, with the version of the program that writes it.
 pub fn json_report<'p>(
@@ -85,7 +108,7 @@ pub fn json_report<'p>(
     shown: Shown,
     oldest: u64,
     program: &'p str,
-) -> Result<RowReport<JsonRows<'p>>, AllocError>
+) -> Result<RowReport<Grouped<JsonRows<'p>>>, AllocError>
     requires { oldest + length audited.findings < 2 ^ 64 }
     ensures { IfOk result (λ report. (versions : List Version)
         → AreFound shown.explanations audited.located.tree audited.located.trace versions
@@ -101,5 +124,6 @@ pub fn json_report<'p>(
         program,
         pages: Pages::new(alloc)?,
     };
+    let rows = Grouped::of(alloc, rows, shown.kinds)?;
     RowReport::of(alloc, rows, refused)
 }

@@ -1,19 +1,22 @@
-//! The lines of records.
+//! The lines of records and of kinds.
 #![tactic(auto, unfolding(crate::specs::Writing::writing))]
 
-ghost use Rattle.std.specs.Prelude.{◌≡◌, ◌+◌, ◌<◌, ◌^◌, OnOk, length};
+ghost use Rattle.std.specs.Prelude.{◌≡◌, ◌∷◌, ◌++◌, ◌+◌, ◌<◌, ◌^◌, OnOk, length, option_map, option_to_list};
 ghost use Rattle.json.specs.Print.{print};
 ghost use Rattle.ll_explain.specs.Buffers.{adding};
 ghost use Rattle.ll_report.specs.Printed.{texts_of};
-ghost use Rattle.ll_json.specs.Rows.{head_tokens, line_of, said_of};
+ghost use Rattle.ll_report.specs.Calls.{paths_in, port_in};
+ghost use Rattle.ll_json.specs.Parts.{named_tokens};
+ghost use Rattle.ll_json.specs.Records.{call_members, paths_members, port_members};
+ghost use Rattle.ll_json.specs.Rows.{call_tokens, head_tokens, kind_head, kind_tokens, line_of, opening_tokens, said_of};
 ghost use Rattle.ll_json.specs.Writing.{writing};
 
 use crate::json_text::JsonText;
 use crate::spans::push_answers;
 use crate::words::{write_number, write_text};
 use ll_explain::{TextBuffer, push_words};
-use ll_report::{FindingsAt, Pages, TooLong};
-use ll_trace::Record;
+use ll_report::{FindingsAt, Named, Pages, TooLong};
+use ll_trace::{Op, Record};
 
 /// Writes which record a line is about.
 fn write_head(out: &mut JsonText, found: &Record)
@@ -27,30 +30,102 @@ fn write_head(out: &mut JsonText, found: &Record)
     out.begin_array();
 }
 
-/// Adds which record a line is about.
+/// Writes a member that is an array of paths.
+fn write_paths(out: &mut JsonText, first: &str, second: Option<&str>)
+    ensures { out.new ≡ writing out.old
+        (named_tokens (paths_members (first.now
+        ∷ option_to_list (option_map (λ path. path.now) second.entry)))) }
+{
+    out.write_key("paths");
+    out.begin_array();
+    out.write_string(first);
+    if let Some(second) = second {
+        out.write_string(second);
+    }
+    out.end_array();
+}
+
+/// Writes the members that say what a call names.
+fn write_named(out: &mut JsonText, named: Named<'_>)
+    ensures { out.new ≡ writing out.old
+        (named_tokens (paths_members (paths_in named.entry)
+        ++ port_members (port_in named.entry))) }
+{
+    match named {
+        Named::Nothing => {}
+        Named::Path(path) => write_paths(out, path, None),
+        Named::Paths(from, to) => write_paths(out, from, Some(to)),
+        Named::Port(port) => write_number(out, "port", port),
+    }
+}
+
+/// Writes the members of a call.
+fn write_call_members(out: &mut JsonText, op: &Op)
+    ensures { out.new ≡ writing out.old (named_tokens (call_members op.now)) }
+{
+    write_text(out, "op", op.name());
+    write_named(out, Named::by(op));
+}
+
+/// Writes a call, to the bracket before its answers.
+fn write_call(out: &mut JsonText, found: &Record)
+    ensures { out.new ≡ writing out.old (call_tokens found.now) }
+{
+    write_call_members(out, &found.op);
+    out.write_key("answers");
+    out.begin_array();
+}
+
+/// Adds how a line tells of a record, or of its call alone, to the bracket before the answers.
 #[tactic(auto, using(crate::proofs::Printed::printed))]
-fn push_head(text: &mut TextBuffer, found: &Record)
-    ensures { text.new ≡ adding text.old (print (head_tokens found.now)) }
+fn push_opening(text: &mut TextBuffer, kinds: bool, found: &Record)
+    ensures { text.new ≡ adding text.old (print (opening_tokens kinds found.now)) }
 {
     let mut out = JsonText::behind(text.take());
-    write_head(&mut out, found);
+    if kinds {
+        write_call(&mut out, found);
+    } else {
+        write_head(&mut out, found);
+    }
     *text = out.into_text();
 }
 
-/// Adds the line of a record, with the answers of neighbouring versions, of which the oldest has this number.
+/// Writes how many records are of a kind, and the line of the first.
+fn write_kind(out: &mut JsonText, records: u64, line: u64)
+    ensures { out.new ≡ writing out.old (kind_tokens records line) }
+{
+    out.begin_object();
+    write_number(out, "records", records);
+    write_number(out, "line", line);
+}
+
+/// Adds what is before the call on the line of a kind.
+#[tactic(auto, using(crate::proofs::Printed::printed, ll_explain::proofs::Buffering::adding_both))]
+pub(crate) fn push_kind_head(text: &mut TextBuffer, records: u64, line: u64)
+    ensures { text.new ≡ adding text.old (kind_head records line) }
+{
+    let mut out = JsonText::behind(text.take());
+    write_kind(&mut out, records, line);
+    *text = out.into_text();
+    push_words(text, ",");
+}
+
+/// Adds the line of a record, or its end from the call on where kinds are shown, with the answers of neighbouring
+/// versions, of which the oldest has this number.
 #[tactic(auto, using(ll_explain::proofs::Buffering::adding_both))]
 pub(crate) fn push_line(
     text: &mut TextBuffer,
     pages: &mut Pages,
     row: &FindingsAt<'_>,
     found: &Record,
+    kinds: bool,
     oldest: u64,
 ) -> Result<(), TooLong>
     requires { oldest + length row.now.findings.now < 2 ^ 64 }
     ensures { OnOk result (text.new
-        ≡ adding text.old (line_of oldest found.now (texts_of said_of row.now))) }
+        ≡ adding text.old (line_of kinds oldest found.now (texts_of said_of row.now))) }
 {
-    push_head(text, found);
+    push_opening(text, kinds, found);
     push_answers(text, pages, row, oldest)?;
     push_words(text, "]}\n");
     Ok(())

@@ -53,5 +53,5 @@ returns-clause-row c =
     line_added rows.shown rows.oldest all.located.tree all.located.trace all.findings rows.program.now c.args.self.now c.self.view_is
     c.args.index r there c.args.text.now _ out
     (c.in_ok-push_line.ensures ∙ ap (λ (records : List Record).
-    adding c.args.text.now (line_of rows.oldest r (printed_under said_of all.located.tree records all.findings c.args.index)))
+    adding c.args.text.now (line_of rows.shown.kinds rows.oldest r (printed_under said_of all.located.tree records all.findings c.args.index)))
     c.records-records.ensures.value)
