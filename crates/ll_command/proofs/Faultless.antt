@@ -549,8 +549,8 @@ are_known =
                   (
                     (refl, flag),
                     (
-                      (refl, sets),
-                      ((refl, sets), ((refl, inr (inr (inl refl))), ((refl, inr (inr (inr refl))), tt))),
+                      (refl, flag),
+                      ((refl, sets), ((refl, sets), ((refl, inr (inr (inl refl))), ((refl, inr (inr (inr refl))), tt)))),
                     ),
                   ),
                 ),

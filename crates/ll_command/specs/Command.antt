@@ -1,4 +1,4 @@
--- The command line: `landaudit --abi N[-M] [--workers N] [--grain N] [--best-effort] [--refused] [--differs] [--explain] [--json] TREE TRACE`, and what it asks for.
+-- The command line: `landaudit --abi N[-M] [--workers N] [--grain N] [--best-effort] [--refused] [--differs] [--explain] [--kinds] [--json] TREE TRACE`, and what it asks for.
 -- Source: docs/FORMATS.md, "The command line".
 use Rattle.std.specs.Prelude.{◌≡◌, ◌≢◌, ◌⊎◌, ◌+◌, ◌-◌, ◌≤◌, ◌==◌, ◌&&◌, ◌||◌, ⊤, is_none, nat_le, nat_lt, ℕ, Bool, true, false, List, [], ◌∷◌, Option, Some, None, codes, fold, length, if◌then◌else◌, option_and_then}
 use Rattle.std.specs.Str.{bytes_eq}
@@ -71,6 +71,7 @@ arguments =
     ∷ flag (codes "refused")
     ∷ flag (codes "differs")
     ∷ flag (codes "explain")
+    ∷ flag (codes "kinds")
     ∷ flag (codes "json")
     ∷ file_argument (codes "TREE")
     ∷ file_argument (codes "TRACE")
@@ -142,6 +143,7 @@ shown_in rows = record {
   explanations = flag_at (codes "explain") rows;
   refused_alone = flag_at (codes "refused") rows;
   differing_alone = flag_at (codes "differs") rows;
+  kinds = flag_at (codes "kinds") rows;
 }
 
 -- how the matches ask to take rulesets

@@ -134,11 +134,20 @@ and what is missing on which path or port; or the condition of its
 error; or why the policy is not asked.",
 };
 
+const KINDS_HELP: Help = Help {
+    short: "Print each kind of record once, and how many records are of it",
+    whole: "\
+Print each kind of record once: how many records are of it, the line
+of the first, and the call with its paths or its port. Records are of
+one kind if the same is printed for their calls. The totals count all
+records.",
+};
+
 const JSON_HELP: Help = Help {
     short: "Print the report as JSON Lines",
     whole: "\
-Print the report as JSON Lines: one object for each record, then one
-with the totals. It has the same content as the text.",
+Print the report as JSON Lines: one object for each record or kind,
+then one with the totals. It has the same content as the text.",
 };
 
 const MORE_HELP: &str = "\
@@ -213,6 +222,7 @@ fn arguments<'a>(alloc: Global) -> Result<Vec<Arg<'a>>, AllocError>
         option(alloc, "refused", ArgAction::SetTrue, REFUSED_HELP),
         option(alloc, "differs", ArgAction::SetTrue, DIFFERS_HELP),
         option(alloc, "explain", ArgAction::SetTrue, EXPLAIN_HELP),
+        option(alloc, "kinds", ArgAction::SetTrue, KINDS_HELP),
         option(alloc, "json", ArgAction::SetTrue, JSON_HELP),
         file_argument(alloc, "TREE", TREE_HELP),
         file_argument(alloc, "TRACE", TRACE_HELP),
@@ -314,6 +324,7 @@ fn shown(matches: &ArgMatches<'_>) -> Shown
         explanations: flag(matches, "explain"),
         refused_alone: flag(matches, "refused"),
         differing_alone: flag(matches, "differs"),
+        kinds: flag(matches, "kinds"),
     }
 }
 

@@ -25,18 +25,42 @@ pub fn command_lines()
     ensures refused { option_map (λ asked. asked.options.shown)
         (request_of (codes "landaudit" ∷ codes "--abi" ∷ codes "4" ∷ codes "--refused"
         ∷ codes "t" ∷ codes "r" ∷ []))
-        ≡ Some (record { explanations = false; refused_alone = true; differing_alone = false }) }
+        ≡ Some (record {
+          explanations = false;
+          refused_alone = true;
+          differing_alone = false;
+          kinds = false;
+        }) }
     ensures explained { option_map (λ asked. asked.options.shown)
         (request_of (codes "landaudit" ∷ codes "--abi" ∷ codes "4" ∷ codes "t"
         ∷ codes "r" ∷ codes "--explain" ∷ []))
-        ≡ Some (record { explanations = true; refused_alone = false; differing_alone = false }) }
+        ≡ Some (record {
+          explanations = true;
+          refused_alone = false;
+          differing_alone = false;
+          kinds = false;
+        }) }
     ensures range { option_map (λ asked. asked.options.abis)
         (request_of (codes "landaudit" ∷ codes "--abi" ∷ codes "1-5" ∷ codes "t"
         ∷ codes "r" ∷ [])) ≡ Some (record { oldest = V1; newest = V5 }) }
     ensures differing { option_map (λ asked. asked.options.shown)
         (request_of (codes "landaudit" ∷ codes "--abi" ∷ codes "1-5" ∷ codes "--differs"
         ∷ codes "t" ∷ codes "r" ∷ []))
-        ≡ Some (record { explanations = false; refused_alone = false; differing_alone = true }) }
+        ≡ Some (record {
+          explanations = false;
+          refused_alone = false;
+          differing_alone = true;
+          kinds = false;
+        }) }
+    ensures kinds { option_map (λ asked. asked.options.shown)
+        (request_of (codes "landaudit" ∷ codes "--abi" ∷ codes "4" ∷ codes "--kinds" ∷ codes "t"
+        ∷ codes "r" ∷ []))
+        ≡ Some (record {
+          explanations = false;
+          refused_alone = false;
+          differing_alone = false;
+          kinds = true;
+        }) }
     ensures json { option_map (λ asked. asked.options.format)
         (request_of (codes "landaudit" ∷ codes "--abi" ∷ codes "4" ∷ codes "t" ∷ codes "--json"
         ∷ codes "r" ∷ [])) ≡ Some Json }

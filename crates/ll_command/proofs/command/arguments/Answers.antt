@@ -17,4 +17,5 @@ returns-clause-rules c =
     ap rule_of c.default_value-2.ensures ∙ ap (spec.with_default (codes "64")) c.number_option-2.ensures.rule in
     ap (map rule_of) c.in_ok-vec.ensures.items
     ∙ ahead abi (ahead workers (ahead grain (ahead c.option.ensures.rule (ahead c.option-2.ensures.rule (ahead c.option-3.ensures.rule
-    (ahead c.option-4.ensures.rule (ahead c.option-5.ensures.rule (ahead c.file_argument.ensures.rule (ahead c.file_argument-2.ensures.rule refl)))))))))
+    (ahead c.option-4.ensures.rule (ahead c.option-5.ensures.rule (ahead c.option-6.ensures.rule
+    (ahead c.file_argument.ensures.rule (ahead c.file_argument-2.ensures.rule refl))))))))))
