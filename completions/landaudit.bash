@@ -9,7 +9,7 @@ _landaudit() {
         prev=${COMP_WORDS[COMP_CWORD - 2]}
     fi
     local versions='1 2 3 4 5 1-2 1-3 1-4 1-5 2-3 2-4 2-5 3-4 3-5 4-5'
-    local options='--abi --best-effort --explain --refused --differs --json --workers --grain -h --help -V --version'
+    local options='--abi --best-effort --explain --refused --differs --kinds --json --workers --grain -h --help -V --version'
     # With an empty answer bash completes names of files; - is standard input.
     COMPREPLY=()
     case $prev in

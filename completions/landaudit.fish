@@ -5,6 +5,7 @@ complete -c landaudit -l best-effort -d 'Judge programs that drop the rights whi
 complete -c landaudit -l explain -d 'Print why calls are refused or moot'
 complete -c landaudit -l refused -d 'Print only refused calls and the totals'
 complete -c landaudit -l differs -d 'Print only calls whose answer differs between the ABIs, and the totals'
+complete -c landaudit -l kinds -d 'Print each kind of record once, with the number of its records'
 complete -c landaudit -l json -d 'Print the report as JSON Lines'
 complete -c landaudit -l workers -x -a '1 2 4 8 16 32 64' -d 'Number of threads, 1 to 64'
 complete -c landaudit -l grain -x -a '0 64 1024' -d 'Fewest records of a forked process that may go to another thread'

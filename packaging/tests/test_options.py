@@ -37,8 +37,8 @@ class Landaudit(unittest.TestCase):
 
     def test_the_source_has_the_options_that_its_documents_name(self) -> None:
         documented = {
-            "--abi", "--best-effort", "--explain", "--refused", "--differs", "--json", "--workers", "--grain",
-            "-h", "--help", "-V", "--version",
+            "--abi", "--best-effort", "--explain", "--refused", "--differs", "--kinds", "--json", "--workers",
+            "--grain", "-h", "--help", "-V", "--version",
         }
         self.assertEqual(options.of_landaudit(), documented)
 

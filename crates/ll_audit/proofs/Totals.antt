@@ -12,7 +12,7 @@ use Rattle.ll_rights.specs.AbiRanges.{versions_in}
 use Rattle.ll_rights.proofs.AbiRanges.{versions_from}
 use Rattle.ll_report.specs.Shown.{Told}
 use Rattle.ll_report.specs.Found.{Found}
-use Rattle.ll_report.specs.Rows.{are_several, rows_from, total_under_text, totals_from}
+use Rattle.ll_report.specs.Rows.{are_several, shown_text, total_under_text, totals_from}
 use Rattle.ll_audit.specs.ShownReports.{IsTextReport, findings, found_at, total_at}
 
 totals_numbered : (several : Bool) (n : ℕ) (found : Abi → Found) (abis : List Abi) → map number_of abis ≡ range_with_len n (length abis)
@@ -25,11 +25,11 @@ totals_numbered several n found (abi ∷ newer) are =
     ap₂ (λ (number : ℕ) (rest : List ℕ). total_under_text several number (found abi) ++ rest) (sym first) (totals_numbered several (n + 1) found newer others)
 
 pub one_total_each : (options : Options) (tree : List Entry) (records : List Record) (report : Told) → IsTextReport options tree records report
-    → report.text ≡ rows_from options.shown (number_of options.abis.oldest) (findings options tree records) 0 records
+    → report.text ≡ shown_text options.shown (number_of options.abis.oldest) (findings options tree records) records
     ++ flat_map (total_at options tree records) (versions_in options.abis)
 one_total_each options tree records report is =
     is.text
-    ∙ ap (λ (totals : List ℕ). rows_from options.shown (number_of options.abis.oldest) (findings options tree records) 0 records ++ totals)
+    ∙ ap (λ (totals : List ℕ). shown_text options.shown (number_of options.abis.oldest) (findings options tree records) records ++ totals)
     (ap (λ (n : ℕ). totals_from (nat_lt 1 n) (number_of options.abis.oldest) (findings options tree records))
     (length-map (versions_in options.abis) (found_at options tree records))
     ∙ totals_numbered (are_several (versions_in options.abis)) (number_of options.abis.oldest) (found_at options tree records)

@@ -1,7 +1,7 @@
 -- What `audit_with` answers: the report on the answers of one fold over the records as they are taken, under each
--- version that is asked for, of which as much is shown as is asked for; and what a report that is ready to be written
--- tells.
--- Source: docs/FORMATS.md, "The report", "Explanations", "Several versions" and "The report as JSON"; the forms of a
+-- version that is asked for, of which as much is shown as is asked for, record by record or by kind; and what a report
+-- that is ready to be written tells.
+-- Source: docs/FORMATS.md, "The report", "Explanations", "Several versions", "The report as JSON" and "Kinds"; the forms of a
 -- report that is ready are the code's own.
 use Rattle.std.specs.Prelude.{◌≡◌, ℕ, List, map}
 use Rattle.ll_rights.specs.declared.abi.Abi.{Abi}

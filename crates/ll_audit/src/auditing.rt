@@ -65,8 +65,8 @@ pub fn audit<R: Threads + Wait + Sync, G: Gate + Sync>(
 
 /// Audits a trace against a tree as `audit` does, with options: under each version of a range, of which each
 /// may take rulesets at best effort. As much of the report is shown as is asked for, explanations behind
-/// the lines of records, or refused records alone, or those whose answer differs between versions. The
-/// totals are those of all records. The report is written in the form that is asked for. Both files are read once,
+/// the lines of records, or refused records alone, or those whose answer differs between versions, one by one or by
+/// kind. The totals are those of all records. The report is written in the form that is asked for. Both files are read once,
 /// whatever the number of versions.
 ///
 /// If `TREE` and `TRACE` are the bytes of both files:

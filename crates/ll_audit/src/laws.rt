@@ -10,7 +10,7 @@ ghost use Rattle.ll_rules.specs.declared.domain.TheConstants.{MOST_LAYERS};
 ghost use Rattle.ll_trace.specs.declared.reader.TheConstants.{MOST_PROCESSES, MOST_RECORDS};
 ghost use Rattle.ll_trace.specs.{declared.op.Record.Record, Entries.entry_at, Records.entry_of};
 ghost use Rattle.ll_semantics.specs.declared.answer.Answer.{Answer};
-ghost use Rattle.ll_report.specs.{Lines.line_of, Rows.rows_from, declared.report.Report.Report as Made, Shown.told_by};
+ghost use Rattle.ll_report.specs.{Lines.line_of, Rows.shown_text, declared.report.Report.Report as Made, Shown.told_by};
 ghost use Rattle.ll_report.specs.declared.options.Options.{Options as Asked};
 ghost use Rattle.ll_rights.specs.AbiRanges.{IsRising, versions_in};
 ghost use Rattle.ll_audit.specs.{declared.source.TheConstants.LARGEST_FILE, Audits.IsReport};
@@ -50,8 +50,8 @@ pub fn plain_options_ask_for_the_report()
 pub fn reports_have_a_total_for_each_version()
     ensures totals { (options : Asked) (tree : List Entry) (records : List Record) (report : Made)
         → IsTextReport options tree records (told_by report)
-        → report.bytes.items ≡ rows_from options.shown (number_of options.abis.oldest)
-        (findings options tree records) 0 records
+        → report.bytes.items ≡ shown_text options.shown (number_of options.abis.oldest)
+        (findings options tree records) records
         ++ flat_map (total_at options tree records) (versions_in options.abis) }
     ensures at_least_one { (options : Asked) → IsRising options.abis
         → 1 ≤ length (versions_in options.abis) }

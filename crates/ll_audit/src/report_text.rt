@@ -6,7 +6,7 @@ ghost use Rattle.ll_report.specs.{Report.report_status, Shown.told_by, Writing.A
 ghost use Rattle.ll_audit.specs.ShownReports.{told_in};
 
 use ll_json::JsonRows;
-use ll_report::{Report, RowReport, VersionRows};
+use ll_report::{Grouped, Report, RowReport, VersionRows};
 use std::alloc::{AllocError, Global};
 use std::io;
 use std::io::Write;
@@ -16,9 +16,9 @@ use std::marker::Model;
 #[derive(Drop)]
 pub(crate) enum Form {
     /// Text.
-    Text(RowReport<VersionRows>),
+    Text(RowReport<Grouped<VersionRows>>),
     /// JSON.
-    Json(RowReport<JsonRows<'static>>),
+    Json(RowReport<Grouped<JsonRows<'static>>>),
 }
 
 /// A report that is ready to be written, row after row, without any memory more.

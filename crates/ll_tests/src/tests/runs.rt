@@ -5,6 +5,7 @@ mod examples;
 mod families;
 mod gates;
 mod json_reports;
+mod kinds;
 mod options;
 mod ready;
 mod refusals;
