@@ -1,6 +1,6 @@
 //! A buffer of fixed size for texts.
 
-ghost use Rattle.std.specs.Prelude.{◌≡◌, ◌<◌, ◌≤◌, ◌^◌, IfOk, OnOk, length};
+ghost use Rattle.std.specs.Prelude.{◌≡◌, ◌<◌, ◌≤◌, ◌^◌, ◌∷◌, [], IfOk, OnOk, length};
 ghost use Rattle.ll_explain.specs.Buffers.{adding, blank, from_byte, holding};
 
 use std::alloc::{AllocError, Global};
@@ -130,6 +130,27 @@ impl TextBuffer {
     /// Adds bytes: leaves out those that are to be left out, holds as many of the others as there is room for, and
     /// counts all.
     pub fn put(&mut self, bytes: &[u8])
+        ensures { self.new ≡ adding self.old bytes.now }
+    {
+        match bytes {
+            [byte] => self.put_byte(*byte),
+            _ => self.put_all(bytes),
+        }
+    }
+
+    /// Adds one byte. What stands between words is added so, without a call that copies bytes.
+    #[tactic(auto, unfolding(crate::specs::Buffers::adding, crate::specs::Buffers::with_byte))]
+    fn put_byte(&mut self, byte: u8)
+        ensures { self.new ≡ adding self.old (byte ∷ []) }
+    {
+        if self.count >= self.skip && self.bytes.len() < self.room {
+            self.bytes.push_reserved(byte);
+        }
+        self.count = self.count.saturating_add(1);
+    }
+
+    /// Adds bytes.
+    fn put_all(&mut self, bytes: &[u8])
         ensures { self.new ≡ adding self.old bytes.now }
     {
         let out = self.skip.saturating_sub(self.count).min(bytes.len());

@@ -12,7 +12,7 @@ use crate::buffer::TextBuffer;
 use crate::rights::{push_port_rights, push_rights};
 use crate::words::{push_escaped, push_numbered, push_words};
 use ll_explanations::{Condition, Which, text_of};
-use ll_rights::{Abi, Fs, Net};
+use ll_rights::{Abi, Fs, Net, RightSet};
 use ll_trace::Op;
 
 /// Adds the rights that a version doesn't know, which has some: if none of those for files is, it is one for ports.

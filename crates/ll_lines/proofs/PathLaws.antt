@@ -91,7 +91,7 @@ is_path-path_of text path is =
     let short : leb (length (text_of path)) LONGEST_PATH ≡ true = rw (text_of-path_of text path is) (le-leb (length text) LONGEST_PATH parts.0) in
     rw ((from_slash text path parts.1).1, short) refl
 
-not_slash : (byte : ℕ) → is_name_byte byte ≡ true → is_slash byte ≡ false
+pub not_slash : (byte : ℕ) → is_name_byte byte ≡ true → is_slash byte ≡ false
 not_slash byte is = elim (is_slash byte) as (λ b. (not b && not (eqb byte 0)) ≡ true → b ≡ false) [ true ↦ λ h. absurd (false≢true h) | false ↦ λ h. refl ] is
 
 not_empty : (name : Name) → not (eqb (length name) 0) ≡ true → name ≢ []

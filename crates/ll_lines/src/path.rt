@@ -1,19 +1,33 @@
 //! Paths as text.
 
-ghost use Rattle.std.specs.Prelude.{◌≡◌, ◌<◌, ◌∷◌, [], ℕ, List, Some, true, is_some, length, IsTrue, MatchOption};
+ghost use Rattle.std.specs.Prelude.{◌≡◌, ◌<◌, ◌≤◌, ◌∷◌, ℕ, List, Some, false, true, is_some, length, slice_index, IsTrue, MatchOption};
 ghost use Rattle.std.specs.List.{list_all, slice_split};
 ghost use Rattle.ll_lines.specs.Paths.{Path, is_slash, is_name_byte, is_name, path_of, front, is_path, text_of};
 
-use memchr::memchr;
-
 /// The longest path, in bytes.
 pub const LONGEST_PATH: usize = 4096;
+
+/// Whether a byte may stand in a name: it is neither a slash nor the character of number 0.
+fn may_be_in_a_name(byte: u8) -> bool
+    ensures { result ≡ is_name_byte byte }
+{
+    byte != b'/' && byte != 0
+}
 
 /// Whether bytes hold neither a slash nor the character of number 0.
 fn has_name_bytes(name: &[u8]) -> bool
     ensures { result ≡ list_all is_name_byte name.now }
 {
-    name.iter().all(|byte| *byte != b'/' && *byte != 0)
+    name.iter().all(|byte| may_be_in_a_name(*byte))
+}
+
+/// Whether bytes that may stand in a name are the name of an object in its directory.
+#[tactic(auto, unfolding(crate::specs::Paths::is_name))]
+fn is_proper(name: &[u8]) -> bool
+    requires { list_all is_name_byte name.now ≡ true }
+    ensures { result ≡ is_name name.now }
+{
+    !name.is_empty() && name != b".".as_slice() && name != b"..".as_slice()
 }
 
 /// Whether bytes are the name of an object in its directory.
@@ -21,20 +35,35 @@ fn has_name_bytes(name: &[u8]) -> bool
 fn name_ok(name: &[u8]) -> bool
     ensures { result ≡ is_name name.now }
 {
-    !name.is_empty() && name != b".".as_slice() && name != b"..".as_slice() && has_name_bytes(name)
+    has_name_bytes(name) && is_proper(name)
 }
 
-/// The bytes in front of the first slash, and those behind it.
-#[tactic(auto, using(crate::proofs::CutLemmas::split_at, crate::proofs::CutLemmas::unsplit))]
-fn cut_name(bytes: &[u8]) -> Option<(&[u8], &[u8])>
-    ensures { MatchOption result (slice_split is_slash bytes.now ≡ bytes.now ∷ [])
-        (λ cut. (slice_split is_slash bytes.now ≡ cut.0.now ∷ slice_split is_slash cut.1.now)
-        × (length cut.1.now < length bytes.now)) }
+/// How many of the first bytes may stand in a name.
+fn name_len(bytes: &[u8]) -> usize
+    ensures within { result ≤ length bytes.now }
+    ensures name { (k : ℕ) → k < result → is_name_byte (slice_index bytes.now k) ≡ true }
+    ensures end { result < length bytes.now
+        → is_name_byte (slice_index bytes.now result) ≡ false }
 {
-    match memchr(b'/', bytes) {
-        None => None,
-        Some(end) => Some((&bytes[..end], &bytes[end + 1..])),
+    let mut len = 0;
+    while len < bytes.len() && may_be_in_a_name(bytes[len]) {
+        len += 1;
     }
+    len
+}
+
+/// The bytes in front of the first slash, and those behind it, if all in front may stand in a name.
+fn cut_name(bytes: &[u8]) -> Option<(&[u8], &[u8])>
+    ensures { MatchOption result
+        (list_all is_name (slice_split is_slash bytes.now) ≡ is_name bytes.now)
+        (λ cut. (slice_split is_slash bytes.now ≡ cut.0.now ∷ slice_split is_slash cut.1.now)
+        × (list_all is_name_byte cut.0.now ≡ true) × (length cut.1.now < length bytes.now)) }
+{
+    let end = name_len(bytes);
+    if end == bytes.len() || bytes[end] == 0 {
+        return None;
+    }
+    Some((&bytes[..end], &bytes[end + 1..]))
 }
 
 /// Whether bytes are names with a slash between each two of them.
@@ -43,7 +72,7 @@ fn are_names(bytes: &[u8]) -> bool
 {
     let mut rest = bytes;
     while let Some((name, others)) = cut_name(rest) {
-        if !name_ok(name) {
+        if !is_proper(name) {
             return false;
         }
         rest = others;

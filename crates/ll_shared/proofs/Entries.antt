@@ -1,5 +1,5 @@
 -- The entries of a tree of forks are what is found in it.
-use Rattle.std.proofs.Common.{◌≡◌, ℕ, ◌+◌, ◌*◌, ◌/◌, ◌%◌, ◌<◌, ◌==◌, false, ◌&&◌, List, [], ◌∷◌, ◌++◌, map, Bor, is_some, Option, Some, None, cond}
+use Rattle.std.proofs.Common.{◌≡◌, ℕ, ◌/◌, ◌%◌, ◌^◌, ◌<◌, ◌==◌, Bool, true, false, ◌&&◌, List, [], ◌∷◌, ◌++◌, map, Bor, is_some, Option, Some, None, cond}
 use Rattle.std.proofs.Common.{if◌then◌else◌, inl, inr, refl, sym, ap, ◌∙◌, arith}
 use Rattle.std.specs.declared.result.Result.{Result}
 use Rattle.std.specs.Result.{IfOk}
@@ -12,11 +12,9 @@ use Rattle.std.proofs.lemmas.Bool.Decides.{nat_tests}
 use Rattle.std.specs.FinMap.{FinMap, find, get, insert, remove, from_entries, get-from_entries, get-insert, get-remove, same_map, nat_cmp-IsAntisymmetric}
 use Rattle.ll_shared.specs.declared.node.Node.{Node}
 use Rattle.ll_shared.specs.declared.node.Node.TheVariants.{Empty, Leaf, Fork'}
-use Rattle.ll_shared.specs.Nodes.{chosen, entries, found, under}
-
--- a key is one with these two bits below if its two lowest bits are these and the rest is the rest
-split_key : (q key bits : ℕ) → bits < 4 → (q == 4 * key + bits) ≡ (q % 4 == bits && q / 4 == key)
-split_key q key bits small = grind (arith, nat_tests)
+use Rattle.ll_shared.specs.Levels.{agree}
+use Rattle.ll_shared.specs.Nodes.{behind, chosen, entries, found, under}
+use Rattle.ll_shared.proofs.Behind.{is_whole}
 
 turned : (a b : ℕ) → (a == b) ≡ (b == a)
 turned a b = grind (arith, nat_tests)
@@ -26,39 +24,55 @@ abbrev or_else : {X : Type 0} → Option X → Option X → Option X
 or_else (Some x) other = Some x
 or_else None other = other
 
+under_tests : {X : Type 0} (a b : Bool) (x : X) → x ≡ (if a then (if b then x else x) else x)
+under_tests true true x = refl
+under_tests true false x = refl
+under_tests false b x = refl
+
+one_more : {X : Type 0} (a b c : Bool) (one more : Option X)
+    → (if a && (b && c) then one else if a then (if b then more else None) else None) ≡ (if a then (if b then (if c then one else more) else None) else None)
+one_more true true true one more = refl
+one_more true true false one more = refl
+one_more true false c one more = refl
+one_more false b c one more = refl
+
 module _ {V : Type 0} where
   -- among entries one after another the first that is there is found
   find_append : (q : ℕ) (xs ys : List (ℕ × V)) → find nat_cmp q (xs ++ ys) ≡ or_else (find nat_cmp q xs) (find nat_cmp q ys)
   find_append q [] ys = refl
   find_append q (x ∷ xs) ys = grind (arith, find_append q xs ys)
 
-  find_under : (q bits : ℕ) (es : List (ℕ × V)) → bits < 4 → find nat_cmp q (under bits es) ≡ (if q % 4 == bits then find nat_cmp (q / 4) es else None)
-  find_under q bits [] small = grind arith
-  find_under q bits (e ∷ es) small =
-      rw (unsigned_tied, split_key q e.0 bits small, find_under q bits es small) (grind (arith, nat_tests))
+  find_under : (levels low q bits : ℕ) (es : List (ℕ × V)) → bits < 4
+      → find nat_cmp q (under levels low bits es) ≡ behind levels low (λ above. if above % 4 == bits then find nat_cmp (above / 4) es else None) q
+  find_under levels low q bits [] small = under_tests (agree levels q low) (q / 4 ^ levels % 4 == bits) None
+  find_under levels low q bits (e ∷ es) small =
+      rw (unsigned_tied, is_whole levels low bits e.0 q small, find_under levels low q bits es small, unsigned_tied)
+      (one_more (agree levels q low) (q / 4 ^ levels % 4 == bits) (q / 4 ^ levels / 4 == e.0) (Some e.1) (find nat_cmp (q / 4 ^ levels / 4) es))
 
-  four_places : (q : ℕ) (a b c d : Option V) →
-      or_else (or_else (or_else (if q % 4 == 0 then a else None) (if q % 4 == 1 then b else None)) (if q % 4 == 2 then c else None))
-      (if q % 4 == 3 then d else None) ≡ chosen q a b c d
-  four_places q a b c d = grind (arith, nat_tests)
+  four_places : (agrees : Bool) (q : ℕ) (a b c d : Option V) →
+      or_else (or_else (or_else (if agrees then (if q % 4 == 0 then a else None) else None) (if agrees then (if q % 4 == 1 then b else None) else None))
+      (if agrees then (if q % 4 == 2 then c else None) else None)) (if agrees then (if q % 4 == 3 then d else None) else None)
+      ≡ (if agrees then chosen q a b c d else None)
+  four_places true q a b c d = grind (arith, nat_tests)
+  four_places false q a b c d = refl
 
   find-entries : (node : Node V) (q : ℕ) → find nat_cmp q (entries node) ≡ found node q
   find-entries Empty q = refl
   find-entries (Leaf key value) q = rw unsigned_tied refl
-  find-entries (Fork' p a b c d) q = rw (
+  find-entries (Fork' levels low p a b c d) q = rw (
     find_append,
     find_append,
     find_append,
-    find_under q 0 (entries a) (omega arith),
-    find_under q 1 (entries b) (omega arith),
-    find_under q 2 (entries c) (omega arith),
-    find_under q 3 (entries d) (omega arith),
-    find-entries a (q / 4),
-    find-entries b (q / 4),
-    find-entries c (q / 4),
-    find-entries d (q / 4),
+    find_under levels.count low q 0 (entries a) (omega arith),
+    find_under levels.count low q 1 (entries b) (omega arith),
+    find_under levels.count low q 2 (entries c) (omega arith),
+    find_under levels.count low q 3 (entries d) (omega arith),
+    find-entries a (q / 4 ^ levels.count / 4),
+    find-entries b (q / 4 ^ levels.count / 4),
+    find-entries c (q / 4 ^ levels.count / 4),
+    find-entries d (q / 4 ^ levels.count / 4),
   )
-      (four_places q _ _ _ _)
+      (four_places (agree levels.count q low) (q / 4 ^ levels.count) _ _ _ _)
 
   -- what the map has is what the tree finds
   pub get_found : (node : Node V) (q : ℕ) → get (from_entries {R = nat_cmp} (entries node)) q ≡ found node q

@@ -1,3 +1,5 @@
+pub mod Digits
+pub mod Behind
 pub mod Copies
 pub mod Entries
 pub mod Crossing

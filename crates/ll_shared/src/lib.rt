@@ -2,6 +2,7 @@
 //! the map, and a change of one of them copies only the way to its key.
 #![tactic(auto)]
 
+mod levels;
 mod map;
 mod node;
 

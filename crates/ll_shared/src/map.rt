@@ -11,16 +11,17 @@ use std::marker::Model;
 
 /// A map from numbers to values whose clones share what they have in common.
 ///
-/// It is a tree over the bits of the keys, two bits a level from the lowest on. Where n keys are dense or random, the
-/// way to each has about half as many forks as n has bits. No way has more than 32, whatever the keys: so calls, and
-/// the dropping of a map, nest 33 levels deep at most. A fork has room for four entries (104 bytes where a value has
-/// eight).
+/// It is a tree over the bits of the keys, two bits a level from the lowest on. A fork has room for four entries (104
+/// bytes where a value has eight) and skips the levels in which all its keys agree: so n entries have at most n - 1
+/// forks, whatever the keys. Where n keys are dense or random, the way to each has about half as many forks as n has
+/// bits. No way has more than 32: so calls, and the dropping of a map, nest 33 levels deep at most.
 ///
-/// Keys that agree in many low bits lie deep. Whoever chooses the keys can make an entry cost 16 forks (1.7 KB where a
-/// value has eight bytes), 32 once the key from which it was split is removed, and a change of a shared map 32. The
-/// bits of keys aren't mixed first: a mixing that is known can be undone, and dense keys would lie further apart.
+/// Whoever chooses the keys can make a way have a fork for each two bits of a key, each of which has an entry of its
+/// own; a change of a shared map then copies so many. The bits of keys aren't mixed first: a mixing that is known can
+/// be undone, and dense keys would lie further apart.
 ///
-/// A map takes memory by the entries that it has and not by those that it had: a fork goes with its last entry.
+/// A map takes memory by the entries that it has and not by those that it had: a fork goes when only one of its four is
+/// left.
 ///
 /// ```
 /// let mut map = SharedMap::new(rt.alloc());
@@ -69,8 +70,8 @@ impl<V: Copy> SharedMap<V> {
     }
 
     /// Gives a key a value, and answers the one that it had. Forks on the way that other maps have too are copied, all
-    /// others are changed where they are; a new key that meets another one takes a fork for each two bits in which
-    /// they agree further. Without memory the map stays as it was.
+    /// others are changed where they are; a new key takes one fork more at most. Without memory the map stays as it
+    /// was.
     pub fn insert(&mut self, key: u64, value: V) -> Result<Option<V>, AllocError>
         ensures old { IfOk result (λ old. old ≡ finite.get self.old key) }
         ensures ok { OnOk result (self.new ≡ finite.insert self.old key value) }

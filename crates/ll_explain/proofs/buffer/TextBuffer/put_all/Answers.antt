@@ -2,7 +2,7 @@ use Rattle.std.proofs.Common.{rules, ◌≡◌, ◌∙◌, ◌≤◌, ◌-◌, l
 use Rattle.std.proofs.lemmas.List.{take_rest}
 use Rattle.ll_explain.specs.Buffers.{Buffered, adding, most_counted}
 use Rattle.ll_explain.proofs.Buffering.{added, filled, part_held, wanted}
-use Rattle.ll_explain.proofs.buffer.TextBuffer.put.Goals as goal
+use Rattle.ll_explain.proofs.buffer.TextBuffer.put_all.Goals as goal
 
 pub returns : goal.returns
 returns c =
