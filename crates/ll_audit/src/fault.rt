@@ -4,7 +4,6 @@ ghost use Rattle.std.specs.Prelude.{◌≡◌};
 ghost use Rattle.ll_audit.specs.{declared.fault.Fault.TheVariants.Memory, Causes.fault_of_pool};
 
 use ll_pool::PoolFault;
-use ll_rules::NoMemory;
 use ll_tree::ReadFault;
 use std::alloc::AllocError;
 use thiserror::Error;
@@ -29,14 +28,6 @@ pub enum Fault {
     /// A thread could not be started.
     #[error("a thread could not be started")]
     NoThread,
-}
-
-impl From<NoMemory> for Fault {
-    ghost from_gives = { λ _ fault. fault ≡ Memory };
-
-    fn from(_none: NoMemory) -> Fault {
-        Fault::Memory
-    }
 }
 
 impl From<AllocError> for Fault {

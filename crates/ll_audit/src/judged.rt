@@ -15,9 +15,8 @@ use ll_findings::Findings;
 use ll_pool::Gate;
 use ll_process::{Answer, Case, Settled};
 use ll_rights::Abi;
-use ll_rules::NoMemory;
 use ll_trace::{Kernel, Located};
-use std::alloc::Global;
+use std::alloc::{AllocError, Global};
 use std::sync::Wait;
 use std::thread::{Threads, join};
 
@@ -44,7 +43,7 @@ fn explain<R: Threads + Sync>(
     explains: bool,
     newer: Findings,
     threads: u64,
-) -> Result<Findings, NoMemory>
+) -> Result<Findings, AllocError>
     requires case { IsCase (case_of located.now settled.now) }
     requires answers { answers.items ≡ judged_in (case_of located.now settled.now) }
     ensures { IfOk result (AddsFinding explains (case_of located.now settled.now) newer) }

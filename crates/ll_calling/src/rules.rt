@@ -12,7 +12,7 @@ use crate::access::access_of;
 use crate::lists::Listed;
 use ll_fitting::{Access, Parent, PathRule, PortRule};
 use ll_lines::Cause;
-use ll_rights::{Fs, Kind};
+use ll_rights::{Fs, Kind, RightSet};
 use ll_values::{number_of, text_in_list, text_of};
 use serde_json::Value;
 use std::alloc::Global;

@@ -7,7 +7,7 @@ ghost use Rattle.ll_values.specs.Lists.{fold_items};
 ghost use Rattle.ll_comparison.specs.Comparisons.{file_rights, network_rights, with_rights_on, with_rule, granted_at};
 
 use ll_lines::Cause;
-use ll_rights::{Fs, Net};
+use ll_rights::{Fs, Net, RightSet};
 use ll_values::{fs_of, items_of, net_of, place_in_list};
 use serde_json::Value;
 use std::alloc::{AllocError, Global};

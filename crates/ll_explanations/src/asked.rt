@@ -15,7 +15,7 @@ use crate::missing::{Test, passing};
 use crate::moved::{MoveRequest, push_denied, push_held_back};
 use crate::objection::{LayerObjection, Noted, Noting, Objection};
 use crate::ports::{handles_files, lacks_on_port};
-use ll_rights::{Fs, Net};
+use ll_rights::{Fs, Net, RightSet};
 use ll_rules::Errno;
 use ll_tree::NodeId;
 use std::alloc::{AllocError, Global};

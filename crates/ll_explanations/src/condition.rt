@@ -17,7 +17,7 @@ ghost use Rattle.ll_explanations.specs.{Meant.text_named, declared.why.Which.The
 use crate::missing::{Test, passing};
 use ll_origins::ProcessOrigins;
 use ll_process::Case;
-use ll_rights::{Abi, Fs, Net, NetRight};
+use ll_rights::{Abi, Fs, Net, NetRight, RightSet};
 use ll_rules::Errno;
 use ll_trace::{Call, Op, Seen};
 

@@ -14,10 +14,10 @@ use crate::objection::LayerObjections;
 use crate::why::Reason;
 use ll_origins::{ProcessOrigins, TraceOrigins, domain_of};
 use ll_process::Case;
-use ll_rules::{Errno, LayerSet, NoMemory};
+use ll_rules::{Errno, LayerSet};
 use ll_semantics::Answer;
 use ll_trace::Seen;
-use std::alloc::Global;
+use std::alloc::{AllocError, Global};
 
 /// Why a record is refused or moot. Its paths are those that the record's call names, its nodes are of the case's tree,
 /// and other records are told by their indices in the trace.
@@ -93,7 +93,7 @@ fn refused(
     index: usize,
     error: Errno,
     numbers: LayerSet,
-) -> Result<Explanation, NoMemory>
+) -> Result<Explanation, AllocError>
     requires answer { IsAnswerAt case.now index (Refused error numbers) }
     requires some { numbers ≢ [] }
     requires trails { AreTrailsAt case.now index trails.now }
@@ -120,7 +120,7 @@ pub fn explain(
     trails: &TraceOrigins,
     index: usize,
     answer: Answer,
-) -> Result<Explanation, NoMemory>
+) -> Result<Explanation, AllocError>
     requires answer { IsAnswerAt case.now index answer }
     requires trails { AreTrailsAt case.now index trails.now }
     ensures { IfOk result (Explains case.now index answer) }

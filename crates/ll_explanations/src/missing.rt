@@ -10,7 +10,7 @@ ghost use Rattle.ll_explanations.specs.Confined.{rules_of};
 ghost use Rattle.ll_explanations.specs.Lacked.{IsTest, gainable, lacked, passes};
 
 use crate::confinement::OneLayer;
-use ll_rights::{Fs, FsRight};
+use ll_rights::{Fs, FsRight, RightSet};
 use ll_rules::{Domain, LayerId, check_path};
 use ll_tree::{NodeId, Tree};
 

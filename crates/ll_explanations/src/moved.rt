@@ -11,7 +11,7 @@ ghost use Rattle.ll_explanations.specs.{InTree.IsObjectionIn, Meanings.objection
 use crate::asked::{gained, missing, push_any};
 use crate::confinement::OneLayer;
 use crate::objection::{Noted, Noting, Objection};
-use ll_rights::Fs;
+use ll_rights::{Fs, RightSet};
 use ll_rules::{How, Move, Target, entering, leaving};
 use ll_tree::{NodeId, Tree};
 

@@ -8,7 +8,7 @@ use Rattle.std.proofs.lemmas.Bool.{cases_eq, cases_lt, eq-eqb}
 use Rattle.std.proofs.lemmas.List.{append-nil, length-append, same_lists}
 use Rattle.std.proofs.lemmas.List.Elements.{All-append, All-head, All-nil, All-push, All-tail, All-weaker}
 use Rattle.std.proofs.lemmas.Option.{get_or_from_slice_get, none-some, same_Some, slice_get_cases, slice_get_within}
-use Rattle.ll_rules.specs.declared.errno.NoMemory.{NoMemory}
+use Rattle.std.specs.declared.alloc.AllocError.{AllocError}
 use Rattle.ll_semantics.specs.declared.answer.Answer.{Answer}
 use Rattle.ll_semantics.specs.declared.answer.Answer.TheVariants.{Moot}
 use Rattle.ll_semantics.specs.Worlds.{judged}
@@ -203,7 +203,7 @@ module _ (case : CaseValue) (base : FindingValue) where
 -- ---- chunks, one behind the other
 
 -- the changes of the first chunks, and the parts that are left
-pub record JoinsChanges (case : CaseValue) (base : FindingValue) (end : ℕ) (all : ChangesValue) (parts : List (Result ChangesValue NoMemory)) : Type 0 where
+pub record JoinsChanges (case : CaseValue) (base : FindingValue) (end : ℕ) (all : ChangesValue) (parts : List (Result ChangesValue AllocError)) : Type 0 where
   pub upto : ℕ
   pub left : List Chunk
   pub compared : AllZip (IsCompared base) left parts
@@ -211,7 +211,7 @@ pub record JoinsChanges (case : CaseValue) (base : FindingValue) (end : ℕ) (al
   pub covers : Covers case base 0 upto all
 
 module _ (case : CaseValue) (base : FindingValue) (end : ℕ) where
-  pub changes_join : (chunks : List Chunk) (all : ChangesValue) (parts : List (Result ChangesValue NoMemory))
+  pub changes_join : (chunks : List Chunk) (all : ChangesValue) (parts : List (Result ChangesValue AllocError))
       → all ≡ record { indices = []; found = record { answers = []; explanations = [] } } → AllZip (IsCompared base) chunks parts
       → AreChunks case 0 end chunks → JoinsChanges case base end all parts
   changes_join chunks all parts none compared are = record {
@@ -222,7 +222,7 @@ module _ (case : CaseValue) (base : FindingValue) (end : ℕ) where
     covers = covers_none case base 0 all none;
   }
 
-  first_joins : (all own : ChangesValue) (upto : ℕ) (left : List Chunk) (parts : List (Result ChangesValue NoMemory))
+  first_joins : (all own : ChangesValue) (upto : ℕ) (left : List Chunk) (parts : List (Result ChangesValue AllocError))
       → AllZip (IsCompared base) left (Ok own ∷ parts) → AreChunks case upto end left → Covers case base 0 upto all
       → JoinsChanges case base end (both_changed all own) parts
   first_joins all own upto [] parts compared are covers = absurd compared
@@ -237,7 +237,7 @@ module _ (case : CaseValue) (base : FindingValue) (end : ℕ) where
         (subst (λ (cv : CaseValue). Covers cv base chunk.from chunk.end own) are.0 compared.0));
   }
 
-  pub changes_join_more : (all own next : ChangesValue) (parts : List (Result ChangesValue NoMemory)) → JoinsChanges case base end all (Ok own ∷ parts)
+  pub changes_join_more : (all own next : ChangesValue) (parts : List (Result ChangesValue AllocError)) → JoinsChanges case base end all (Ok own ∷ parts)
       → next ≡ both_changed all own → JoinsChanges case base end next parts
   changes_join_more all own next parts joins added =
       subst (λ (all : ChangesValue). JoinsChanges case base end all parts) (sym added)

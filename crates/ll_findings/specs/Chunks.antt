@@ -3,7 +3,7 @@
 use Rattle.std.specs.Prelude.{◌≡◌, ◌≤◌, ◌<◌, ℕ, ◌+◌, List, [], ◌∷◌, Some, Result, IfOk, length, slice_get}
 use Rattle.std.specs.List.{All}
 use Rattle.ll_process.specs.Cases.{CaseValue}
-use Rattle.ll_rules.specs.declared.errno.NoMemory.{NoMemory}
+use Rattle.std.specs.declared.alloc.AllocError.{AllocError}
 use Rattle.ll_semantics.specs.Worlds.{judged}
 use Rattle.ll_findings.specs.Findings.{ChangesValue, FindingValue, IsKept, answer_over, kept_over}
 use Rattle.ll_findings.specs.Overlays.{Rise}
@@ -30,5 +30,5 @@ pub record Covers (case : CaseValue) (base : FindingValue) (from end : ℕ) (cha
   pub all : base.answers ≡ [] → from + length changes.indices ≡ end
 
 -- what is found of the records of a chunk otherwise than in a base, unless memory ran out
-abbrev pub IsCompared : FindingValue → Chunk → Result ChangesValue NoMemory → Type 0
+abbrev pub IsCompared : FindingValue → Chunk → Result ChangesValue AllocError → Type 0
 IsCompared base chunk result = IfOk result (Covers chunk.case.now base chunk.from chunk.end)

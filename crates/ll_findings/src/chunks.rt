@@ -12,9 +12,8 @@ use crate::finding::Finding;
 use ll_explanations::explain;
 use ll_origins::TraceOrigins;
 use ll_process::Case;
-use ll_rules::NoMemory;
 use ll_semantics::Answer;
-use std::alloc::Global;
+use std::alloc::{AllocError, Global};
 
 /// The most chunks into which a trace is cut.
 const MOST_CHUNKS: usize = 4;
@@ -30,7 +29,7 @@ pub(crate) fn explain_one(
     index: usize,
     answer: Answer,
     newer: Option<&Finding>,
-) -> Result<SharedExplanation, NoMemory>
+) -> Result<SharedExplanation, AllocError>
     requires index { index < length case.now.records }
     requires answer { IsAnswerAt case.now index answer }
     requires trails { AreTrailsAt case.now index trails.now }
@@ -67,7 +66,7 @@ fn follow_to(
     trails: &mut TraceOrigins,
     from: usize,
     end: usize,
-) -> Result<(), NoMemory>
+) -> Result<(), AllocError>
     requires judged { answers.now ≡ judged case.now.tree case.now.abi case.now.records }
     requires rises { from ≤ end }
     requires within { end ≤ length answers.now }
@@ -82,7 +81,7 @@ fn follow_to(
 
 impl<'a> Chunk<'a> {
     /// Splits this chunk into one of its first records, of which there are so many, and one of the others.
-    fn cut(self, alloc: Global, size: usize) -> Result<(Chunk<'a>, Chunk<'a>), NoMemory>
+    fn cut(self, alloc: Global, size: usize) -> Result<(Chunk<'a>, Chunk<'a>), AllocError>
         ensures cases { IfOk result (λ both. (both.0.case.now ≡ self.entry.case.now)
             × (both.1.case.now ≡ self.entry.case.now)) }
         ensures from { IfOk result (λ both. both.0.from ≡ self.entry.from) }
@@ -124,7 +123,7 @@ pub(crate) fn cut_all<'a>(
     alloc: Global,
     whole: Chunk<'a>,
     count: usize,
-) -> Result<Vec<Chunk<'a>>, NoMemory>
+) -> Result<Vec<Chunk<'a>>, AllocError>
     ensures { IfOk result (λ chunks. AreChunks whole.entry.case.now whole.entry.from
         whole.entry.end chunks.items) }
 {

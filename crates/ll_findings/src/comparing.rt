@@ -18,14 +18,13 @@ use crate::finding::Finding;
 use crate::found::Found;
 use ll_origins::TraceOrigins;
 use ll_process::Case;
-use ll_rules::NoMemory;
 use ll_semantics::Answer;
 use rayon::prelude::*;
 use std::alloc::{AllocError, Global};
 use std::thread::Threads;
 
 /// What is found of consecutive records otherwise than in a base, or that memory ran out.
-type Comparing = Result<Changes, NoMemory>;
+type Comparing = Result<Changes, AllocError>;
 
 /// What is found of the records from an index on, up to another, otherwise than in a base.
 fn compare_from(
@@ -136,7 +135,7 @@ pub(crate) fn explain_all<R: Threads + Sync>(
     case: &Case<'_>,
     answers: &[Answer],
     workers: usize,
-) -> Result<Vec<SharedExplanation>, NoMemory>
+) -> Result<Vec<SharedExplanation>, AllocError>
     requires { answers.now ≡ judged case.now.tree case.now.abi case.now.records }
     ensures as_many { IfOk result (λ all. length all.items ≡ length case.now.records) }
     ensures each { IfOk result

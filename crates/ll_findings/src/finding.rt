@@ -16,7 +16,6 @@ use crate::marks::{mark_all, mark_differing};
 use crate::overlay::overlaid;
 use ll_explanations::Explanation;
 use ll_process::Case;
-use ll_rules::NoMemory;
 use ll_semantics::Answer;
 use ll_trace::{Op, Record};
 use std::alloc::{AllocError, Global};
@@ -53,7 +52,7 @@ impl Finding {
         answers: Vec<Answer>,
         explains: bool,
         workers: usize,
-    ) -> Result<Finding, NoMemory>
+    ) -> Result<Finding, AllocError>
         requires { answers.items ≡ judged case.now.tree case.now.abi case.now.records }
         ensures { IfOk result (Finds explains case.now.tree case.now.abi case.now.records) }
     {
@@ -75,7 +74,7 @@ impl Finding {
         explains: bool,
         marks: &mut Vec<bool>,
         workers: usize,
-    ) -> Result<Finding, NoMemory>
+    ) -> Result<Finding, AllocError>
         requires { answers.items ≡ judged case.now.tree case.now.abi case.now.records }
         ensures finds { IfOk result (Finds explains case.now.tree case.now.abi case.now.records) }
         ensures marks { IfOk result (λ finding. MarksUnless (λ at. FindsAs finding at self.now)

@@ -7,7 +7,6 @@ ghost use Rattle.ll_findings.specs.Findings.{StandsInFront};
 
 use crate::finding::Finding;
 use ll_process::Case;
-use ll_rules::NoMemory;
 use ll_semantics::Answer;
 use std::alloc::{AllocError, Global};
 use std::marker::Model;
@@ -63,7 +62,7 @@ impl Findings {
         answers: Vec<Answer>,
         explains: bool,
         workers: usize,
-    ) -> Result<Findings, NoMemory>
+    ) -> Result<Findings, AllocError>
         requires { answers.items ≡ judged case.now.tree case.now.abi case.now.records }
         ensures { IfOk result
             (StandsInFront explains case.now.tree case.now.abi case.now.records self) }

@@ -8,7 +8,7 @@ ghost use Rattle.ll_fitting.specs.Taken.{is_refused, refused_in, first_refused};
 use crate::fitting::{FittedLayer, FittedPathRule};
 use crate::rights::is_directory;
 use crate::written::Parent;
-use ll_rights::Fs;
+use ll_rights::{Fs, RightSet};
 
 /// A rule that the kernel refuses, by the indices of its layer in the policy and of the rule in it.
 #[derive(Clone, Copy, Debug, PartialEq, Eq)]

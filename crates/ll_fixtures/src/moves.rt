@@ -3,7 +3,7 @@
 ghost use Rattle.ll_tree.specs.Trees.{IsNode};
 
 use crate::layer::{PlainLayer, Refuses, Refusing};
-use ll_rights::{Fs, Kind};
+use ll_rights::{Fs, Kind, RightSet};
 use ll_rules::{Errno, MOST_LAYERS};
 use ll_tree::{NodeId, Tree};
 

@@ -3,7 +3,7 @@
 ghost use Rattle.std.specs.Prelude.{◌≡◌};
 ghost use Rattle.ll_members.specs.Slots.{no_rights, with_rights};
 
-use ll_rights::{Fs, Net, fs_of_name, net_of_name};
+use ll_rights::{Fs, Net, RightSet, fs_of_name, net_of_name};
 
 /// The rights for files, and those for the network, that names stand for.
 #[derive(Clone, Copy)]

@@ -8,7 +8,6 @@ ghost use Rattle.ll_origins.specs.TraceOrigins.{AreTrails, Follows};
 
 use crate::openings::Openings;
 use ll_process::Case;
-use ll_rules::NoMemory;
 use ll_semantics::Answer;
 use ll_shared::SharedMap;
 use ll_trace::{Call, Op, ProcessId, Seen, changes_nothing};
@@ -37,7 +36,7 @@ impl ProcessOrigins {
     }
 
     /// The same once more, as a child has it at first. It shares with this one what neither of them changes.
-    fn again(&self) -> Result<ProcessOrigins, NoMemory>
+    fn again(&self) -> Result<ProcessOrigins, AllocError>
         ensures { IfOk result (λ again. (o : Origins) → Follows self.now o → Follows again o) }
     {
         Ok(ProcessOrigins {
@@ -59,7 +58,7 @@ impl ProcessOrigins {
 
     /// Follows an allowed call, the record at an index of the trace.
     #[tactic(auto, unfolding(ll_reasons::specs::Origins::traced, ll_trace::specs::Borrowed::meant))]
-    fn follow(&mut self, index: u32, seen: &Seen<'_>) -> Result<(), NoMemory>
+    fn follow(&mut self, index: u32, seen: &Seen<'_>) -> Result<(), AllocError>
         ensures { OnOk result ((o : Origins) → Follows self.old o
             → Follows self.new (traced index seen.now o)) }
     {
@@ -81,7 +80,7 @@ impl ProcessOrigins {
 
     /// Follows an allowed call that no kernel changes.
     #[tactic(auto, unfolding(ll_reasons::specs::Origins::traced, ll_trace::specs::Borrowed::is_of_rights))]
-    fn follow_other(&mut self, index: u32, op: &Op) -> Result<(), NoMemory>
+    fn follow_other(&mut self, index: u32, op: &Op) -> Result<(), AllocError>
         requires { is_of_rights op.now ≡ false }
         ensures { OnOk result ((o : Origins) → Follows self.old o
             → Follows self.new (traced index op.now o)) }
@@ -133,7 +132,7 @@ impl TraceOrigins {
     }
 
     /// The same once more. It shares with this one what neither of them changes.
-    pub fn again(&self) -> Result<TraceOrigins, NoMemory>
+    pub fn again(&self) -> Result<TraceOrigins, AllocError>
         ensures { IfOk result (λ again. (sources : Sources)
             → AreTrails self.now.trails.items sources → AreTrails again.trails.items sources) }
     {
@@ -160,7 +159,7 @@ impl TraceOrigins {
         case: &Case<'_>,
         index: usize,
         answer: Answer,
-    ) -> Result<(), NoMemory>
+    ) -> Result<(), AllocError>
         requires index { index < length case.now.records }
         requires answer { IsAnswerAt case.now index answer }
         requires trails { AreTrailsAt case.now index self.old }
@@ -180,7 +179,7 @@ impl TraceOrigins {
         seen: &Seen<'_>,
         process: ProcessId,
         answer: Answer,
-    ) -> Result<(), NoMemory>
+    ) -> Result<(), AllocError>
         requires { is_start seen.now ≡ false → process.0 < length self.old.trails.items }
         ensures { OnOk result ((sources : Sources) → AreTrails self.old.trails.items sources
             → AreTrails self.new.trails.items

@@ -15,7 +15,7 @@ use crate::deciding::{ROOT, each_enough, excesses};
 use crate::gaining::{Gain, gains};
 use crate::granting::{Granting, all_on_objects};
 use crate::layer::Layer;
-use ll_rights::{Fs, FsRight};
+use ll_rights::{Fs, FsRight, RightSet};
 use std::alloc::{AllocError, Global};
 
 /// What the layers of a policy say of a right for files, if it is asked about; else nothing.

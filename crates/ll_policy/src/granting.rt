@@ -12,7 +12,7 @@ ghost use Rattle.ll_policy.specs.Policies.{rules_of};
 ghost use Rattle.ll_policy.specs.Regions.{chains_of, spread};
 
 use crate::layer::Layer;
-use ll_rights::{Fs, FsRight, Net, NetRight};
+use ll_rights::{Fs, FsRight, Net, NetRight, RightSet};
 use std::alloc::{AllocError, Global};
 use std::marker::Model;
 

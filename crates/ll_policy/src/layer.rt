@@ -3,7 +3,7 @@
 ghost use Rattle.std.specs.Prelude.{◌≡◌, ◌-◌, length, position};
 ghost use Rattle.std.specs.List.{list_any};
 
-use ll_rights::{Fs, Net};
+use ll_rights::{Fs, Net, RightSet};
 
 /// A layer of a policy: what it handles, the rights that its rules grant on each object and on each port, by their
 /// numbers, and its scopes.

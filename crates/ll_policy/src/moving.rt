@@ -17,7 +17,7 @@ use crate::deciding::{ROOT, is_file, passes};
 use crate::granting::{Granting, all_on_objects};
 use crate::layer::Layer;
 use crate::regions::all_spread;
-use ll_rights::{Fs, FsRight, Kind};
+use ll_rights::{Fs, FsRight, Kind, RightSet};
 use std::alloc::{AllocError, Global};
 use std::marker::Model;
 

@@ -13,7 +13,7 @@ ghost use Rattle.ll_policy.specs.Regions.{region, single, spread, passes_both, p
 use crate::deciding::passes;
 use crate::granting::{Granting, all_on_objects, all_on_ports};
 use crate::layer::Layer;
-use ll_rights::{Fs, FsRight, NetRight};
+use ll_rights::{Fs, FsRight, NetRight, RightSet};
 use std::alloc::{AllocError, Global};
 
 /// Where a right passes under an old policy and a new one: regions of objects, or ports, by their numbers.

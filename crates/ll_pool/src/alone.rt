@@ -5,14 +5,13 @@ ghost use Rattle.ll_semantics.specs.Worlds.{judged};
 ghost use Rattle.ll_trace.specs.Processes.{kids, roots, IsNumbered};
 ghost use Rattle.ll_pool.specs.Gathered.{ArePiecesOf, processes_in};
 
-use crate::gather::{assemble, keep};
+use crate::gather::assemble;
 use crate::hand::EmptyHand;
 use ll_process::{Answer, Case, Piece, judge};
-use ll_rules::NoMemory;
-use std::alloc::Global;
+use std::alloc::{AllocError, Global};
 
 /// One piece for each root, with all of its descendants.
-fn pieces_of<'c>(alloc: Global, case: &'c Case<'c>) -> Result<Vec<Piece<'c>>, NoMemory>
+fn pieces_of<'c>(alloc: Global, case: &'c Case<'c>) -> Result<Vec<Piece<'c>>, AllocError>
     ensures of_case { IfOk result (λ pieces. ArePiecesOf case.now pieces.items) }
     ensures numbered { IfOk result (λ pieces. IsNumbered case.now.records) }
     ensures shared { IfOk result (λ pieces. (weight : ℕ → ℕ)
@@ -24,7 +23,7 @@ fn pieces_of<'c>(alloc: Global, case: &'c Case<'c>) -> Result<Vec<Piece<'c>>, No
     let mut pieces = Vec::new(alloc);
     while let Some(job) = jobs.pop() {
         let piece = judge(alloc, job, &mut EmptyHand)?;
-        keep(&mut pieces, piece)?;
+        pieces.push(piece)?;
     }
     Ok(pieces)
 }
@@ -32,9 +31,9 @@ fn pieces_of<'c>(alloc: Global, case: &'c Case<'c>) -> Result<Vec<Piece<'c>>, No
 /// The answers to all records of a case, in their order, judged process by process on the caller's
 /// thread.
 #[tactic(auto, using(ll_trace::proofs::EachOnce::each_once_weighed))]
-pub fn judge_alone<'c>(alloc: Global, case: &'c Case<'c>) -> Result<Vec<Answer>, NoMemory>
+pub fn judge_alone<'c>(alloc: Global, case: &'c Case<'c>) -> Result<Vec<Answer>, AllocError>
     ensures { IfOk result (λ answers. answers.items
         ≡ judged case.now.tree case.now.abi case.now.records) }
 {
-    Ok(assemble(alloc, case, pieces_of(alloc, case)?)?)
+    assemble(alloc, case, pieces_of(alloc, case)?)
 }

@@ -1,12 +1,11 @@
 //! The answers of pieces in the order of the records.
 
-ghost use Rattle.std.specs.Prelude.{◌≡◌, ℕ, ◌<◌, IfOk, length, All, vec_len, ◌++◌, ◌∷◌, [], OnOk};
+ghost use Rattle.std.specs.Prelude.{◌≡◌, ℕ, ◌<◌, IfOk, length, All, vec_len};
 ghost use Rattle.ll_semantics.specs.Worlds.{judged};
 ghost use Rattle.ll_trace.specs.Processes.{process_count, times};
 ghost use Rattle.ll_pool.specs.Gathered.{ArePiecesOf, processes_in, put_all};
 
 use ll_process::{Answer, Case, Piece};
-use ll_rules::NoMemory;
 use std::alloc::{AllocError, Global};
 
 /// Puts answers at their indices.
@@ -37,24 +36,4 @@ pub fn assemble(
         put_answers(&mut answers, piece.answers());
     }
     Ok(answers)
-}
-
-/// Adds an item at the end.
-pub(crate) fn keep<T: Drop>(pieces: &mut Vec<T>, piece: T) -> Result<(), NoMemory>
-    ensures { OnOk result (pieces.new.items ≡ pieces.old.items ++ piece ∷ []) }
-{
-    match pieces.push(piece) {
-        Ok(()) => Ok(()),
-        Err(_) => Err(NoMemory),
-    }
-}
-
-/// Adds items at the end.
-pub(crate) fn keep_all<T: Drop>(pieces: &mut Vec<T>, mut more: Vec<T>) -> Result<(), NoMemory>
-    ensures { OnOk result (pieces.new.items ≡ pieces.old.items ++ more.items) }
-{
-    match pieces.append(&mut more) {
-        Ok(()) => Ok(()),
-        Err(_) => Err(NoMemory),
-    }
 }

@@ -6,12 +6,10 @@ ghost use Rattle.ll_process.specs.Jobs.{processes_of, AreJobsOf};
 ghost use Rattle.ll_pool.specs.Rule.{after_giving, ledger};
 ghost use Rattle.ll_pool.specs.Accounts.{OnlyGave, SeenTo, IsAccount};
 
-use crate::gather::keep;
 use crate::queue::{Naming, Queue, QueuePass, pop, push};
 use ll_process::{Hand, Job, Piece, judge};
-use ll_rules::NoMemory;
 use ll_trace::ProcessId;
-use std::alloc::Global;
+use std::alloc::{AllocError, Global};
 use std::sync::Wait;
 use std::sync::atomic::{AtomicUsize, Ordering};
 use std::thread;
@@ -162,7 +160,7 @@ impl<'p, 's, 'c, N: Naming, R: Wait, G> QueueHand<'p, 's, 'c, N, R, G> {
 
 impl<'p, 's, 'c, N: Naming, R: Wait, G: Gate> QueueHand<'p, 's, 'c, N, R, G> {
     /// Judges a job, and adds its piece at the end.
-    fn see_to(&mut self, job: Job<'c>, pieces: &mut Vec<Piece<'c>>) -> Result<(), NoMemory>
+    fn see_to(&mut self, job: Job<'c>, pieces: &mut Vec<Piece<'c>>) -> Result<(), AllocError>
         requires queue { IsPassOf self.old.pool.now.queue self.old.pass }
         requires parts { 0 < (view self.old.pass).parts }
         requires of_case { job.case.now ≡ N.case }
@@ -177,12 +175,12 @@ impl<'p, 's, 'c, N: Naming, R: Wait, G: Gate> QueueHand<'p, 's, 'c, N, R, G> {
         let pool = self.pool;
         pool.gate.begun(job.process());
         let piece = judge(pool.alloc, job, self)?;
-        keep(pieces, piece)?;
+        pieces.push(piece)?;
         Ok(())
     }
 
     /// Gives a root to the queue, or judges it if the queue is full.
-    fn hand_out(&mut self, root: Job<'c>, pieces: &mut Vec<Piece<'c>>) -> Result<(), NoMemory>
+    fn hand_out(&mut self, root: Job<'c>, pieces: &mut Vec<Piece<'c>>) -> Result<(), AllocError>
         requires queue { IsPassOf self.old.pool.now.queue self.old.pass }
         requires parts { 0 < (view self.old.pass).parts }
         requires of_case { root.case.now ≡ N.case }
@@ -205,7 +203,7 @@ impl<'p, 's, 'c, N: Naming, R: Wait, G: Gate> QueueHand<'p, 's, 'c, N, R, G> {
         &mut self,
         roots: Vec<Job<'c>>,
         pieces: &mut Vec<Piece<'c>>,
-    ) -> Result<(), NoMemory>
+    ) -> Result<(), AllocError>
         requires queue { IsPassOf self.old.pool.now.queue self.old.pass }
         requires parts { 0 < (view self.old.pass).parts }
         requires of_case { AreJobsOf N.case roots.items }
@@ -240,7 +238,7 @@ pub(crate) struct WorkerPromise<'p, 'c, N: Naming> {
     pub(crate) queue: &'p Queue<'c, N>,
 }
 
-impl<'p, 'c, N: Naming> Promise<Result<Worked<'c>, NoMemory>> for WorkerPromise<'p, 'c, N> {
+impl<'p, 'c, N: Naming> Promise<Result<Worked<'c>, AllocError>> for WorkerPromise<'p, 'c, N> {
     ghost use Rattle.std.specs.Prelude.{◌≡◌, [], IfOk};
     ghost use Rattle.crossbeam_queue.specs.Passes.{view, IsPassOf};
     ghost use Rattle.ll_pool.specs.Accounts.{IsAccount};
@@ -252,7 +250,7 @@ impl<'p, 'c, N: Naming> Promise<Result<Worked<'c>, NoMemory>> for WorkerPromise<
 impl<'p, 's, 'c, N: Naming, R: Wait, G: Gate> QueueHand<'p, 's, 'c, N, R, G> {
     /// Judges jobs from the queue, until it finds the queue empty while nothing is queued or being
     /// judged, or has found it empty very often in a row.
-    pub(crate) fn work(mut self) -> Result<Worked<'c>, NoMemory>
+    pub(crate) fn work(mut self) -> Result<Worked<'c>, AllocError>
         requires queue { IsPassOf self.pool.now.queue self.pass }
         requires begins { view self.pass ≡ ledger N.case 1 [] [] }
         ensures queue { IfOk result (λ done. IsPassOf self.entry.pool.now.queue done.pass) }

@@ -10,8 +10,7 @@ ghost use Rattle.ll_pool.specs.Rule.{ledger, after_giving, after_taking, IsBalan
 use crossbeam_queue::protocol::{Join, Lesson, Outcome, Protocol, Split};
 use crossbeam_queue::{Pass, RuledArrayQueue};
 use ll_process::{Case, Job};
-use ll_rules::NoMemory;
-use std::alloc::Global;
+use std::alloc::{AllocError, Global};
 use std::collections::LinkedList;
 use std::marker::{Brand, PhantomData};
 use std::sync::Wait;
@@ -120,11 +119,13 @@ pub(crate) type QueuePass<'c> = Pass<Job<'c>, Ledger>;
 
 /// An empty queue, and the first pass to it.
 #[tactic(auto, using(crate::proofs::RuleSteps::begins))]
-pub(crate) fn open<'c, N: Naming>(alloc: Global) -> Result<(Queue<'c, N>, QueuePass<'c>), NoMemory>
+pub(crate) fn open<'c, N: Naming>(
+    alloc: Global,
+) -> Result<(Queue<'c, N>, QueuePass<'c>), AllocError>
     ensures queue { IfOk result (λ made. IsPassOf made.0 made.1) }
     ensures knows { IfOk result (λ made. view made.1 ≡ ledger N.case PARTS [] []) }
 {
-    Ok(Queue::ruled(alloc, ROOM)?)
+    Queue::ruled(alloc, ROOM)
 }
 
 /// Another pass, which gets one part of this pass.

@@ -7,13 +7,11 @@ ghost use Rattle.ll_pool.specs.Gathered.{ArePiecesOf, processes_in};
 ghost use Rattle.crossbeam_queue.specs.Passes.{view, IsPassOf};
 ghost use Rattle.ll_pool.specs.{Rule.IsBalanced, Accounts.IsAccount};
 
-use crate::gather::keep;
 use crate::hand::{Busy, EmptyHand, Gate, Pool, QueueHand, Worked};
 use crate::queue::{Naming, QueuePass, ROOM, open, pop};
 use crate::workers::{PoolFault, Roots, judge_by_workers};
 use ll_process::{Case, Job, Piece, judge};
-use ll_rules::NoMemory;
-use std::alloc::Global;
+use std::alloc::{AllocError, Global};
 use std::marker::Brand;
 use std::sync::Wait;
 use std::thread::Threads;
@@ -50,13 +48,13 @@ fn most_jobs(roots: usize, cut: &[bool]) -> usize
 }
 
 /// The jobs after those for which the queue has room.
-fn beyond_room<'c>(jobs: &mut Vec<Job<'c>>) -> Result<Vec<Job<'c>>, NoMemory>
+fn beyond_room<'c>(jobs: &mut Vec<Job<'c>>) -> Result<Vec<Job<'c>>, AllocError>
     ensures items { IfOk result
         (λ rest. jobs.new.items ≡ take (min (length jobs.old.items) ROOM) jobs.old.items) }
     ensures tail { IfOk result
         (λ rest. rest.items ≡ drop (min (length jobs.old.items) ROOM) jobs.old.items) }
 {
-    Ok(jobs.split_off(jobs.len().min(ROOM))?)
+    jobs.split_off(jobs.len().min(ROOM))
 }
 
 /// `run` on the case that `N` names.
@@ -102,7 +100,7 @@ fn drain<'s, 'c, N: Naming, R: Wait, G: Gate>(
     pool: &Pool<'s, 'c, N, R, G>,
     pass: &mut QueuePass<'c>,
     pieces: &mut Vec<Piece<'c>>,
-) -> Result<(), NoMemory>
+) -> Result<(), AllocError>
     requires queue { IsPassOf pool.now.queue pass.old }
     requires whole { (view pass.old).parts ≡ PARTS }
     requires of_case { (view pass.old).case ≡ N.case }
@@ -117,7 +115,7 @@ fn drain<'s, 'c, N: Naming, R: Wait, G: Gate>(
         };
         pool.gate.begun(job.process());
         let piece = judge(pool.alloc, job, &mut EmptyHand)?;
-        keep(pieces, piece)?;
+        pieces.push(piece)?;
     }
     unreachable!()
 }

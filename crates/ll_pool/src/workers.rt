@@ -6,11 +6,10 @@ ghost use Rattle.ll_pool.specs.{declared.queue.TheConstants.PARTS, Accounts.IsAc
 ghost use Rattle.ll_process.specs.Jobs.{processes_of, AreJobsOf};
 ghost use Rattle.ll_pool.specs.{Rule.ledger, declared.workers.PoolFault.TheVariants.Memory};
 
-use crate::gather::keep_all;
 use crate::hand::{Gate, Pool, QueueHand, Worked, WorkerPromise};
 use crate::queue::{Naming, QueuePass, join, split};
 use ll_process::{Job, Piece};
-use ll_rules::NoMemory;
+use std::alloc::AllocError;
 use std::sync::Wait;
 use std::thread;
 use std::thread::{PromisedHandle, Scope, Threads};
@@ -25,16 +24,16 @@ pub enum PoolFault {
     NoThread,
 }
 
-impl From<NoMemory> for PoolFault {
+impl From<AllocError> for PoolFault {
     ghost from_gives = { λ _ e. e ≡ Memory };
 
-    fn from(_failed: NoMemory) -> PoolFault {
+    fn from(_failed: AllocError) -> PoolFault {
         PoolFault::Memory
     }
 }
 
 /// A worker that was started.
-type Handle<'p, 'c, N> = PromisedHandle<Result<Worked<'c>, NoMemory>, WorkerPromise<'p, 'c, N>>;
+type Handle<'p, 'c, N> = PromisedHandle<Result<Worked<'c>, AllocError>, WorkerPromise<'p, 'c, N>>;
 
 /// Starts workers, each with a part of the pass.
 fn start<'t, 'p, 's, 'c, N: Naming + Send + Sync, R: Wait + Sync, G: Gate + Sync>(
@@ -58,9 +57,7 @@ fn start<'t, 'p, 's, 'c, N: Naming + Send + Sync, R: Wait + Sync, G: Gate + Sync
     ensures promised { All (λ handle. handle.promise.queue.now ≡ pool.now.queue) handles.new.items }
 {
     for _started in 0..workers {
-        if handles.reserve(1).is_err() {
-            return Err(PoolFault::Memory);
-        }
+        handles.reserve(1)?;
         let hand = QueueHand {
             pool,
             pass: split(&pool.queue, pass),
@@ -78,7 +75,7 @@ fn take_in<'s, 'c, N: Naming, R, G>(
     pool: &Pool<'s, 'c, N, R, G>,
     worked: Worked<'c>,
     done: &mut Worked<'c>,
-) -> Result<(), NoMemory>
+) -> Result<(), AllocError>
     requires queue { IsPassOf pool.now.queue done.old.pass }
     requires some_part { 0 < (view done.old.pass).parts }
     requires another { IsPassOf pool.now.queue worked.pass }
@@ -90,8 +87,8 @@ fn take_in<'s, 'c, N: Naming, R, G>(
         → IsAccount N.case roots (view done.old.pass) done.old.pieces.items
         → IsAccount N.case roots (view done.new.pass) done.new.pieces.items) }
 {
-    let Worked { pass, pieces } = worked;
-    keep_all(&mut done.pieces, pieces)?;
+    let Worked { pass, mut pieces } = worked;
+    done.pieces.append(&mut pieces)?;
     join(&pool.queue, &mut done.pass, pass);
     Ok(())
 }
@@ -101,7 +98,7 @@ fn join_one<'p, 's, 'c, N: Naming, R: Threads, G>(
     pool: &Pool<'s, 'c, N, R, G>,
     handle: Handle<'p, 'c, N>,
     done: &mut Worked<'c>,
-) -> Result<(), NoMemory>
+) -> Result<(), AllocError>
     requires queue { IsPassOf pool.now.queue done.old.pass }
     requires some_part { 0 < (view done.old.pass).parts }
     requires promised { handle.promise.queue.now ≡ pool.now.queue }
@@ -127,7 +124,7 @@ fn join_all<'p, 's, 'c, N: Naming, R: Threads, G>(
     pool: &Pool<'s, 'c, N, R, G>,
     handles: Vec<Handle<'p, 'c, N>>,
     mut done: Worked<'c>,
-) -> Result<Worked<'c>, NoMemory>
+) -> Result<Worked<'c>, AllocError>
     requires queue { IsPassOf pool.now.queue done.pass }
     requires some_part { 0 < (view done.pass).parts }
     requires parts { (view done.pass).parts + vec_len handles ≡ PARTS }

@@ -1,7 +1,7 @@
 -- One own record of a case: what it is answered, and what it leaves.
 use Rattle.std.proofs.Common.{◌≡◌, ℕ, true, false, Some, refl, sym, ap, ◌∙◌, subst, ◌<◌, take, arith}
 use Rattle.std.specs.Prelude.{slice_get, Result, Ok, Err, IfOk, OnOk}
-use Rattle.ll_rules.specs.declared.errno.NoMemory.{NoMemory}
+use Rattle.std.specs.declared.alloc.AllocError.{AllocError}
 use Rattle.std.proofs.lemmas.Option.{same_Some}
 use Rattle.ll_trace.specs.declared.op.Record.{Record}
 use Rattle.ll_semantics.specs.declared.answer.Answer.{Answer}
@@ -70,14 +70,14 @@ module _ (cv : CaseValue) (index p : ℕ) where
   is_met case = record { same_tree = refl; same_layers = refl; inside = case.settled.inside }
 
   -- the same of a result
-  pub met_answers : (r : Record) (result : Result Answer NoMemory) → slice_get cv.records index ≡ Some r → r.process.0 ≡ p
+  pub met_answers : (r : Record) (result : Result Answer AllocError) → slice_get cv.records index ≡ Some r → r.process.0 ≡ p
       → IfOk result (λ given. (x : Record) → slice_get cv.records index ≡ Some x → given ≡ answer_to (context_at cv index p) x.op)
       → IfOk result (λ given. given ≡ answer_at cv.tree cv.abi cv.records index)
   unfolding answer_to
   met_answers r (Ok given) eq own is = met_answer r given eq own (is r eq)
   met_answers r (Err e) eq own is = tt
 
-  pub met_leaving : (r : Record) (own : OwnState) (result : Result Answer NoMemory) → IsCase cv → slice_get cv.records index ≡ Some r → r.process.0 ≡ p
+  pub met_leaving : (r : Record) (own : OwnState) (result : Result Answer AllocError) → IsCase cv → slice_get cv.records index ≡ Some r → r.process.0 ≡ p
       → OnOk result ((x : Record) → slice_get cv.records index ≡ Some x → AgreesIn cv own (state_then (context_at cv index p) x.op))
       → OnOk result (Leaves cv index p own)
   unfolding state_then

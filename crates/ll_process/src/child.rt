@@ -9,9 +9,9 @@ ghost use Rattle.ll_process.specs.Jobs.{HandedOut, KeepsMore};
 use crate::case::Case;
 use crate::hand::Hand;
 use crate::job::Job;
-use ll_rules::NoMemory;
 use ll_state::OwnState;
 use ll_trace::ProcessId;
+use std::alloc::AllocError;
 
 /// The job of the child that a process's own record forks, if it forks one. The child begins with what
 /// its parent has after that record. A record that is known to fork none isn't looked at.
@@ -21,7 +21,7 @@ pub(crate) fn child_job<'c>(
     index: u32,
     may_fork: bool,
     own: &OwnState,
-) -> Result<Option<Job<'c>>, NoMemory>
+) -> Result<Option<Job<'c>>, AllocError>
     requires own { IsOwn case.now index process.0 }
     requires known { may_fork ≡ false → forked_at case.now.records index ≡ None }
     requires leaves { Leaves case.now index process.0 own.now }

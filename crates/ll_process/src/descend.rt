@@ -5,15 +5,13 @@ ghost use Rattle.ll_trace.specs.Processes.{numbers, own_records};
 ghost use Rattle.ll_process.specs.Jobs.{KeepsMore, SharesOut};
 ghost use Rattle.ll_process.specs.Descending.{AreOf, ArePut, Descended, with_done, work_of};
 
-use crate::adding::append;
 use crate::case::Case;
 use crate::hand::Hand;
 use crate::job::Job;
 use crate::piece::Piece;
 use crate::progress::Progress;
-use ll_rules::NoMemory;
 use ll_trace::ProcessId;
-use std::alloc::Global;
+use std::alloc::{AllocError, Global};
 
 /// Puts two progresses on a stack, with the one on top of which less is left. So each of a stack has at least as much
 /// left as all those above it together, and few wait at a time, however processes fork.
@@ -21,16 +19,17 @@ fn put_both<'c>(
     stack: &mut Vec<Progress<'c>>,
     one: Progress<'c>,
     other: Progress<'c>,
-) -> Result<(), NoMemory>
+) -> Result<(), AllocError>
     ensures { OnOk result (ArePut stack.old.items one.entry other.entry stack.new.items) }
 {
     if one.left() < other.left() {
-        append(stack, other)?;
-        append(stack, one)
+        stack.push(other)?;
+        stack.push(one)?;
     } else {
-        append(stack, one)?;
-        append(stack, other)
+        stack.push(one)?;
+        stack.push(other)?;
     }
+    Ok(())
 }
 
 /// Adds a process that is judged to those that are done. The first process stands in front of the others.
@@ -39,7 +38,7 @@ fn finish<'c>(
     first: ProcessId,
     judged: Progress<'c>,
     done: Piece<'c>,
-) -> Result<Piece<'c>, NoMemory>
+) -> Result<Piece<'c>, AllocError>
     requires its { judged.case.now ≡ done.case.now }
     requires over { judged.at ≡ length (own_records judged.case.now.records judged.process.0) }
     ensures case { IfOk result (λ piece. piece.case.now ≡ done.entry.case.now) }
@@ -63,7 +62,7 @@ fn judge_on<'c, H: Hand<'c>>(
     hand: &mut H,
     stack: &mut Vec<Progress<'c>>,
     done: Piece<'c>,
-) -> Result<Piece<'c>, NoMemory>
+) -> Result<Piece<'c>, AllocError>
     requires suits { H.suits hand.old case.now }
     requires its { (next.case.now ≡ case.now) × (done.case.now ≡ case.now) }
     requires of_case { AreOf case.now stack.old.items }
@@ -98,7 +97,7 @@ pub fn judge<'c, H: Hand<'c>>(
     alloc: Global,
     job: Job<'c>,
     hand: &mut H,
-) -> Result<Piece<'c>, NoMemory>
+) -> Result<Piece<'c>, AllocError>
     requires { H.suits hand.old job.case.now }
     ensures first { IfOk result
         (λ piece. slice_get piece.processes.items 0 ≡ Some job.entry.process) }
@@ -115,7 +114,7 @@ pub fn judge<'c, H: Hand<'c>>(
     let first = job.process;
     let mut done = Piece::none(alloc, case);
     let mut stack = Vec::new(alloc);
-    append(&mut stack, Progress::begin(alloc, job))?;
+    stack.push(Progress::begin(alloc, job))?;
     while let Some(next) = stack.pop() {
         done = judge_on(alloc, case, first, next, hand, &mut stack, done)?;
     }

@@ -1,7 +1,6 @@
 //! Judging one process at a time.
 #![tactic(auto)]
 
-mod adding;
 mod ahead;
 mod case;
 mod child;

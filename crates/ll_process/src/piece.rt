@@ -6,13 +6,11 @@ ghost use Rattle.ll_trace.specs.declared.op.ProcessId.{ProcessId as Process};
 ghost use Rattle.ll_trace.specs.Processes.{process_count, numbers, own_records};
 ghost use Rattle.ll_process.specs.Cases.{own_answers};
 
-use crate::adding::{append, append_all};
 use crate::case::Case;
 use crate::progress::Progress;
-use ll_rules::NoMemory;
 use ll_semantics::Answer;
 use ll_trace::ProcessId;
-use std::alloc::Global;
+use std::alloc::{AllocError, Global};
 
 /// Some processes of a case, with the answers to their records: one process after another, each
 /// record by its index in the trace, with the answer that it has in the whole trace.
@@ -41,7 +39,7 @@ impl<'c> Piece<'c> {
     }
 
     /// These processes and one more, which is judged.
-    pub(crate) fn and(self, judged: Progress<'c>) -> Result<Piece<'c>, NoMemory>
+    pub(crate) fn and(self, judged: Progress<'c>) -> Result<Piece<'c>, AllocError>
         requires its { judged.case.now ≡ self.case.now }
         requires over { judged.at
             ≡ length (own_records judged.case.now.records judged.process.0) }
@@ -54,8 +52,13 @@ impl<'c> Piece<'c> {
             mut processes,
             mut answers,
         } = self;
-        append(&mut processes, judged.process)?;
-        append_all(&mut answers, judged.answers)?;
+        let Progress {
+            process,
+            answers: mut more,
+            ..
+        } = judged;
+        processes.push(process)?;
+        answers.append(&mut more)?;
         Ok(Piece {
             case,
             processes,
@@ -64,7 +67,7 @@ impl<'c> Piece<'c> {
     }
 
     /// One process that is judged, and these after it.
-    pub(crate) fn after(self, alloc: Global, judged: Progress<'c>) -> Result<Piece<'c>, NoMemory>
+    pub(crate) fn after(self, alloc: Global, judged: Progress<'c>) -> Result<Piece<'c>, AllocError>
         requires its { judged.case.now ≡ self.case.now }
         requires over { judged.at
             ≡ length (own_records judged.case.now.records judged.process.0) }
@@ -74,8 +77,8 @@ impl<'c> Piece<'c> {
     {
         let Piece {
             case,
-            processes: others,
-            answers: more,
+            processes: mut others,
+            answers: mut more,
         } = self;
         let Progress {
             process,
@@ -83,9 +86,9 @@ impl<'c> Piece<'c> {
             ..
         } = judged;
         let mut processes = Vec::new(alloc);
-        append(&mut processes, process)?;
-        append_all(&mut processes, others)?;
-        append_all(&mut answers, more)?;
+        processes.push(process)?;
+        processes.append(&mut others)?;
+        answers.append(&mut more)?;
         Ok(Piece {
             case,
             processes,

@@ -8,18 +8,16 @@ ghost use Rattle.ll_process.specs.Own.{IsOwn, Meets, Leaves};
 ghost use Rattle.ll_process.specs.Progresses.{answers_from, children_from, MeetsFrom};
 ghost use Rattle.ll_process.specs.Jobs.{HandedOut, KeepsMore};
 
-use crate::adding::append;
 use crate::ahead::Ahead;
 use crate::case::Case;
 use crate::child::{child_job, offer};
 use crate::hand::Hand;
 use crate::job::Job;
 use crate::walk::answer_own;
-use ll_rules::NoMemory;
 use ll_semantics::Answer;
 use ll_state::OwnState;
 use ll_trace::ProcessId;
-use std::alloc::Global;
+use std::alloc::{AllocError, Global};
 
 /// A process of which some records are judged: what it has by itself, and the answers so far.
 #[derive(Drop)]
@@ -52,7 +50,7 @@ fn judge_record<'c, H: Hand<'c>>(
     hand: &mut H,
     answers: &mut Vec<(u32, Answer)>,
     below: &mut u32,
-) -> Result<Option<Job<'c>>, NoMemory>
+) -> Result<Option<Job<'c>>, AllocError>
     requires own { IsOwn case.now index process.0 }
     requires meets { Meets case.now index process.0 own.old }
     requires known { may_fork ≡ false → forked_at case.now.records index ≡ None }
@@ -73,7 +71,7 @@ fn judge_record<'c, H: Hand<'c>>(
     ensures stays { (before : H) → H.stays before hand.old → H.stays before hand.new }
 {
     let answer = answer_own(case, process, index, own)?;
-    append(answers, (index, answer))?;
+    answers.push((index, answer))?;
     let child = child_job(case, process, index, may_fork, own)?;
     take_off(case, &child, below);
     Ok(offer(case, child, hand))
@@ -122,7 +120,7 @@ impl<'c> Progress<'c> {
     pub(crate) fn go_on<H: Hand<'c>>(
         self,
         hand: &mut H,
-    ) -> Result<(Progress<'c>, Option<Job<'c>>), NoMemory>
+    ) -> Result<(Progress<'c>, Option<Job<'c>>), AllocError>
         requires suits { H.suits hand.old self.case.now }
         ensures case { IfOk result (λ both. both.0.case.now ≡ self.entry.case.now) }
         ensures process { IfOk result (λ both. both.0.process ≡ self.entry.process) }

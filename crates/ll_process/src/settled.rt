@@ -5,10 +5,10 @@ ghost use Rattle.ll_process.specs.Cases.{IsCase, case_of};
 
 use crate::sizes::sizes_of;
 use ll_rulebook::Rulebook;
-use ll_rules::{Layer, NoMemory};
+use ll_rules::Layer;
 use ll_semantics::RulesetOutcome;
 use ll_trace::{Kernel, Located, TakenTrace};
-use std::alloc::Global;
+use std::alloc::{AllocError, Global};
 
 /// What follows from the rulesets of a whole trace under a kernel: for each record what the rulebook says, and the
 /// layers that processes enforce.
@@ -22,7 +22,7 @@ pub struct Settled {
 
 impl Settled {
     /// Makes the rulebook: one pass over the records in the order of the trace.
-    pub fn of(alloc: Global, located: &Located, kernel: Kernel) -> Result<Settled, NoMemory>
+    pub fn of(alloc: Global, located: &Located, kernel: Kernel) -> Result<Settled, AllocError>
         ensures kernel { IfOk result (λ settled. settled.kernel ≡ kernel) }
         ensures case { IfOk result (λ settled. IsCase (case_of located.now settled)) }
     {

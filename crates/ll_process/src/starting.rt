@@ -5,12 +5,10 @@ ghost use Rattle.std.specs.Option.{option_map};
 ghost use Rattle.ll_trace.specs.Processes.{root_at, roots, IsNumbered};
 ghost use Rattle.ll_process.specs.Jobs.{processes_of, AreJobsOf};
 
-use crate::adding::append;
 use crate::case::Case;
 use crate::job::Job;
-use ll_rules::NoMemory;
 use ll_state::OwnState;
-use std::alloc::Global;
+use std::alloc::{AllocError, Global};
 
 /// The job of the process that a `start` record begins; other records begin none.
 fn root_job<'c>(alloc: Global, case: &'c Case<'c>, index: usize) -> Option<Job<'c>>
@@ -30,7 +28,7 @@ fn root_job<'c>(alloc: Global, case: &'c Case<'c>, index: usize) -> Option<Job<'
 
 impl<'t> Case<'t> {
     /// One job for each `start` record, in the order of the trace, whose processes are numbered.
-    pub fn roots(&'t self, alloc: Global) -> Result<Vec<Job<'t>>, NoMemory>
+    pub fn roots(&'t self, alloc: Global) -> Result<Vec<Job<'t>>, AllocError>
         ensures roots { IfOk result (λ jobs. processes_of jobs.items ≡ roots self.now.records) }
         ensures of_case { IfOk result (λ jobs. AreJobsOf self.now jobs.items) }
         ensures numbered { IfOk result (λ jobs. IsNumbered self.now.records) }
@@ -38,7 +36,7 @@ impl<'t> Case<'t> {
         let mut jobs = Vec::new(alloc);
         for index in 0..self.trace().count() {
             if let Some(job) = root_job(alloc, self, index) {
-                append(&mut jobs, job)?;
+                jobs.push(job)?;
             }
         }
         Ok(jobs)

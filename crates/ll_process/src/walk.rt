@@ -11,11 +11,11 @@ ghost use Rattle.ll_process.specs.Judging.{answer_at};
 ghost use Rattle.ll_process.specs.Own.{IsOwn, Meets, Leaves};
 
 use crate::case::Case;
-use ll_rules::NoMemory;
 use ll_semantics::{Answer, RulesetOutcome};
 use ll_state::OwnState;
 use ll_trace::{Call, Op, ProcessId, Seen, wants_at_a_path};
 use ll_tree::Place;
+use std::alloc::AllocError;
 
 /// What the rulebook says of the call of the record at an index. It says nothing of most calls, for which it isn't
 /// asked.
@@ -76,7 +76,7 @@ fn judge_met(
     process: ProcessId,
     index: u32,
     own: &mut OwnState,
-) -> Result<Answer, NoMemory>
+) -> Result<Answer, AllocError>
     ghost ctx: { CallContext }
     requires own { IsOwn case.now index process.0 }
     requires met { IsMet ctx case.now.tree case.now.layers }
@@ -102,7 +102,7 @@ pub(crate) fn answer_own(
     process: ProcessId,
     index: u32,
     own: &mut OwnState,
-) -> Result<Answer, NoMemory>
+) -> Result<Answer, AllocError>
     requires own { IsOwn case.now index process.0 }
     requires meets { Meets case.now index process.0 own.old }
     ensures answer { IfOk result

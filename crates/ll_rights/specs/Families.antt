@@ -7,7 +7,7 @@ use Rattle.ll_rights.specs.declared.net.Net.{Net}
 use Rattle.ll_rights.specs.Abis.{is_since}
 use Rattle.ll_rights.specs.Rights as files
 use Rattle.ll_rights.specs.NetRights as network
-use Rattle.ll_rights.specs.Sets.{Row, none_of, each_within}
+use Rattle.ll_rights.specs.Sets.{Row, none_of, each_within, some_lacking}
 use Rattle.ll_rights.specs.Supported.{bits_of, supported_fs, supported_net}
 
 -- S are the sets, and R the rights; a set is a word of bits
@@ -83,3 +83,7 @@ is_empty family set = none_of family.some_right (family.has set)
 
 abbrev pub is_within : {S R : Type 0} → Family S R → S → S → Bool
 is_within family set whole = each_within family.every_right (family.has set) (family.has whole)
+
+-- whether some right of a set is handled and not granted
+abbrev pub is_lacking : {S R : Type 0} → Family S R → S → S → S → Bool
+is_lacking family set handled granted = some_lacking family.some_right (family.has set) (family.has handled) (family.has granted)

@@ -1,12 +1,13 @@
 //! Sets of access rights for files.
 
-ghost use Rattle.std.specs.Prelude.{⊤, ◌≡◌, ◌∷◌, [], false, bytes_eq, codes, find, map};
+ghost use Rattle.std.specs.Prelude.{⊤, ◌≡◌, ◌∷◌, [], bytes_eq, codes, find, map};
 ghost use Rattle.ll_rights.specs.CodeRights.{fs_right};
 ghost use Rattle.ll_rights.specs.Rights as rights;
-ghost use Rattle.ll_rights.specs.Supported.{supported_fs};
+ghost use Rattle.ll_rights.specs.Families.{for_files};
 
 use crate::abi::Abi;
 use crate::bits::{has_bit, without};
+use crate::right_set::RightSet;
 use bitflags::{Flag, Flags, bitflag_items};
 
 /// An access right for files (landlock(7), "Filesystem actions").
@@ -189,58 +190,69 @@ impl Fs {
     pub(crate) const SINCE_3: Fs = Fs(Fs::SINCE_2.0 | Fs::TRUNCATE.0);
 
     pub(crate) const SINCE_5: Fs = Fs(Fs::SINCE_3.0 | Fs::IOCTL_DEV.0);
+}
 
-    /// Whether the set has no right.
-    #[tactic(auto, using(crate::proofs::Sets::fs_is_empty))]
-    pub fn is_empty(self) -> bool
-        ensures { result ≡ rights.is_empty self }
-    {
-        self.0 == 0
+impl RightSet for Fs {
+    type Right = FsRight;
+
+    ghost Named = { rights.FsRight };
+
+    ghost family = { for_files };
+
+    ghost named = { fs_right };
+
+    fn all() -> &'static [FsRight] {
+        FsRight::all()
     }
 
-    /// Whether the set has a right.
+    fn name(right: FsRight) -> &'static str {
+        right.name()
+    }
+
+    fn none() -> Fs {
+        Fs::NONE
+    }
+
+    fn of_name(name: &str) -> Fs {
+        fs_of_name(name)
+    }
+
     #[tactic(auto, unfolding(crate::specs::Rights::has))]
-    pub fn has(self, right: FsRight) -> bool
-        ensures { result ≡ rights.has self (fs_right right) }
-    {
+    fn has(self, right: FsRight) -> bool {
         has_bit(FsRight::Other.bit(), self.0, right.bit())
     }
 
-    /// The rights of either set.
+    fn has_other(self) -> bool {
+        self.has(FsRight::Other)
+    }
+
     #[tactic(auto, unfolding(crate::specs::Rights::united))]
-    pub fn union(self, other: Fs) -> Fs
-        ensures { result ≡ rights.united self other }
-    {
+    fn union(self, other: Fs) -> Fs {
         Fs(self.0 | other.0)
     }
 
-    /// What a program keeps of the set that goes by its kernel's version: the rights that came with
-    /// a later version are taken out, and any other right stays.
-    #[tactic(auto, using(crate::proofs::Supported::fs_supported_lacking), unfolding(crate::specs::Rights::named_rights))]
-    pub fn supported(self, abi: Abi) -> Fs
-        ensures { result ≡ supported_fs abi self }
-    {
-        Fs(without(self.0, without(Fs::NAMED.0, abi.fs().0)))
+    fn common(self, other: Fs) -> Fs {
+        Fs(self.0 & other.0)
     }
 
-    /// Whether each right of the set is one of `whole`, a set of known rights.
+    #[tactic(auto, using(crate::proofs::Sets::fs_is_empty))]
+    fn is_empty(self) -> bool {
+        self.0 == 0
+    }
+
     #[tactic(auto, using(crate::proofs::Sets::fs_is_within))]
-    pub fn is_within(self, whole: Fs) -> bool
-        requires known { rights.has whole rights.other ≡ false }
-        ensures { result ≡ rights.is_within self whole }
-    {
+    fn is_within(self, whole: Fs) -> bool {
         self.0 & whole.0 == self.0
     }
 
-    /// Whether some right of the set is handled and not granted, where what is handled are known
-    /// rights.
     #[tactic(auto, using(crate::proofs::Sets::fs_is_lacking))]
-    pub fn lacks(self, handled: Fs, granted: Fs) -> bool
-        requires known { rights.has handled rights.other ≡ false }
-        ensures { result
-            ≡ rights.is_lacking (rights.has self) (rights.has handled) (rights.has granted) }
-    {
+    fn lacks(self, handled: Fs, granted: Fs) -> bool {
         self.0 & handled.0 & !granted.0 != 0
+    }
+
+    #[tactic(auto, using(crate::proofs::Supported::fs_supported_lacking), unfolding(crate::specs::Rights::named_rights))]
+    fn supported(self, abi: Abi) -> Fs {
+        Fs(without(self.0, without(Fs::NAMED.0, abi.fs().0)))
     }
 }
 

@@ -1,12 +1,13 @@
 //! Sets of access rights for the network.
 
-ghost use Rattle.std.specs.Prelude.{⊤, ◌≡◌, ◌∷◌, [], false, bytes_eq, codes, find, map};
+ghost use Rattle.std.specs.Prelude.{⊤, ◌≡◌, ◌∷◌, [], bytes_eq, codes, find, map};
 ghost use Rattle.ll_rights.specs.CodeRights.{net_right};
 ghost use Rattle.ll_rights.specs.NetRights as rights;
-ghost use Rattle.ll_rights.specs.Supported.{supported_net};
+ghost use Rattle.ll_rights.specs.Families.{for_network};
 
 use crate::abi::Abi;
 use crate::bits::{has_bit, without};
+use crate::right_set::RightSet;
 use bitflags::{Flag, Flags, bitflag_items};
 
 /// The largest TCP port: a port has 16 bits.
@@ -103,58 +104,69 @@ impl Net {
     const NAMED: Net = Net(Net::OTHER.0 - 1);
 
     pub(crate) const SINCE_4: Net = Net(Net::BIND_TCP.0 | Net::CONNECT_TCP.0);
+}
 
-    /// Whether the set has no right.
-    #[tactic(auto, using(crate::proofs::Sets::net_is_empty))]
-    pub fn is_empty(self) -> bool
-        ensures { result ≡ rights.is_empty self }
-    {
-        self.0 == 0
+impl RightSet for Net {
+    type Right = NetRight;
+
+    ghost Named = { rights.NetRight };
+
+    ghost family = { for_network };
+
+    ghost named = { net_right };
+
+    fn all() -> &'static [NetRight] {
+        NetRight::all()
     }
 
-    /// Whether the set has a right.
+    fn name(right: NetRight) -> &'static str {
+        right.name()
+    }
+
+    fn none() -> Net {
+        Net::NONE
+    }
+
+    fn of_name(name: &str) -> Net {
+        net_of_name(name)
+    }
+
     #[tactic(auto, unfolding(crate::specs::NetRights::has))]
-    pub fn has(self, right: NetRight) -> bool
-        ensures { result ≡ rights.has self (net_right right) }
-    {
+    fn has(self, right: NetRight) -> bool {
         has_bit(NetRight::Other.bit(), self.0, right.bit())
     }
 
-    /// The rights of either set.
+    fn has_other(self) -> bool {
+        self.has(NetRight::Other)
+    }
+
     #[tactic(auto, unfolding(crate::specs::NetRights::united))]
-    pub fn union(self, other: Net) -> Net
-        ensures { result ≡ rights.united self other }
-    {
+    fn union(self, other: Net) -> Net {
         Net(self.0 | other.0)
     }
 
-    /// What a program keeps of the set that goes by its kernel's version: the rights that came with
-    /// a later version are taken out, and any other right stays.
-    #[tactic(auto, using(crate::proofs::Supported::net_supported_lacking))]
-    pub fn supported(self, abi: Abi) -> Net
-        ensures { result ≡ supported_net abi self }
-    {
-        Net(without(self.0, without(Net::NAMED.0, abi.net().0)))
+    fn common(self, other: Net) -> Net {
+        Net(self.0 & other.0)
     }
 
-    /// Whether each right of the set is one of `whole`, a set of known rights.
+    #[tactic(auto, using(crate::proofs::Sets::net_is_empty))]
+    fn is_empty(self) -> bool {
+        self.0 == 0
+    }
+
     #[tactic(auto, using(crate::proofs::Sets::net_is_within))]
-    pub fn is_within(self, whole: Net) -> bool
-        requires known { rights.has whole rights.other ≡ false }
-        ensures { result ≡ rights.is_within self whole }
-    {
+    fn is_within(self, whole: Net) -> bool {
         self.0 & whole.0 == self.0
     }
 
-    /// Whether some right of the set is handled and not granted, where what is handled are known
-    /// rights.
     #[tactic(auto, using(crate::proofs::Sets::net_is_lacking))]
-    pub fn lacks(self, handled: Net, granted: Net) -> bool
-        requires known { rights.has handled rights.other ≡ false }
-        ensures { result
-            ≡ rights.is_lacking (rights.has self) (rights.has handled) (rights.has granted) }
-    {
+    fn lacks(self, handled: Net, granted: Net) -> bool {
         self.0 & handled.0 & !granted.0 != 0
+    }
+
+    #[tactic(auto, using(crate::proofs::Supported::net_supported_lacking))]
+    fn supported(self, abi: Abi) -> Net {
+        Net(without(self.0, without(Net::NAMED.0, abi.net().0)))
     }
 }
 

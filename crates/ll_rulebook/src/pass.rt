@@ -9,11 +9,11 @@ ghost use Rattle.ll_rulebook.specs.Stores.{IsAnswerTo, held_by};
 use crate::store::Store;
 use crate::tables::Tables;
 use ll_rights::{Abi, Fs, Net};
-use ll_rules::{Errno, Layer, LayerSet, NoMemory, RuleFault, Ruleset};
+use ll_rules::{Errno, Layer, LayerSet, RuleFault, Ruleset};
 use ll_semantics::{Answer, RulesetOutcome};
 use ll_trace::{Call, Op, PathText, Seen, TakenTrace, changes_nothing};
 use ll_tree::Tree;
-use std::alloc::Global;
+use std::alloc::{AllocError, Global};
 
 /// What the records so far made of the rulesets, and which of them each process holds, on a tree and by a version
 /// of the interface.
@@ -26,7 +26,7 @@ pub(crate) struct Pass<'t> {
 }
 
 /// The outcome of a record, if there is memory.
-type Settled = Result<RulesetOutcome, NoMemory>;
+type Settled = Result<RulesetOutcome, AllocError>;
 
 /// The answer to a call that fails with an error.
 fn failed(error: Errno) -> RulesetOutcome
@@ -43,7 +43,7 @@ fn added(attempt: Result<(), RuleFault>) -> Settled
         Ok(()) => Ok(RulesetOutcome::Answered(Answer::Allowed)),
         Err(RuleFault::Errno(error)) => Ok(failed(error)),
         Err(RuleFault::Moot) => Ok(RulesetOutcome::Answered(Answer::Moot)),
-        Err(RuleFault::Memory) => Err(NoMemory),
+        Err(RuleFault::Memory) => Err(AllocError),
     }
 }
 
@@ -241,7 +241,7 @@ impl<'t> Pass<'t> {
         process: usize,
         seen: &Seen<'_>,
         outcomes: &mut Vec<RulesetOutcome>,
-    ) -> Result<(), NoMemory>
+    ) -> Result<(), AllocError>
         requires there { is_start seen.now ≡ false → process < length self.old.tables.held.items }
         requires sound { IsSound self.old }
         requires room { length self.old.store.layers < 2 ^ 32 }
@@ -264,7 +264,7 @@ impl<'t> Pass<'t> {
         &mut self,
         alloc: Global,
         trace: &TakenTrace<'_>,
-    ) -> Result<Vec<RulesetOutcome>, NoMemory>
+    ) -> Result<Vec<RulesetOutcome>, AllocError>
         requires { HasSettled self.old.tree.now self.old.abi trace.now 0 self.old [] }
         ensures { IfOk result (λ outcomes. HasSettled self.old.tree.now self.old.abi trace.now
             (length trace.now) self.new outcomes.items) }

@@ -5,11 +5,11 @@ ghost use Rattle.ll_rulebook.specs.Settled.{IsSettled};
 
 use crate::pass::Pass;
 use ll_rights::Abi;
-use ll_rules::{Layer, NoMemory};
+use ll_rules::Layer;
 use ll_semantics::RulesetOutcome;
 use ll_trace::TakenTrace;
 use ll_tree::Tree;
-use std::alloc::Global;
+use std::alloc::{AllocError, Global};
 
 /// What the records of a trace do to the rulesets. A ruleset that several processes hold is one ruleset,
 /// so this takes the records of all processes in the order of the trace
@@ -30,7 +30,7 @@ impl Rulebook {
         tree: &Tree,
         trace: &TakenTrace<'_>,
         abi: Abi,
-    ) -> Result<Rulebook, NoMemory>
+    ) -> Result<Rulebook, AllocError>
         ensures { IfOk result
             (λ book. IsSettled tree.now abi trace.now book.layers.items book.outcomes.items) }
     {

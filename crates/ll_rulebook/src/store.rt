@@ -8,7 +8,7 @@ ghost use Rattle.ll_rulebook.specs.Kept.{IsFrozenTo};
 ghost use Rattle.ll_rulebook.specs.Stores.{with_created, IsPathAdded, AddsPathRule, AddsPortRule, Freezes};
 
 use ll_rights::{Abi, Fs, Net};
-use ll_rules::{Layer, LayerId, NoMemory, RuleFault, Ruleset};
+use ll_rules::{Layer, LayerId, RuleFault, Ruleset};
 use ll_tree::{Place, Tree};
 use std::alloc::{AllocError, Global};
 use std::marker::Model;
@@ -135,7 +135,7 @@ impl Store {
     }
 
     /// The layer that the ruleset at an index is now.
-    pub(crate) fn freeze(&mut self, alloc: Global, index: usize) -> Result<LayerId, NoMemory>
+    pub(crate) fn freeze(&mut self, alloc: Global, index: usize) -> Result<LayerId, AllocError>
         requires there { index < length self.old.rulesets }
         requires room { length self.old.layers < 2 ^ 32 }
         ensures { IfOk result (Freezes self.old self.new index) }

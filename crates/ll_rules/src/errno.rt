@@ -1,7 +1,5 @@
 //! The errors that Landlock answers, and those of this crate's own calls.
 
-use std::alloc::AllocError;
-
 /// An error of a system call (landlock_create_ruleset(2), landlock_add_rule(2),
 /// landlock_restrict_self(2), "ERRORS").
 #[derive(Clone, Copy, Debug, PartialEq, Eq)]
@@ -31,16 +29,6 @@ pub enum RuleFault {
     Moot,
     /// Out of memory for the rule.
     Memory,
-}
-
-/// Out of memory.
-#[derive(Clone, Copy, Debug, PartialEq, Eq)]
-pub struct NoMemory;
-
-impl From<AllocError> for NoMemory {
-    fn from(_failed: AllocError) -> NoMemory {
-        NoMemory
-    }
 }
 
 /// A domain has sixteen layers already.

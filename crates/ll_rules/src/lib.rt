@@ -18,7 +18,7 @@ mod single_layer;
 
 pub use check::{check_mount, check_path, check_path_counted, check_port};
 pub use domain::{Domain, LayerId, MOST_LAYERS};
-pub use errno::{Errno, Full, NoMemory, RuleFault};
+pub use errno::{Errno, Full, RuleFault};
 pub use laws::{
     worked_creations, worked_moves, worked_moves_without_refer, worked_paths,
     worked_ports_and_mounts, worked_rules_for_files, worked_rules_for_ports,
@@ -29,3 +29,4 @@ pub use moves::{
 };
 pub use ruleset::{Layer, Ruleset};
 pub use sameness::{same_answers, same_rules};
+pub use std::alloc::AllocError as NoMemory;

@@ -15,7 +15,7 @@ use crate::cross_directory::CrossDirectoryMove;
 use crate::domain::Stack;
 use crate::lanes::filled;
 use crate::{Domain, Errno, Layer, LayerSet};
-use ll_rights::{Fs, Kind};
+use ll_rights::{Fs, Kind, RightSet};
 use ll_tree::{NodeId, Tree};
 
 /// The target of a move.

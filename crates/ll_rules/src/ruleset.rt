@@ -11,9 +11,8 @@ ghost use Rattle.ll_rules.specs.Rulesets.{has_ports, create_fault, are_file_righ
 ghost use Rattle.ll_rules.specs.RuleFaults.{add_path_fault, add_port_fault};
 
 use crate::filter::Marks;
-use crate::{Errno, NoMemory, RuleFault};
-use bitflags::Flags;
-use ll_rights::{Abi, Fs, Kind, LARGEST_PORT, Net};
+use crate::{Errno, RuleFault};
+use ll_rights::{Abi, Fs, Kind, LARGEST_PORT, Net, RightSet};
 use ll_shared::SharedMap;
 use ll_tree::{NodeId, Place, Tree};
 use std::alloc::{AllocError, Global};
@@ -208,7 +207,7 @@ impl Layer {
     }
 
     /// The same layer again; both share their rules.
-    fn copied(&self) -> Result<Layer, NoMemory>
+    fn copied(&self) -> Result<Layer, AllocError>
         ensures { IfOk result (λ layer. layer ≡ self.now) }
     {
         Ok(Layer {
@@ -365,7 +364,7 @@ impl Ruleset {
 
     /// The layer that a process would add now; rules that are added later don't change it. It is in the
     /// same kind of memory as the ruleset.
-    pub fn freeze(&self, _alloc: Global) -> Result<Layer, NoMemory>
+    pub fn freeze(&self, _alloc: Global) -> Result<Layer, AllocError>
         ensures { IfOk result (λ layer. layer ≡ self.now) }
     {
         self.layer.copied()

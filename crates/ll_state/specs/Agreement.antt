@@ -9,7 +9,7 @@ use Rattle.ll_rules.specs.declared.domain.LayerId.{LayerId}
 use Rattle.ll_rules.specs.KeptLayers.{SameRules, layer_at, domain_of, IsDomainOf}
 use Rattle.ll_rules.specs.InTree.{AreInTree, all_in_tree}
 use Rattle.ll_rules.specs.declared.errno.Errno.{Errno}
-use Rattle.ll_rules.specs.declared.errno.NoMemory.{NoMemory}
+use Rattle.std.specs.declared.alloc.AllocError.{AllocError}
 use Rattle.ll_state.specs.declared.own_state.OwnState.{OwnState}
 use Rattle.ll_trace.specs.declared.op.Op.{Op}
 use Rattle.ll_trace.specs.declared.op.Op.TheVariants as calls
@@ -38,7 +38,7 @@ pub record Agrees (tree : List Entry) (layers : List (RulesOn ℕ)) (own : OwnSt
   pub descriptors : (fd : ℕ) → get own.descriptors fd ≡ state.descriptors fd
 
 -- a call was judged: its answer, and what is kept of its process then; without memory that is as before
-abbrev pub IsJudged : CallContext → Op → OwnState → Result Answer NoMemory → Type 0
+abbrev pub IsJudged : CallContext → Op → OwnState → Result Answer AllocError → Type 0
 IsJudged ctx op own result =
     IfOk result (λ answer. answer ≡ answer_to ctx op)
     × OnOk result (Agrees ctx.tree ctx.layers own (state_then ctx op))

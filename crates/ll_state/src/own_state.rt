@@ -17,12 +17,12 @@ use crate::descriptors::{ftruncate, ioctl};
 use crate::moves::{link_move, rename_move};
 use crate::requests::place_of;
 use ll_rights::Net;
-use ll_rules::{Domain, Layer, NoMemory};
+use ll_rules::{Domain, Layer};
 use ll_semantics::{Answer, Descriptor, RulesetOutcome};
 use ll_shared::SharedMap;
 use ll_trace::{Call as Taken, Op, Seen, changes_nothing, wants_at_a_path};
 use ll_tree::{Place, Tree};
-use std::alloc::Global;
+use std::alloc::{AllocError, Global};
 
 /// What one process has by itself: its flags, its domain and its open descriptors. The rulesets that it holds
 /// are settled before, for all processes together.
@@ -35,17 +35,10 @@ pub struct OwnState {
 }
 
 /// The same domain once more.
-fn domain_again(domain: &Domain) -> Result<Domain, NoMemory>
+fn domain_again(domain: &Domain) -> Result<Domain, AllocError>
     ensures { IfOk result (λ again. again ≡ domain.now) }
 {
-    Ok(domain.clone()?)
-}
-
-/// The same open descriptors once more; both share them.
-fn descriptors_again(descriptors: &SharedMap<Descriptor>) -> Result<SharedMap<Descriptor>, NoMemory>
-    ensures { IfOk result (λ again. again ≡ descriptors.now) }
-{
-    Ok(descriptors.clone()?)
+    domain.clone()
 }
 
 impl OwnState {
@@ -64,7 +57,7 @@ impl OwnState {
     }
 
     /// The state of a process that this one forks, which inherits all of it (landlock(7), "Inheritance").
-    pub fn forked(&self) -> Result<OwnState, NoMemory>
+    pub fn forked(&self) -> Result<OwnState, AllocError>
         ensures { IfOk result (λ child. (tree : List Entry) (layers : List (RulesOn ℕ))
             (state : State) → Agrees tree layers self.now state → Agrees tree layers child state) }
     {
@@ -72,7 +65,7 @@ impl OwnState {
             no_new_privs: self.no_new_privs,
             admin: self.admin,
             domain: domain_again(&self.domain)?,
-            descriptors: descriptors_again(&self.descriptors)?,
+            descriptors: self.descriptors.clone()?,
         })
     }
 
@@ -86,7 +79,7 @@ impl OwnState {
         seen: &Seen<'_>,
         outcome: &RulesetOutcome,
         known: Option<Place>,
-    ) -> Result<Answer, NoMemory>
+    ) -> Result<Answer, AllocError>
         ghost ctx: { CallContext }
         requires met { IsMet ctx tree.now layers.now }
         requires agrees { Agrees ctx.tree ctx.layers self.old ctx.state }
@@ -111,7 +104,7 @@ impl OwnState {
         layers: &[Layer],
         seen: &Seen<'_>,
         known: Option<Place>,
-    ) -> Result<Answer, NoMemory>
+    ) -> Result<Answer, AllocError>
         ghost ctx: { CallContext }
         requires met { IsMet ctx tree.now layers.now }
         requires agrees { Agrees ctx.tree ctx.layers self.old ctx.state }
@@ -137,7 +130,7 @@ impl OwnState {
 
     /// Answers a call whose answer rests on the state of its process alone.
     #[tactic(auto, unfolding(crate::specs::ConfinedCalls::answering, crate::specs::ConfinedCalls::by_state, ll_semantics::specs::RulesetOutcomes::OutcomeFits))]
-    fn answer_by_state(&mut self, call: &Call<'_>) -> Result<Answer, NoMemory>
+    fn answer_by_state(&mut self, call: &Call<'_>) -> Result<Answer, AllocError>
         ghost ctx: { CallContext }
         requires met { IsMet ctx call.now.tree.now call.now.layers.now }
         requires agrees { Agrees ctx.tree ctx.layers self.old ctx.state }

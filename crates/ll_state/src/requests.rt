@@ -7,7 +7,7 @@ ghost use Rattle.ll_semantics.specs.Fits.{IsFit};
 ghost use Rattle.ll_semantics.specs.Requests.{rights_of_mode, file_rights, new_file_rights, open_kind, remove_from, asks, request, wanted};
 
 use crate::call::Call;
-use ll_rights::{Fs, Kind};
+use ll_rights::{Fs, Kind, RightSet};
 use ll_semantics::{Request, Wanted, wanted};
 use ll_trace::{Mode, PathText};
 use ll_tree::{NodeId, Place, Tree};

@@ -5,9 +5,8 @@ ghost use Rattle.ll_process.specs.Cases.{IsCase, case_of};
 ghost use Rattle.ll_audit.specs.CasesOnce.{IsCase-once};
 
 use ll_process::{Case, Settled};
-use ll_rules::NoMemory;
 use ll_trace::{Kernel, Located};
-use std::alloc::Global;
+use std::alloc::{AllocError, Global};
 
 /// A tree and a trace, and what is settled of them.
 #[derive(Drop)]
@@ -19,7 +18,7 @@ pub struct Ground {
 
 impl Ground {
     /// Settles a trace under a kernel.
-    pub fn new(alloc: Global, located: Located, kernel: Kernel) -> Result<Ground, NoMemory> {
+    pub fn new(alloc: Global, located: Located, kernel: Kernel) -> Result<Ground, AllocError> {
         let settled = Settled::of(alloc, &located, kernel)?;
         Ok(Ground { located, settled })
     }

@@ -6,8 +6,7 @@ ghost use Rattle.ll_pool.specs.Gathered.{ArePiecesOf, processes_in};
 
 use crate::keeper::{Keeper, Wanted};
 use ll_process::{Case, Piece, judge};
-use ll_rules::NoMemory;
-use std::alloc::Global;
+use std::alloc::{AllocError, Global};
 
 /// Judges all processes of a case with a hand that keeps what is wanted. Of the roots and the jobs kept,
 /// the one of the greatest process number is judged first, until none is left.
@@ -15,7 +14,7 @@ pub fn judge_greatest_first<'c>(
     alloc: Global,
     case: &'c Case<'c>,
     wanted: Wanted,
-) -> Result<Vec<Piece<'c>>, NoMemory>
+) -> Result<Vec<Piece<'c>>, AllocError>
     ensures of_case { IfOk result (λ pieces. ArePiecesOf case.now pieces.items) }
     ensures each_once { IfOk result (λ pieces. (process : ℕ)
         → process < process_count case.now.records
@@ -27,7 +26,7 @@ pub fn judge_greatest_first<'c>(
     while let Some(job) = keeper.take_greatest() {
         let piece = judge(alloc, job, &mut keeper)?;
         if pieces.push(piece).is_err() {
-            return Err(NoMemory);
+            return Err(AllocError);
         }
     }
     Ok(pieces)

@@ -17,7 +17,7 @@ ghost use Rattle.ll_trace.specs.Traces.{AreRecords};
 use crate::op::{Op, ProcessId};
 use crate::path_text::PathText;
 use crate::trace::{Effort, Trace};
-use ll_rights::{Abi, Fs, Net};
+use ll_rights::{Abi, Fs, Net, RightSet};
 use std::marker::Model;
 
 /// The kernel that a trace is judged under: its version of the interface, and whether programs ask it for this version.

@@ -9,9 +9,9 @@ use crate::call::{Call, ConfinedCall};
 use crate::descriptors::unrestricted;
 use crate::own_state::OwnState;
 use crate::requests::{asks, place_of};
-use ll_rules::NoMemory;
 use ll_semantics::{Answer, Descriptor, Wanted};
 use ll_trace::{Mode, PathText, Sort};
+use std::alloc::AllocError;
 
 impl OwnState {
     /// What a number is open on.
@@ -31,7 +31,7 @@ impl OwnState {
         mode: Mode,
         create: bool,
         trunc: bool,
-    ) -> Result<Answer, NoMemory>
+    ) -> Result<Answer, AllocError>
         ghost ctx: { CallContext }
         requires met { IsMet ctx call.now.tree.now call.now.layers.now }
         requires agrees { Agrees ctx.tree ctx.layers self.old ctx.state }
@@ -61,7 +61,7 @@ impl OwnState {
 
     /// A descriptor that was made without open(2) keeps no layers.
     #[tactic(auto, unfolding(crate::specs::ConfinedCalls::answering))]
-    pub(crate) fn adopt(&mut self, fd: u64, kind: Sort) -> Result<Answer, NoMemory>
+    pub(crate) fn adopt(&mut self, fd: u64, kind: Sort) -> Result<Answer, AllocError>
         ghost ctx: { CallContext }
         requires { Agrees ctx.tree ctx.layers self.old ctx.state }
         ensures { IsJudged ctx (Op.Adopt fd kind) self.new result }
@@ -75,7 +75,7 @@ impl OwnState {
 
     /// dup(2): the other number is open on the same, with the same layers kept.
     #[tactic(auto, unfolding(crate::specs::ConfinedCalls::answering))]
-    pub(crate) fn dup(&mut self, fd: u64, to: u64) -> Result<Answer, NoMemory>
+    pub(crate) fn dup(&mut self, fd: u64, to: u64) -> Result<Answer, AllocError>
         ghost ctx: { CallContext }
         requires { Agrees ctx.tree ctx.layers self.old ctx.state }
         ensures { IsJudged ctx (Op.Dup fd to) self.new result }
@@ -89,7 +89,7 @@ impl OwnState {
 
     /// close(2).
     #[tactic(auto, unfolding(crate::specs::ConfinedCalls::answering))]
-    pub(crate) fn close(&mut self, fd: u64) -> Result<Answer, NoMemory>
+    pub(crate) fn close(&mut self, fd: u64) -> Result<Answer, AllocError>
         ghost ctx: { CallContext }
         requires { Agrees ctx.tree ctx.layers self.old ctx.state }
         ensures { IsJudged ctx (Op.Close fd) self.new result }

@@ -11,7 +11,7 @@ loop-job-preserved c =
     let more =
     shared_more c.args.case.now c.loop-job.jobs.items c.pop.new.self.items c.in-Some.job c.loop-job.pieces.items c.in_ok-piece.piece c.in-Some.ensures.items
     c.in_ok-piece.ensures.of_case c.in_ok-piece.ensures.shares_out c.loop-job.invariant in
-    rw c.in_ok-keep.ensures more
+    rw c.in_ok-push.ensures.items more
 
 pub returns-clause-of_case : goal.returns-clause-of_case
 returns-clause-of_case c = c.loop-job.invariant.pieces_of

@@ -20,11 +20,11 @@ loop-preserved g c =
       its_case = ap (λ (u : Ledger). u.case) c.in-Some-pop.ensures.takes.1 ∙ c.loop.invariant.its_case;
       account = λ roots before.
           account_more g.N.Naming.case roots c.in-Some-pop.job.process.0 (view c.loop.pass) (view c.pop.new.pass)
-          (view c.pop.new.pass) c.loop.pieces.items c.keep.new.pieces.items
+          (view c.pop.new.pass) c.loop.pieces.items c.push.new.self.items
           c.in-Some-pop.ensures.takes.1
           (gave_nothing (view c.pop.new.pass))
-          (seen_unkept g.N.Naming.case c.in-Some-pop.job.process.0 (view c.pop.new.pass).given c.loop.pieces.items c.keep.new.pieces.items c.in_ok-piece.piece
-          c.in_ok-keep.ensures
+          (seen_unkept g.N.Naming.case c.in-Some-pop.job.process.0 (view c.pop.new.pass).given c.loop.pieces.items c.push.new.self.items c.in_ok-piece.piece
+          c.in_ok-push.ensures.items
           (c.in_ok-piece.ensures.of_case ∙ of_case)
           (subst (λ (m : CaseValue). SharesOut m.records c.in-Some-pop.job.process.0 (numbers c.in_ok-piece.piece.processes.items) [] []) of_case
           c.in_ok-piece.ensures.shares_out))

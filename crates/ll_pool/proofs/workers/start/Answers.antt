@@ -6,7 +6,6 @@ use Rattle.std.proofs.Crossing.{crosses}
 use Rattle.ll_pool.specs.declared.queue.Ledger.{Ledger}
 use Rattle.ll_pool.proofs.Crossing.{hand_send, worked_send}
 use Rattle.std.proofs.result.Result.TheSendSync as result
-use Rattle.ll_rules.proofs.errno.NoMemory.TheSendSync as no_memory
 use Rattle.ll_pool.proofs.workers.start.Goals as goal
 
 pub loop-started-init : goal.loop-started-init
@@ -20,12 +19,12 @@ loop-started-init g c = record {
   promised = λ i d within. absurd (omega (arith, within, c.requires.none));
 }
 
-pub returns-then-is_err-clause-some_part : goal.returns-then-is_err-clause-some_part
-returns-then-is_err-clause-some_part g c =
+pub returns-in_err-reserve-clause-some_part : goal.returns-in_err-reserve-clause-some_part
+returns-in_err-reserve-clause-some_part g c =
     omega (arith, c.loop-started.invariant.parts, c.loop-started.invariant.count, c.requires.parts, c.loop-started-test.true)
 
-pub returns-then-is_err-clause-promised : goal.returns-then-is_err-clause-promised
-returns-then-is_err-clause-promised g c = rw c.reserve.ensures.items c.loop-started.invariant.promised
+pub returns-in_err-reserve-clause-promised : goal.returns-in_err-reserve-clause-promised
+returns-in_err-reserve-clause-promised g c = rw c.reserve.ensures.items c.loop-started.invariant.promised
 
 pub split-requires-clause-parts : goal.split-requires-clause-parts
 split-requires-clause-parts g c =
@@ -58,7 +57,7 @@ pub spawn_with-requires-send-F : goal.spawn_with-requires-send-F
 spawn_with-requires-send-F g c κs within = search (hand_send, sendable) depth 60
 
 pub spawn_with-requires-send-T : goal.spawn_with-requires-send-T
-spawn_with-requires-send-T g c κs within = search (worked_send, result.the_send, no_memory.the_send, crosses, sendable) depth 60
+spawn_with-requires-send-T g c κs within = search (worked_send, result.the_send, crosses, sendable) depth 60
 
 pub loop-started-preserved : goal.loop-started-preserved
 loop-started-preserved g c = record {

@@ -38,5 +38,5 @@ account_joined cv roots v u w mine theirs all is are worked so_far = record {
 pub returns-clause-account : goal.returns-clause-account
 returns-clause-account g c = λ roots so_far.
     account_joined g.N.Naming.case roots (view c.args.done.now.pass) (view c.args.worked.pass)
-    (view c.join.new.pass) c.args.done.now.pieces.items c.args.worked.pieces.items c.keep_all.new.pieces.items
-    c.join.ensures.knows c.in_ok-keep_all.ensures c.requires.account so_far
+    (view c.join.new.pass) c.args.done.now.pieces.items c.args.worked.pieces.items c.append.new.self.items
+    c.join.ensures.knows c.in_ok-append.ensures.items c.requires.account so_far

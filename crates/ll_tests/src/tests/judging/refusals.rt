@@ -14,7 +14,6 @@ use crate::tests::judging::worked::{V4, expect_answers, is_told, worked_ground};
 use ll_fixtures::TREE;
 use ll_pool::{assemble, judge_alone};
 use ll_process::{Answer, Case, Job, Piece, judge};
-use ll_rules::NoMemory;
 use ll_trace::{Located, ProcessId, Trace};
 use ll_tree::Tree;
 use std::alloc::{AllocError, Global};
@@ -74,7 +73,7 @@ fn ground_again(alloc: Global) -> Result<Ground, Fail> {
     };
     match Ground::new(alloc, located, V4) {
         Ok(ground) => Ok(ground),
-        Err(NoMemory) => worked_ground(alloc, TRACE.as_bytes()),
+        Err(AllocError) => worked_ground(alloc, TRACE.as_bytes()),
     }
 }
 
@@ -92,7 +91,7 @@ fn roots_again<'c>(alloc: Global, case: &'c Case<'c>) -> Result<Vec<Job<'c>>, Fa
 {
     match case.roots(alloc) {
         Ok(jobs) => Ok(jobs),
-        Err(NoMemory) => Ok(case.roots(alloc)?),
+        Err(AllocError) => Ok(case.roots(alloc)?),
     }
 }
 
@@ -104,7 +103,7 @@ fn pieces_again<'c>(alloc: Global, case: &'c Case<'c>) -> Result<Vec<Piece<'c>>,
 {
     match judge_greatest_first(alloc, case, Wanted::Even) {
         Ok(pieces) => Ok(pieces),
-        Err(NoMemory) => Ok(judge_greatest_first(alloc, case, Wanted::Even)?),
+        Err(AllocError) => Ok(judge_greatest_first(alloc, case, Wanted::Even)?),
     }
 }
 
@@ -119,7 +118,7 @@ fn is_answer(index: usize, answer: &Answer) -> bool {
 fn answers_again<'c>(alloc: Global, case: &'c Case<'c>) -> Result<Vec<Answer>, Fail> {
     match judge_alone(alloc, case) {
         Ok(answers) => Ok(answers),
-        Err(NoMemory) => Ok(judge_alone(alloc, case)?),
+        Err(AllocError) => Ok(judge_alone(alloc, case)?),
     }
 }
 
@@ -215,7 +214,7 @@ fn judged_again<'c>(
     let (job, mut keeper) = job_again(alloc, case)?;
     match judge(alloc, job, &mut keeper) {
         Ok(piece) => Ok((piece, keeper)),
-        Err(NoMemory) => {
+        Err(AllocError) => {
             expect_kept(rt, alloc, case, keeper)?;
             let (job, mut keeper) = job_again(alloc, case)?;
             let piece = judge(alloc, job, &mut keeper)?;

@@ -6,7 +6,7 @@ use ll_lines::lines::FilledLines;
 use ll_members::{
     Members, Name, flag_of, fs_of, net_of, number_of, read_members, text_of, truth_of,
 };
-use ll_rights::{Net, fs_of_name};
+use ll_rights::{Net, RightSet, fs_of_name};
 use std::alloc::{AllocError, Global};
 use std::test::Fail;
 

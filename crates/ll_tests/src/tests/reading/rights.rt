@@ -38,7 +38,10 @@ fn is_since(abi: Abi, number: u64, right: Fs, bit: u32, since: u64) -> bool {
 fn has_ports(abi: Abi, number: u64, known: u32) -> bool {
     abi.number() == number
         && abi.net().bits() == known
-        && Net::BIND_TCP.union(Net::CONNECT_TCP).supported(abi).bits() == known
+        && RightSet::union(Net::BIND_TCP, Net::CONNECT_TCP)
+            .supported(abi)
+            .bits()
+            == known
 }
 
 /// Whether each right for files is known to a version from the one on that it came with.
@@ -177,7 +180,7 @@ fn kinds(rt: HostRuntime) {
 
 #[test]
 fn sets_of_either_kind(rt: HostRuntime) {
-    let reading = Fs::READ_FILE.union(Fs::READ_DIR);
+    let reading = RightSet::union(Fs::READ_FILE, Fs::READ_DIR);
     assert_eq!(rt; reading.common(Fs::FILE), Fs::READ_FILE);
     assert_eq!(rt; Net::BIND_TCP.common(Net::CONNECT_TCP), Net::none());
     assert!(rt; net_of_name("send_udp").has_other());

@@ -6,7 +6,7 @@ ghost use Rattle.ll_rules.specs.InTree.{AreInTree, IsTargetIn};
 
 use crate::tests::rules::ready::{about_reading, frozen, grant_reading, node_named};
 use ll_fixtures::{TREE, stacked};
-use ll_rights::Fs;
+use ll_rights::{Fs, RightSet};
 use ll_rules::{
     Errno, How, Layer, LayerSet, Move, Target, Verdict, check_move_counted, check_path_counted,
     entering, leaving,

@@ -6,7 +6,7 @@ use Rattle.ll_trace.specs.declared.op.Record.{Record}
 use Rattle.ll_process.specs.declared.job.Job.{Job}
 use Rattle.ll_process.proofs.Roots.{Rooted, rooted_none, rooted_other, rooted_more, rooted_all}
 use Rattle.ll_process.proofs.case.Case.roots.Goals as goal
-use Rattle.ll_process.proofs.case.Case.roots.Goals.{in-Some+in_ok-append, in_default}
+use Rattle.ll_process.proofs.case.Case.roots.Goals.{in-Some+in_ok-push, in_default}
 
 pub loop-index-init : goal.loop-index-init
 loop-index-init c = rooted_none c.args.self.now c.new-jobs.result.items c.new-jobs.ensures.items
@@ -18,12 +18,12 @@ loop-index-preserved c =
     let within : c.loop-index.index < length c.args.self.now.records =
     subst (λ (n : ℕ). c.loop-index.index < n) records c.loop-index-test.true in
     elim c.match-root_job.branch [
-      | in-Some+in_ok-append w ↦
+      | in-Some+in_ok-push w ↦
           subst (λ jobs. Rooted c.args.self.now (c.loop-index.index + 1) jobs.items) (sym w.jobs-is)
-          (rooted_more c.args.self.now c.loop-index.index c.loop-index.jobs.items w.append.new.items.items w.in-Some.job within
+          (rooted_more c.args.self.now c.loop-index.index c.loop-index.jobs.items w.push.new.self.items w.in-Some.job within
           (sym (ap (λ (o : Option Job). option_map (λ (j : Job). j.process.0) o) w.in-Some.is) ∙ c.root_job.ensures.root)
           (subst (λ (o : Option Job). IfSome o (λ (j : Job). j.case.now ≡ c.args.self.now)) w.in-Some.is c.root_job.ensures.of_case)
-          w.in_ok-append.ensures
+          w.in_ok-push.ensures.items
           c.loop-index.invariant)
       | in_default w ↦
           subst (λ jobs. Rooted c.args.self.now (c.loop-index.index + 1) jobs.items) (sym w.jobs-is)

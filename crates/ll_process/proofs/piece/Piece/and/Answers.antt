@@ -6,12 +6,12 @@ use Rattle.ll_process.proofs.piece.Piece.and.Goals as goal
 
 pub invariant_of-result : goal.invariant_of-result
 invariant_of-result c = record {
-  there = rw c.in_ok-append.ensures
+  there = rw c.in_ok-push.ensures.items
       (there_push c.args.self.case.now c.args.self.processes.items c.args.judged.process c.args.self.there (rw c.requires.its at c.args.judged.there));
   answered =
       let all = all_answered c.args.judged.case.now c.args.judged.process.0 c.args.judged.at c.args.judged.answers.items (omega (arith, c.requires.over))
       c.args.judged.answered in
-      rw (c.in_ok-append.ensures, c.in_ok-append_all.ensures)
+      rw (c.in_ok-push.ensures.items, c.in_ok-append.ensures.items)
       (answered_push c.args.self.case.now c.args.self.processes.items c.args.self.answers.items c.args.judged.answers.items c.args.judged.process
       c.args.self.answered (rw c.requires.its at all));
 }

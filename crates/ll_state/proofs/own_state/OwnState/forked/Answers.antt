@@ -3,10 +3,10 @@ use Rattle.std.proofs.Common.{rules}
 use Rattle.ll_state.proofs.own_state.OwnState.forked.Goals as goal
 
 pub returns : goal.returns
-returns c = search rules
+returns c = λ tree layers state agrees. rw (c.in_ok-domain_again.ensures, c.in_ok-clone.ensures.cases) agrees
 
 pub returns-in_err-domain_again : goal.returns-in_err-domain_again
 returns-in_err-domain_again c = search rules
 
-pub returns-in_err-descriptors_again : goal.returns-in_err-descriptors_again
-returns-in_err-descriptors_again c = search rules
+pub returns-in_err-clone : goal.returns-in_err-clone
+returns-in_err-clone c = search rules

@@ -1,7 +1,7 @@
 use Rattle.std.proofs.Common.{rules}
 use Rattle.ll_rights.proofs.Supported.{fs_supported_lacking}
 use Rattle.ll_rights.specs.Rights.{named_rights}
-use Rattle.ll_rights.proofs.fs.Fs.supported.Goals as goal
+use Rattle.ll_rights.proofs.fs.FsRightSet.supported.Goals as goal
 
 pub fs-requires : goal.fs-requires
 unfolding named_rights
