@@ -44,8 +44,8 @@ def answers(
     with tempfile.TemporaryDirectory() as name, Progress() as progress:
         auditing = Auditing(landaudit.find(None), recording, Path(name), best_effort, progress)
         for abis in steps:
-            for walk in auditing.walks(abis, tried):
-                found += _answers(*walk.files)
+            for files in auditing.judged(abis, tried):
+                found += _answers(files.trace, files.report)
     return found
 
 

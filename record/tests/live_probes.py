@@ -74,7 +74,7 @@ EXPECTED = {
     "handles": _of("open_by_handle_at", "open"),
     "inside": _of("swapon, swapoff, acct", "open", holes=(inexpressible.WITHOUT_FOLDERS,)),
     "mounts": _of("mount, pivot_root, fsconfig", "mount"),
-    "detached": _of("open in a new mount", holes=(mounts.WITHOUT_PLACE,)),
+    "detached": _of("open in a new mount", holes=(mounts.OF_A_FILE, mounts.WITHOUT_PLACE)),
     "namespaces": _of("open given", "open"),
     "untraced": _of(holes=(programs.NOT_FOLLOWED,)),
     "thirty_two": _of("truncate64, ftruncate64", "truncate, ftruncate"),

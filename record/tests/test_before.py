@@ -31,6 +31,7 @@ class Invalid(WrittenLogs):
     def test_what_comes_after_landlock_was_asked(self) -> None:
         calls = {
             f'openat({CWD}, "f", 0x4000 /* O_RDONLY|O_DIRECT */) = {EINVAL}': "open",
+            f'openat2({CWD}, "f", {{flags=0x4000 /* O_RDONLY|O_DIRECT */, resolve=0}}, 24) = {EINVAL}': "open",
             f'renameat2({CWD}, "f", {CWD}, "g", 0x2 /* RENAME_EXCHANGE */) = {EINVAL}': "rename",
             f'mkdir("d/a", 0755) = {EINVAL}': "mkdir",
             f'execve("/w/p", ["p"], 0x1 /* 2 vars */) = {EINVAL}': "exec",
@@ -52,6 +53,10 @@ class Invalid(WrittenLogs):
             'truncate("f", -1)',
             'truncate("f", 18446744073709551615)',
             f'openat2({CWD}, "f", {{flags=0, resolve=0x100000}}, 24)',
+            f'openat2({CWD}, "f", {{flags=0, resolve=0x18 /* RESOLVE_BENEATH|RESOLVE_IN_ROOT */}}, 24)',
+            f'openat2({CWD}, "f", {{flags=0, mode=0600, resolve=0}}, 24)',
+            f'openat2({CWD}, "f", {{flags=0x80000000, resolve=0}}, 24)',
+            f'openat2({CWD}, "f", 0x7ffc552fecc0, 8)',
         ):
             with self.subTest(call):
                 self.assertEqual(self.convert(f"{call.replace(' ^ 0', '')} = {EINVAL}"), [])
@@ -226,6 +231,16 @@ class OtherProc(WrittenLogs):
             with self.subTest(call):
                 self.convert(call)
                 self.assertEqual(self.unsaid(), [(ptrace.INTO_ANOTHER, True)])
+
+    def test_where_its_links_lead_is_not_known(self) -> None:
+        """They lead each process elsewhere: the recorder that looked at them, too."""
+        links = {"self": "7", "7/cwd": "/w/d"}
+        links_there = ({"path": f"/host/p/{path}", "kind": "sym", "target": to} for path, to in links.items())
+        self.disk = [*self.disk, *links_there]
+        for call in ('mkdir("/host/p/self/cwd/x", 0700) = 0', 'truncate("/host/p/self/fd/3", 0) = -1 EISDIR (X)'):
+            with self.subTest(call):
+                self.assertEqual(self.convert(call), [])
+                self.assertIn((UNKNOWN_WAY, True), self.unsaid())
 
     def test_what_anyone_may_see_is_not(self) -> None:
         self.convert('stat("/host/p/7/status", 0x1) = 0', 'stat("/host/q/7/cwd", 0x1) = 0')

@@ -202,6 +202,11 @@ class Calls(StraceLines):
                 self.assertEqual(self.convert(*calls), [])
                 self.assertEqual(self.unsaid(), [f"{error.split()[0]} before Landlock is asked"] * 2)
 
+    def test_a_program_that_runs_is_opened_for_reading_before_it_is_not_cut(self) -> None:
+        call = f'openat({CWD}, "p", 0x200 /* O_RDONLY|O_TRUNC */) = -1 ETXTBSY (Text file busy)'
+        said = self.convert(call)[0]
+        self.assertEqual((said["op"], said["mode"], said["path"], said.get("trunc")), ("open", "r", "/w/p", None))
+
     def test_a_file_that_an_immutable_directory_does_not_get(self) -> None:
         """chattr(1), +i: the kernel asks Landlock for make_reg before it finds that the directory can't be changed."""
         call = f'openat({CWD}, "d/n", 0x41 /* O_WRONLY|O_CREAT */, 0600) = -1 EPERM (Operation not permitted)'
@@ -284,6 +289,13 @@ class Calls(StraceLines):
         trace = self.convert(f'openat2({CWD}, "/etc/passwd", {how}, 24) = -1 EXDEV (Invalid cross-device link)')
         self.assertEqual(trace, [])
         self.assertEqual(self.unsaid(), ["a path that openat2 may not resolve so"])
+
+    def test_a_lease_ends_an_open_that_does_not_wait(self) -> None:
+        """Another process has one on the file (fcntl(2), F_SETLEASE), which the kernel sees after it asked Landlock."""
+        call = 'openat2(%s, "f", {flags=0x800 /* O_RDONLY|O_NONBLOCK */, resolve=%d}, 24) = -1 EAGAIN (X)'
+        for resolve, asked in ((0, True), (0x2, True), (0x8, True), (0x20, False)):
+            self.assertEqual([record["op"] for record in self.convert(call % (CWD, resolve))][:1], ["open"] * asked)
+        self.assertEqual(self.convert(call.replace("0x800", "0") % (CWD, 0x8)), [])
 
     def test_the_root_of_openat2_is_its_directory(self) -> None:
         how = "{flags=0x1 /* O_WRONLY */, resolve=0x10 /* RESOLVE_IN_ROOT */}"

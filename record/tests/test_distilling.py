@@ -44,6 +44,22 @@ class Distilled(unittest.TestCase):
         found = self.asked(START, *OF_POLICY, opened(READ, 3), opened(READ, 4), {"op": "mount"})
         self.assertEqual(found, {LayeredCall((1,), (READ,)): 2, LayeredCall((1,), (("mount",),)): 1})
 
+    def test_who_asks_and_by_which_number_makes_no_question(self) -> None:
+        """Nor does the order of a record's members; a record counts as many calls as it stands for."""
+        other = {**dict(reversed(opened(READ, 4).items())), "call": 9, "pid": 10}
+        child: list[Record] = [{"op": "fork", "child": 11, "call": 3}, {"pid": 11, **opened(READ, 5), "call": 4}]
+        often = {**opened(READ, 6), "stands_for": 5}
+        found = self.asked(START, *OF_POLICY, {**opened(READ, 3), "call": 2}, *child, other, often)
+        self.assertEqual(found, {LayeredCall((1,), (READ,)): 8})
+
+    def test_a_report_on_another_trace(self) -> None:
+        for other in ([{**START, "pid": 1}], [{**START, "pid": 10}] * 2):
+            with self.subTest(other), tempfile.TemporaryDirectory() as folder:
+                trace = write_lines(Path(folder, "trace.jsonl"), [{"op": "start", "pid": 10}, {"op": "exit", "pid": 10}])
+                report = write_report(Path(folder, "report.jsonl"), other, ["allowed"] * len(other))
+                with self.assertRaisesRegex(Problem, "is not a report on"):
+                    Distilling().follow(trace, report)
+
     def test_before_the_policy_nothing_is_asked(self) -> None:
         self.assertEqual(self.asked(START, opened(WRITE, 3), *OF_POLICY, {"op": "ftruncate", "fd": 3}), {})
 

@@ -153,8 +153,16 @@ class Mounts(WrittenLogs):
         )
 
     def test_other_commands_of_a_context_ask_nothing(self) -> None:
-        context = "fsconfig(4<anon_inode:[fscontext]>, 0x6 /* FSCONFIG_CMD_CREATE */, NULL, NULL, 0) = 0"
+        context = 'fsconfig(4<anon_inode:[fscontext]>, 0x1 /* FSCONFIG_SET_STRING */, "source", "f", 0) = 0'
         self.assertEqual((self.convert(context), self.unsaid()), ([], []))
+
+    def test_a_file_system_may_be_in_a_file_that_the_kernel_opens(self) -> None:
+        """erofs: its file is opened when the file system is made, also if it then is not one."""
+        context = "fsconfig(4<anon_inode:[fscontext]>, 0x6 /* FSCONFIG_CMD_CREATE */, NULL, NULL, 0)"
+        for result in ("0", EINVAL):
+            self.assert_hole(mounts.OF_A_FILE, f"{context} = {result}")
+        self.convert(f"{context} = -1 EBUSY (Device or resource busy)")
+        self.assertEqual([asks for _, asks in self.unsaid()], [False])
 
     def test_what_is_mounted_changes_the_tree(self) -> None:
         self.assertEqual(self.asked('mount("x", "/w/d", "tmpfs", 0, NULL) = 0'), ["ok"])
@@ -304,7 +312,11 @@ class FromElsewhere(WrittenLogs):
 
     def test_a_port_of_a_socket_that_was_received(self) -> None:
         address = '{sa_family=0x2 /* AF_INET */, sin_port=htons(80), sin_addr=inet_addr("127.0.0.1")}'
-        self.assert_hole("a port of a socket that came from elsewhere", f"connect(7<socket:[9]>, {address}, 16) = 0")
+        hole = "a port of a socket that came from elsewhere"
+        self.assert_hole(hole, f"connect(7<socket:[9]>, {address}, 16) = 0")
+        self.assert_hole(hole, f"bind(7<socket:[9]>, {Families.TO_NONE}, 16) = 0")
+        self.assertEqual(self.convert(f"connect(7<socket:[9]>, {Families.TO_NONE}, 16) = 0"), [])
+        self.assertEqual(self.unsaid(), [])
 
 
 class Families(WrittenLogs):

@@ -12,7 +12,8 @@ from landaudit_record.common import jsonl
 from landaudit_record.recorder.names import OF_KIND, REPLACED_OR_NOT
 
 from .drawn import by_chance
-from .strace_lines import CONFINED, CWD, StraceLines
+from .strace_lines import CONFINED, CWD, DISK, StraceLines
+from .written_logs import WrittenLogs
 
 MADE = "0x241 /* O_WRONLY|O_CREAT|O_TRUNC */, 0666"
 
@@ -147,6 +148,20 @@ class Objects(StraceLines):
         self.assertEqual(links, [("/w/d/#7", "/w/g~new~"), ("/w/d/#7", "/w/d/h~new~")])
         self.assertEqual((trace[-1]["path"], self.listed()["/w/g"]), ("/w/g", {"kind": "reg", "made": True}))
 
+    def test_a_file_that_can_get_no_name_is_asked_about(self) -> None:
+        """One that is removed, or made with O_EXCL: the kernel says ENOENT after it has asked Landlock."""
+        none = "-1 ENOENT (No such file or directory)"
+        trace = self.convert(
+            f'openat({CWD}, "d", 0x410082 /* O_RDWR|O_EXCL|O_TMPFILE */, 0600) = 3</w/d/#7>(deleted)',
+            reads("f").replace("= 3", "= 4"),
+            'unlink("f") = 0',
+            f'linkat({CWD}, "/proc/self/fd/3", {CWD}, "g", 0x400 /* AT_SYMLINK_FOLLOW */) = {none}',
+            f'linkat(4</w/f>(deleted), "", {CWD}, "d/h", 0x1000 /* AT_EMPTY_PATH */) = {none}',
+            f'linkat({CWD}, "f", {CWD}, "d/h", 0) = {none}',
+        )
+        links = [(record["from"], record["to"]) for record in trace if record["op"] == "link"]
+        self.assertEqual(links, [("/w/d/#7", "/w/g~new~"), ("/w/f", "/w/d/h~new~"), ("/w/f~new~", "/w/d/h~new~")])
+
     def test_a_removed_file_is_opened_by_its_descriptor(self) -> None:
         found = self.paths(
             reads("f"), 'unlink("f") = 0', makes("f").replace("= 3", "= 4"),
@@ -242,6 +257,16 @@ class Unwatched(StraceLines):
         self.convert(reads("hard-1"), 'unlink("gone") = 0')
         self.assertEqual([self.listed()[path] for path in ("/w/hard-1", "/w/gone")], [{"kind": "reg"}] * 2)
 
+    def test_what_is_replaced_has_no_further_names_of_what_replaces_it(self) -> None:
+        """After the run, the name is one of the object that was moved there: a rule on what was there is not on that."""
+        for calls in (('rename("gone", "hard-1") = 0', reads("hard-2")),
+                      (reads("hard-2"), 'rename("gone", "hard-1") = 0'),
+                      (f'renameat2({CWD}, "f", {CWD}, "hard-1", 0x2 /* RENAME_EXCHANGE */) = 0', reads("hard-2"))):
+            with self.subTest(calls[0]):
+                self.convert(*calls)
+                listed = self.listed()
+                self.assertEqual((listed["/w/hard-1"], listed["/w/hard-2"]), ({"kind": "reg"}, {"kind": "reg"}))
+
     def test_what_is_known_by_a_call_alone_was_there(self) -> None:
         trace = self.convert(reads("conf"), makes("new"), 'rename("new", "conf") = 0', reads("conf"))
         self.assertEqual([record for record in trace if record.get("unknown") == OF_KIND], [])
@@ -263,6 +288,33 @@ class Unwatched(StraceLines):
     def test_a_rename_that_replaces_nothing(self) -> None:
         (moved,) = self.convert(f'renameat2({CWD}, "f", {CWD}, "unknown", 0x1 /* RENAME_NOREPLACE */) = 0')
         self.assertEqual((moved["from"], moved["to"]), ("/w/f", "/w/unknown~new~"))
+
+
+class LateLooks(WrittenLogs):
+    """What was seen when the run had ended: another file than the one that the first call opened."""
+
+    disk = [*DISK, {"path": "/o", "kind": "dir"}, {"path": "/o/d", "kind": "dir"},
+            {"path": "/o/d/x", "kind": "reg", "new": True}]
+
+    def assert_in_doubt(self, *calls: str) -> None:
+        """The first call may have made its file, or cut one that was there."""
+        opens = [record for record in self.convert(*calls) if record["op"] == "open" and record["call"] == 2]
+        self.assertEqual([record.get("create", False) for record in opens], [False, True])
+
+    def test_in_a_directory_that_was_moved_and_came_back(self) -> None:
+        self.assert_in_doubt(
+            f'openat({CWD}, "/o/d/x", {MADE}) = 3</o/d/x>', 'rename("/o/d", "/o/e") = 0', 'unlink("/o/e/x") = 0',
+            f'openat({CWD}, "/o/e/x", {MADE}) = 3</o/e/x>', 'rename("/o/e", "/o/d") = 0',
+        )
+
+    def test_by_another_mount(self) -> None:
+        self.mounts = [["/", "8:1", "/", "ext4"], ["/m", "8:1", "/o", "ext4"]]
+        self.disk = [*self.disk, {"path": "/m", "kind": "dir"}, {"path": "/m/d", "kind": "dir"},
+                     {"path": "/m/d/x", "kind": "reg", "new": True}]
+        made = f'openat({CWD}, "%s/d/x", {MADE}) = 3<%s/d/x>'
+        for one, other in (("/o", "/m"), ("/m", "/o")):
+            with self.subTest(one):
+                self.assert_in_doubt(made % (one, one), f'unlink("{other}/d/x") = 0', made % (other, other))
 
 
 class WrittenPaths(StraceLines):

@@ -17,6 +17,7 @@ from landaudit_record.common.jsonl import Record
 from landaudit_record.common.problems import NOT_ALL_JUDGED, USAGE, Problem
 from landaudit_record.common.rights import NEWEST_ABI, Rights
 from landaudit_record.common.trees import Tree
+from landaudit_record.engine import reports
 from landaudit_record.engine.landaudit import BUILT
 from landaudit_record.policy import importing, policies, policy_text
 from landaudit_record.policy.importing import Following, Own
@@ -176,6 +177,12 @@ class Stories(unittest.TestCase):
 _Layer = tuple[Rights, Rights, dict[str | int, Rights]]
 
 
+def refused_lines(files: auditor.Files) -> list[Record]:
+    """The records of a trace that its report shows."""
+    shown = set(reports.numbers(files.report))
+    return [record for number, record in jsonl.numbered(files.trace) if number in shown]
+
+
 def _layers(trace: Path, tree: Tree) -> Iterator[tuple[int, list[_Layer]]]:
     """What each restriction of a trace leaves a process with, of its program's own."""
     following = Following(tree, {}, Counter())
@@ -259,9 +266,9 @@ class Answers(InFolder):
         """The refused calls of an audit, but for those on rulesets."""
         with tempfile.TemporaryDirectory() as folder:
             audit = auditor.Auditing(BUILT, recording, Path(folder), True, auditor.Progress())
-            return [(it.record["op"], it.record["pid"], str(it.record.get("path"))) for walk in
-                    audit.walks(range(NEWEST_ABI, NEWEST_ABI + 1), tried, only_refused=True) for it in walk
-                    if it.answered and it.record["op"] not in ON_RULESETS]
+            judged = audit.judged(range(NEWEST_ABI, NEWEST_ABI + 1), tried, only_refused=True)
+            calls = [line for files in judged for line in refused_lines(files)]
+            return [(it["op"], it["pid"], str(it.get("path"))) for it in calls if it["op"] not in ON_RULESETS]
 
     def read(self, text: str) -> policies.Policy:
         file = self.folder / "P.toml"

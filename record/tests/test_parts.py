@@ -82,13 +82,22 @@ class Parts(KeptLogs):
     def test_the_same_rules_are_suggested(self) -> None:
         one, cut = (self.told(3, limits) for limits in (LIMITS, TENTH))
         self.policy(POLICIES["two layers"])
-        of_one = self.suggested(one)
+        of_one = self.said("suggest", one)
         self.assertIn("[[layer.path_beneath]]", of_one)
-        self.assertEqual(self.suggested(cut), of_one)
+        self.assertEqual(self.said("suggest", cut), of_one)
 
-    def suggested(self, recording: Path) -> str:
-        """What is suggested for the policy that was read last."""
-        return called(["suggest", recording, "--policy", Path(self._folder) / "policy.toml"])[1]
+    @unittest.skipIf(wanting(), wanting() or "")
+    def test_the_same_rights_are_needed(self) -> None:
+        """The first line says how many audits there were, and each part has its own."""
+        one, cut = (self.told(3, limits) for limits in (LIMITS, TENTH))
+        self.policy(POLICIES["reading"])
+        of_one = self.said("tighten", one).splitlines()[1:]
+        self.assertTrue(any("# needed by" in line for line in of_one))
+        self.assertEqual(self.said("tighten", cut).splitlines()[1:], of_one)
+
+    def said(self, command: str, recording: Path) -> str:
+        """What a subcommand prints of the policy that was read last."""
+        return called([command, recording, "--policy", Path(self._folder) / "policy.toml"])[1]
 
     def told(self, seed: int, limits: Limits, calls: int = 100) -> Path:
         """The recording of a random story."""

@@ -70,7 +70,7 @@ class Written(InFolder):
     def told(self, *calls: Call) -> list[tuple[int, str, int, bool]]:
         """What is told of each kind, whichever way the trace is written: line, program, times, and whether an ABI
         misses the opening of its number."""
-        each = Counter((told.program or "-", bool(told.missed)) for told in self.walk(calls) if told.answered)
+        each = Counter((told.program or "-", bool(told.missed)) for told in _each(self.walk(calls)) if told.answered)
         for form in FORMS:
             kinds = [(told.line, told.program or "-", times, bool(told.missed))
                      for told, times in kinds_of(self.walk(calls, form)) if told.answered]
@@ -90,6 +90,11 @@ def kinds_of(walk: Walk) -> list[tuple[Told, int]]:
     """What is told of each kind, and how many records it has."""
     counted = walk.counted()
     return [(kind.told(counted.trace, line), times) for kind, line, times in counted.kinds]
+
+
+def _each(walk: Walk) -> list[Told]:
+    """What is told of each record by its kind."""
+    return [kind.told(walk.files[0], line) for kind, line, _ in walk]
 
 
 def _counted(kinds: list[tuple[int, str, int, bool]]) -> Counter[tuple[str, bool]]:
@@ -268,8 +273,9 @@ class OnlyRefused(Written):
     def test_states_of_processes_are_told_and_moot_records_are_not(self) -> None:
         fork = (op("fork", child=2, call=2), "allowed")
         walk = self.walk([START, RUN, CLOSE, OPEN, fork, CLOSE], only_refused=True)
-        self.assertEqual([(told.line, bool(told.answered)) for told in walk],
-                         [(1, False), (2, False), (4, True), (5, False)])
+        (told,) = _each(walk)
+        self.assertEqual((told.line, told.program, told.answered[0][1].error), (4, "/bin", OPEN[1]["error"]))
+        self.assertEqual(walk.pids, {1, 2})
 
     def test_a_report_on_another_trace(self) -> None:
         calls = [START, OPEN, CLOSE]
@@ -283,7 +289,7 @@ class OnlyRefused(Written):
 def _refusals(walk: Walk) -> list[tuple[object, ...]]:
     """What is told of refused records, and by which process."""
     return [(told.line, told.record, told.program, told.confined, abis, answer)
-            for told in walk for abis, answer in told.answered if answer.refused]
+            for told in _each(walk) for abis, answer in told.answered if answer.refused]
 
 
 class AnyTrace(Written):

@@ -92,8 +92,8 @@ class Bytes(unittest.TestCase):
         self.assertFalse(LINES[0].startswith(reports.head(6, 30)))
         self.assertTrue(LINES[-1].startswith(reports.LAST))
         for abis, differing in ((range(1, 6), [False, True, True]), (range(2, 6), [True, True, True])):
-            self.assertEqual(list(map(reports.differing(abis, only_refused=False), LINES[:3])), differing)
-        self.assertEqual(list(map(reports.differing(range(1, 6), only_refused=True), (b"", LINES[1]))), [False, True])
+            self.assertEqual(reports.differing(abis, only_refused=False)(LINES[:3]), differing)
+        self.assertEqual(reports.differing(range(1, 6), only_refused=True)((b"", LINES[1])), [False, True])
         alike = [reports.split(line)[3].startswith(reports.by_all(range(1, 6))) for line in LINES[:3]]
         self.assertEqual(alike, [True, False, False])
 
@@ -107,7 +107,7 @@ class Bytes(unittest.TestCase):
 
     def test_of_one_abi(self) -> None:
         line = b'{"line":6,"pid":300,"op":"close","answers":[{"abi":[3,3],"answer":"%b"}]}\n'
-        self.assertFalse(reports.differing(alone(3), only_refused=False)(line % b"allowed"))
+        self.assertEqual(reports.differing(alone(3), only_refused=False)([line % b"allowed"]), [False])
         self.assertTrue((line % b"allowed").endswith(reports.ENDS_ALLOWED))
         self.assertFalse((line % b"moot").endswith(reports.ENDS_ALLOWED))
         self.assertIn(reports.HAS_REFUSED, line % b"refused")

@@ -111,6 +111,13 @@ class Pieces(unittest.TestCase):
             return [[record for _, record in jsonl.numbered(piece)]
                     for piece in cutting.cut(trace, Path(folder), weights, most)]
 
+    def test_each_piece_has_a_file_of_its_own(self) -> None:
+        """One may still be read when those of another part are written."""
+        with tempfile.TemporaryDirectory() as folder:
+            traces = [write_lines(Path(folder) / f"trace-{part}.jsonl", self.TRACE) for part in (1, 2)]
+            pieces = [piece for trace in traces for piece in cutting.cut(trace, Path(folder), {3: 10}, 13)]
+            self.assertEqual(len({*traces, *pieces}), 6)
+
     def test_one_piece_where_all_fits(self) -> None:
         self.assertEqual(self.pieces({}, 5), [self.TRACE])
 

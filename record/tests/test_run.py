@@ -156,6 +156,18 @@ class Given(unittest.TestCase):
         self.assertEqual([found[str(it.fileno())]["tcp"] for it in (other, tcp)], [None, socket.AF_INET6])
         self.assertFalse({str(kept[0]), str(one.fileno())} & found.keys())
 
+    def test_a_descriptor_of_what_is_not_at_its_path(self) -> None:
+        folder = Path(self.enterContext(tempfile.TemporaryDirectory())).resolve()
+        (folder / "f").touch()
+        (folder / "new").touch()
+        os.link(folder / "f", folder / "other")
+        given = os.open(folder / "f", os.O_RDONLY)
+        self.addCleanup(os.close, given)
+        os.set_inheritable(given, True)
+        self.assertNotIn("elsewhere", recordings.given_descriptors()[str(given)])
+        os.replace(folder / "new", folder / "f")
+        self.assertTrue(recordings.given_descriptors()[str(given)]["elsewhere"])
+
 
 class Signals(unittest.TestCase):
     """Signals, which whoever starts the tests may have them ignore (nohup(1)): here each does what it does by default."""

@@ -162,6 +162,13 @@ class Written(WrittenLogs):
         self.assertEqual(self.counted(UNIX, chosen), {ABSTRACT: 1})
         self.assertEqual(self.reached(UNIX, chosen), [])
 
+    def test_a_name_whose_socket_is_closed_may_be_that_of_another(self) -> None:
+        bound = UNIX, BOUND, "dup(3<socket:[7]>) = 5<socket:[7]>", "close(3<socket:[7]>) = 0"
+        other = UNIX.replace("3<socket:[7]>", "3<socket:[8]>"), CONNECTED.replace("socket:[7]", "socket:[8]")
+        self.assertEqual(self.counted(*bound, *other), {})
+        self.assertEqual(self.counted(*bound, "close(5<socket:[7]>) = 0", *other), {ABSTRACT: 1})
+        self.assertEqual(self.reached(*bound, "close(5<socket:[7]>) = 0", *other), [])
+
     def test_datagrams(self) -> None:
         """strace hides what is sent, and with it the address of sendmsg(2)."""
         letters = UNIX.replace("0x1 /* SOCK_STREAM */", "0x2 /* SOCK_DGRAM */")

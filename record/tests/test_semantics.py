@@ -19,11 +19,13 @@ COUNTED = {
         "test_formats.Run.test_a_format_that_is_not_known",
     ),
     "open_by_handle_at": ("test_inexpressible.Beyond.test_a_file_by_a_handle_of_which_nothing_is_known",),
-    "mq_open; reading an event of fanotify; uselib; writing a core file; writing to `binfmt_misc/register`; io_uring; "
+    "mq_open; reading an event of fanotify; uselib; writing a core file; writing to `binfmt_misc/register`; "
+    "fsconfig with FSCONFIG_CMD_CREATE (erofs); io_uring; "
     "any call that a supervisor of seccomp may let continue": (
         "test_inexpressible.Beyond.test_message_queues_and_pinned_objects",
         "test_inexpressible.Beyond.test_what_fanotify_opens",
         "test_inexpressible.Beyond.test_a_library_that_uselib_loads",
+        "test_inexpressible.Mounts.test_a_file_system_may_be_in_a_file_that_the_kernel_opens",
         "test_moments.Ends.test_a_core_file_may_be_refused",
         "test_before.OpenedInside.test_a_file_whose_path_is_written_into_another_one",
         "test_inexpressible.Beyond.test_calls_that_io_uring_makes",

@@ -6,7 +6,7 @@ import tempfile
 import tomllib
 import unittest
 from collections import Counter
-from collections.abc import Iterator, Sequence
+from collections.abc import Callable, Iterator, Sequence
 from pathlib import Path
 
 from landaudit_record.common import comments
@@ -19,7 +19,7 @@ from landaudit_record.policy.policies import Policy
 from landaudit_record.suggest import suggestion_text
 from landaudit_record.suggest.missing_rights import SuggestedRule
 from landaudit_record.suggest.remarks import Remark, RemarkKind
-from landaudit_record.suggest.suggesting import Recorded, Suggestion, suggest, with_rules
+from landaudit_record.suggest.suggesting import Recorded, Round, Suggestion, suggest, with_rules
 
 from .recorded import (
     MOUNTING,
@@ -107,13 +107,13 @@ def suggested_of(
     """What is suggested of several recordings, of which a round has the answers to each."""
     audits = iter(rounds)
 
-    def audit(_: Policy) -> Iterator[tuple[int, Walk]]:
+    def audit(_: Policy, shows: Callable[[int, Walk], Round]) -> Iterator[Round]:
         for index, calls in enumerate(next(audits, [])):
             trace = records({"op": "nnp", "policy": {}}, *(record for record, _ in calls))
             with tempfile.TemporaryDirectory() as folder:
                 answers: list[Said | list[Object]] = ["allowed", "allowed", *(answer for _, answer in calls)]
                 report = write_report(Path(folder, "report.jsonl"), trace, answers, alone(abi))
-                yield index, Walk(write_lines(Path(folder, "trace.jsonl"), trace), report, alone(abi))
+                yield shows(index, Walk(write_lines(Path(folder, "trace.jsonl"), trace), report, alone(abi)))
 
     return suggest(recorded, to or policy(), abi, audit)
 

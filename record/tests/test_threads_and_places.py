@@ -196,6 +196,16 @@ class GivenSockets(WrittenLogs):
         self.assertEqual(self.unsaid(), [("a port of a socket that came from elsewhere", True)])
 
 
+class GivenFromElsewhere(WrittenLogs):
+    """A directory of another mount namespace: strace shows a path for it that names another one."""
+
+    descriptors = {"7": {"kind": "other", "path": "/w/d", "elsewhere": True}}
+
+    def test_what_it_leads_to_is_not_known(self) -> None:
+        self.convert('mkdirat(7</w/d>, "x", 0700) = 0')
+        self.assertEqual(self.unsaid(), [(converting.ELSEWHERE, True)])
+
+
 class Devices(WrittenLogs):
     """What is a device is known by its path: strace is not asked, since it would look at the object."""
 

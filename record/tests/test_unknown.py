@@ -315,6 +315,14 @@ class Programs(Unknown):
                 self.assertEqual(self.run_by([self.READ], self.RUNS, change.replace("= 3", "= 5")), [])
                 self.assertEqual(self.unsaid(), [(programs.UNKNOWN_PROGRAM, True)])
 
+    def test_what_was_rewritten_by_a_further_name(self) -> None:
+        """A hard link."""
+        self.SCRIPT = {**self.SCRIPT, "inode": "1:7"}
+        opened = opens("/s/h", "0x201 /* O_WRONLY|O_TRUNC */").replace("= 3", "= 5")
+        link = seen("/s/h", "reg", 0, inode="1:7")
+        self.assertEqual(self.run_by([self.READ, link], self.RUNS, opened), [])
+        self.assertEqual(self.unsaid(), [(programs.UNKNOWN_PROGRAM, True)])
+
     def test_what_was_gone(self) -> None:
         gone = {"program": "/s/x", "first": FIRST, "until": FIRST + 1, "known": False}
         self.assertEqual(self.run_by([gone], self.RUNS), [])

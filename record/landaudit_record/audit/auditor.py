@@ -5,13 +5,14 @@ from __future__ import annotations
 import errno
 import os
 import tempfile
-from collections.abc import Iterable, Iterator
+from collections.abc import Callable, Iterable, Iterator
 from contextlib import contextmanager
 from dataclasses import dataclass, field, replace
+from functools import partial
 from pathlib import Path
-from typing import NamedTuple
+from typing import NamedTuple, TypeVar
 
-from ..common import jsonl, trees
+from ..common import apart, jsonl, trees
 from ..common.finished import Finished, Part
 from ..common.jsonl import Record
 from ..common.progress import Progress
@@ -25,6 +26,7 @@ from ..policy.applying import Plan
 from ..policy.policies import Policy
 from . import cutting, surroundings
 
+Result = TypeVar("Result")
 #: The characters of a shell pattern.
 GLOB = "*?["
 #: The errors by which the kernel says that nothing can be made in a folder.
@@ -157,13 +159,18 @@ class Auditing:
     status: int = 0
     _run: landaudit.Run | None = field(default=None, init=False)
 
-    def walks(
-        self, abis: range, tried: TriedPolicy | None, policy: Policy | None = None, *, only_refused: bool = False
-    ) -> Iterator[Walk]:
-        """Judges each part at some ABIs, and yields a walk over its answers, as `judged` does."""
-        for files in self.judged(abis, tried, policy, only_refused=only_refused):
-            yield Walk(files.trace, files.report, abis, self.progress, only_refused=only_refused,
-                       weighted=self.recording.is_distilled)
+    def walk(self, files: Files, abis: range, *, only_refused: bool = False) -> Walk:
+        """A walk over the answers of some ABIs that `judged` has given."""
+        return Walk(files.trace, files.report, abis, self.progress, only_refused=only_refused,
+                    weighted=self.recording.is_distilled)
+
+    def read(self, judged: Iterable[Files], reading: Callable[[Files], Result]) -> Iterator[Result]:
+        """Reads all files that were judged. Parts are read by processes of their own, while landaudit judges the next
+        ones.
+        """
+        if len(self.recording.parts) > 1 and landaudit.workers() > 1:
+            return apart.each((partial(reading, files) for files in judged), landaudit.workers())
+        return map(reading, judged)
 
     def judged(
         self,

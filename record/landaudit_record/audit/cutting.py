@@ -18,7 +18,7 @@ def cut(trace: Path, folder: Path, weights: Mapping[int, int], most: int = MOST)
     """Pieces of a trace, each a trace of its own that begins with what all living processes have.
 
     A record has the weight 1, or the one that is given for its line. A piece ends between two system calls, before it
-    would be too heavy. The next piece is written after this one was used.
+    would be too heavy. Each piece has a file of its own.
     """
     living = Living()
     pieces = 0
@@ -26,7 +26,7 @@ def cut(trace: Path, folder: Path, weights: Mapping[int, int], most: int = MOST)
     calls = _calls(trace)
     call = next(calls, None)
     while call is not None:
-        piece = folder / f"piece-{pieces}.jsonl"
+        piece = folder / f"{trace.stem}-piece-{pieces}.jsonl"
         with open(piece, "w", encoding="utf-8") as out:
             out.writelines(map(jsonl.line, again))
             weight = len(again)

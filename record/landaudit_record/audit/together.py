@@ -2,10 +2,11 @@
 
 from __future__ import annotations
 
-from collections.abc import Iterator, Sequence
+from collections.abc import Callable, Iterator, Sequence
 from contextlib import ExitStack, contextmanager
 from dataclasses import dataclass, replace
 from pathlib import Path
+from typing import TypeVar
 
 from ..common import trees
 from ..common.finished import Finished
@@ -17,9 +18,11 @@ from ..common.trees import Tree
 from ..engine.reading import Walk
 from ..policy.policies import Policy
 from . import auditor, expanding
-from .auditor import Auditing, TriedPolicy
+from .auditor import Auditing, Files, TriedPolicy
 from .summary import Summary
 from .warnings import RuleUnused
+
+Result = TypeVar("Result")
 
 
 @dataclass(frozen=True)
@@ -111,13 +114,17 @@ def audits(members: Sequence[Member], program: Path, name: str, *, best_effort: 
         yield found
 
 
-def walks(
-    members: Sequence[Member], audits: Sequence[Auditing], abis: range, policy: Policy
-) -> Iterator[tuple[int, Walk]]:
-    """Walks over what is refused in all parts of all recordings under a policy, each with the recording's index."""
+def read(
+    members: Sequence[Member], audits: Sequence[Auditing], abis: range, policy: Policy,
+    reading: Callable[[int, Walk], Result],
+) -> Iterator[Result]:
+    """Reads what is refused in all parts of all recordings under a policy: walks, each with the recording's index."""
     for index, (member, auditing) in enumerate(zip(members, audits)):
-        for walk in auditing.walks(abis, member.tried, policy, only_refused=True):
-            yield index, walk
+
+        def of_part(files: Files, index: int = index, auditing: Auditing = auditing) -> Result:
+            return reading(index, auditing.walk(files, abis, only_refused=True))
+
+        yield from auditing.read(auditing.judged(abis, member.tried, policy, only_refused=True), of_part)
 
 
 def united(each: Sequence[tuple[Member, Summary]]) -> Summary:

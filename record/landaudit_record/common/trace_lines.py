@@ -30,11 +30,9 @@ ADDS = b'"op":"add_path"'
 CREATES = (b'"create":true', b'"cuts":true')
 #: The most frequent records that change what is kept.
 CHANGES = re.compile(
-    rb'\{"op":"(exit|fork|exec)","pid":[0-9]+(?:,"child":([0-9]+)|,"path":"([^"\\]*)")?(,"role":"[a-z]+")?'
+    rb'\{"op":"(exit|fork|exec)","pid":([0-9]+)(?:,"child":([0-9]+)|,"path":"([^"\\]*)")?(,"role":"[a-z]+")?'
     rb',"call":[0-9]+(?:,"kernel":"ok")?\}\n'
 )
-#: How a line begins that landaudit-record writes, with its process.
-OF_PROCESS = re.compile(rb'\{"op":"[a-z_]+","pid":([0-9]+),')
 #: Members in which records may differ that a summary counts as one: for an opening, its number too. If they are taken
 #: out, a comma may be left before the end of the line (`ENDS`).
 OWN = re.compile(rb'"(?:pid|call)":[0-9]+(?:,|(?=\}\s*\Z))')
@@ -42,6 +40,7 @@ OWN_OF_OPENING = re.compile(rb'"(?:pid|call|fd)":[0-9]+(?:,|(?=\}\s*\Z))')
 ENDS = re.compile(rb",\s*\}\s*\Z")
 #: How many records a line of a distilled recording stands for.
 STANDS_FOR = re.compile(rb'"stands_for":([0-9]+)')
+CALL = re.compile(rb'"call":\s*([0-9]+)')
 FD = re.compile(rb'"fd":([0-9]+)')
 COPIES = re.compile(rb'"fd":([0-9]+),"to":([0-9]+)')
 

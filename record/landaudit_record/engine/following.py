@@ -15,11 +15,12 @@ IN_RUN = "in_run"
 class Followed:
     """All processes of a trace, followed record by record.
 
-    `watched` is how many numbers are not open under some ABI because their opening was not allowed, and may be opened
-    again; `confines` says whether a process asked for a layer.
+    `pids` are all processes; `watched` is how many numbers are not open under some ABI because their opening was not
+    allowed, and may be opened again; `confines` says whether a process asked for a layer.
     """
 
     def __init__(self) -> None:
+        self.pids: set[int] = set()
         self.watched = 0
         self.confines = False
         self._programs: dict[int, str | None] = {}
@@ -53,6 +54,7 @@ class Followed:
         pid = record["pid"]
         match record["op"]:
             case "start":
+                self.pids.add(pid)
                 self._programs[pid] = None
                 self._confined.discard(pid)
             case "fork":
@@ -83,6 +85,7 @@ class Followed:
 
     def fork(self, pid: int, child: int) -> None:
         """A child has what its parent has."""
+        self.pids.add(child)
         self._programs[child] = self._programs.get(pid)
         self._confined.discard(child)
         self._confined.update({child} if pid in self._confined else ())

@@ -12,7 +12,7 @@ import json
 import re
 from array import array
 from collections import Counter
-from collections.abc import Iterator
+from collections.abc import Iterator, Set
 from dataclasses import dataclass
 from itertools import accumulate, count, islice, zip_longest
 from pathlib import Path
@@ -41,7 +41,7 @@ from ..common.trace_lines import (
     head,
 )
 from . import reports
-from .answers import Answer, Answered, Refusing
+from .answers import Answer, Answered
 from .following import NOWHERE, Followed
 from .processes import ProcessState, Processes, shown
 from .subjects import NOTHING, Number, Subject
@@ -82,7 +82,7 @@ _ON_NUMBERS = frozenset(b'"op":"%b"' % op.encode() for op, of in OPERATIONS.item
 _PID = len('"pid":')
 #: In answers, the line of the `restrict` that made a layer, and that of the record that opened a file.
 _OF_LAYER, _OPENED = re.compile(rb'"line":([0-9]+)'), re.compile(rb'"opened":([0-9]+)')
-_WHERE_OPENED = b'"opened":'
+_LINE, _WHERE_OPENED = b'"line":', b'"opened":'
 
 
 def judged(trace: Path, report: Path, abi: int) -> Iterator[Judged]:
@@ -144,6 +144,12 @@ class Alike(NamedTuple):
     members: bytes
     answers: bytes
 
+    @property
+    def alike(self) -> Alike:
+        """What also those have in common whose files were opened at other lines."""
+        opens = _WHERE_OPENED in self.answers
+        return self._replace(answers=_OPENED.sub(b"", self.answers)) if opens else self
+
     def told(self, trace: Path, line: int) -> Told:
         """The record on a line of a trace, which is one of these, as far as all of them agree."""
         return _told(line, jsonl.read(trace, line, ENDS.sub(b"}", self.members)), self.answers, self.standing)
@@ -204,33 +210,30 @@ class Walk:
         """Whether a process asked for a layer."""
         return self._processes.confines
 
-    def policy_of(self, layer: Refusing) -> int | None:
-        """The number in the tried policy of a layer that refuses a record; None if it is no policy's."""
-        return None if layer.line is None else self._processes.policy_of(layer.line)
+    @property
+    def pids(self) -> Set[int]:
+        """The processes that the trace starts or forks."""
+        return self._processes.pids
 
-    def __iter__(self) -> Iterator[Told]:
-        """Each record that some ABI does not allow, or that changes what is kept."""
-        for said in self._lines():
-            _, _, to_do, _, differs = said
-            if differs or to_do >= _RULE:
-                told = self._taken_apart(said)
-                self.path_calls += told.times if told.asked and to_do == _READ else 0
-                yield told
-            elif self._whole:
-                self._follow_opening(said, self._members(said))
-
-    def counted(self) -> Counted:
-        """The kinds of records that are not allowed under all ABIs, and of those of the tried policy."""
-        first: dict[Alike, tuple[Alike, int]] = {}
-        found: dict[Alike, int] = {}
+    def __iter__(self) -> Iterator[tuple[Alike, int, bytes]]:
+        """The kind of each record that some ABI does not allow, or that is of the tried policy; its number and line."""
         for said in self._lines():
             kind = self._kind(said)
             if kind is not None:
-                opens = _WHERE_OPENED in kind.answers
-                alike = kind._replace(answers=_OPENED.sub(b"", kind.answers)) if opens else kind
-                first.setdefault(alike, (kind, said[0]))
-                found[alike] = found.get(alike, 0) + self._times(said[1])
-        kinds = [(*first[alike], times) for alike, times in found.items() if times]
+                yield kind, said[0], said[1]
+
+    def counted(self) -> Counted:
+        """The kinds of records that are not allowed under all ABIs, and of those of the tried policy."""
+        first: dict[Alike, int] = {}
+        found: list[tuple[Alike, int]] = []
+        times: list[int] = []
+        for kind, number, line in self:
+            place = first.setdefault(kind.alike, len(found))
+            if place == len(found):
+                found.append((kind, number))
+                times.append(0)
+            times[place] += self.times(line)
+        kinds = [(kind, number, many) for (kind, number), many in zip(found, times) if many]
         return Counted(self.files[0], kinds, self.records, self.path_calls, self.unsure, self.confines)
 
     def _lines(self) -> Iterator[_Said]:
@@ -255,8 +258,8 @@ class Walk:
         on_paths = [line for line, to_do in zip(lines, to_dos) if to_do & _ON_PATH]
         others = [line for line in on_paths if not line.endswith(LET_THROUGH)]
         self.path_calls += len(on_paths) - len(others) + sum(map(_asked, others))
-        differ, processes, behind = list(map(self._differs, answers)), self._processes, 0
-        told = [index for index, to_do in enumerate(to_dos) if differ[index] or to_do >= _RULE]
+        differ, processes, behind = self._differs(answers), self._processes, 0
+        told = [index for index, to_do in enumerate(to_dos) if to_do >= _RULE or differ[index]]
         for index in (*told, len(lines)):
             for between in range(behind, index) if processes.watched else ():
                 if to_dos[between] & _OPENS_NUMBER and processes.watched:
@@ -271,7 +274,7 @@ class Walk:
             if not line.strip(jsonl.BLANKS):
                 return
             to_do = _OTHERWISE if OTHERWISE in line and UNKNOWN in line else _READ
-        differs = self._differs(answer)
+        (differs,) = self._differs([answer])
         said = number, line, to_do, answer, differs
         if to_do != _OTHERWISE:
             yield from self._united()
@@ -281,7 +284,7 @@ class Walk:
         elif to_do == _OTHERWISE:
             self._together.append(said)
         else:
-            times = self._times(line)
+            times = self.times(line)
             self.records += times
             if to_do == _READ and UNKNOWN in line:
                 self._together.append(said)
@@ -321,13 +324,13 @@ class Walk:
         if not together:
             return
         answers, unsure = reports.united([answer for *_, answer, _ in together], self._abis)
-        times = self._times(together[0][1])
+        times = self.times(together[0][1])
         self.unsure.update({abi: times for abi in unsure})
         for (number, line, to_do, answer, _), known in zip(together, answers):
             if known or to_do != _OTHERWISE:
                 yield number, line, to_do, known or answer, bool(known)
 
-    def _times(self, line: bytes) -> int:
+    def times(self, line: bytes) -> int:
         """How many records a line stands for."""
         found = STANDS_FOR.search(line) if self._weighted else None
         return 1 if found is None else int(found[1])
@@ -357,14 +360,18 @@ class Walk:
 
     def _kind(self, said: _Said) -> Alike | None:
         """Follows what a record changes, and gives its kind if a summary counts it."""
-        _, line, to_do, _, differs = said
+        _, line, to_do, answer, differs = said
+        if self._left_out(answer):
+            if to_do >= _STATE and not self._changes(line):
+                self._taken_apart(said)
+            return None
         members = self._members(said)
         counts = differs or POLICY in line
         if not counts and to_do < _STATE:
             self._follow_opening(said, members)
             return None
         standing = None if to_do == _READ else self._standing(line, members, differs)
-        if standing is None or (to_do >= _STATE and not self._changes(line, _pid(members))):
+        if standing is None or (to_do >= _STATE and not self._changes(line)):
             told = self._taken_apart(said)
             self.path_calls += told.times if told.asked and to_do == _READ else 0
             counts = counts or "policy" in told.record
@@ -375,10 +382,12 @@ class Walk:
         return Alike(standing, own.sub(b"", line), self._without_lines(members[3]) if differs else b"")
 
     def _without_lines(self, answers: bytes) -> bytes:
-        """Answers that say the same without the trace: see `Alike`."""
-        if _WHERE_OPENED in answers:
+        """Answers that say the same without the trace: see `Alike`. In a report of refused records alone, which is asked
+        where rules must be, paths stay those of the tree.
+        """
+        if self._whole and _WHERE_OPENED in answers:
             answers = _OPENED.sub(self._with_path, answers)
-        return _OF_LAYER.sub(self._of_policy, answers)
+        return _OF_LAYER.sub(self._of_policy, answers) if _LINE in answers else answers
 
     def _of_policy(self, line: re.Match[bytes]) -> bytes:
         number = self._processes.policy_of(int(line[1]))
@@ -414,7 +423,7 @@ class Walk:
         if member + b"," not in line and member + b"}" not in line:
             return None
         pid, missed = _pid(members), NOWHERE
-        if op in _ON_NUMBERS:
+        if op in _ON_NUMBERS and self._whole:
             found = (COPIES if op == _DUP else FD).search(line)
             if found is None:
                 return None
@@ -431,19 +440,19 @@ class Walk:
         """The ABIs that do not allow a record; most records get one answer by all ABIs."""
         return self._all if answers.startswith(self._by_all) else reports.abis_of_others(answers)
 
-    def _changes(self, line: bytes, pid: int) -> bool:
+    def _changes(self, line: bytes) -> bool:
         """Follows what a record changes, if it is a frequent one and is written as landaudit-record writes it."""
         found = CHANGES.fullmatch(line)
         if found is None:
             return False
-        op, child, path, role = found.groups()
+        op, pid, child, path, role = found.groups()
         match op:
             case b"exit":
-                self._processes.end(pid)
+                self._processes.end(int(pid))
             case b"fork":
-                self._processes.fork(pid, int(child))
+                self._processes.fork(int(pid), int(child))
             case b"exec" if role is None:
-                self._processes.run(pid, path.decode())
+                self._processes.run(int(pid), path.decode())
         return True
 
 

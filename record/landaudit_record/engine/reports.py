@@ -11,6 +11,8 @@ import re
 from collections.abc import Callable, Iterator, Mapping, Sequence
 from dataclasses import dataclass
 from functools import lru_cache
+from itertools import repeat
+from operator import not_
 from pathlib import Path
 from types import TracebackType
 from typing import Any, BinaryIO, NamedTuple
@@ -69,12 +71,14 @@ def by_all(abis: range) -> bytes:
     return b'"answers":[{"abi":[%d,%d],' % (abis[0], abis[-1])
 
 
-def differing(abis: range, *, only_refused: bool) -> Callable[[bytes], bool]:
-    """Whether the line of a record says that some ABI of a range does not allow it; a report of refused records alone
-    has no other lines.
+def differing(abis: range, *, only_refused: bool) -> Callable[[Sequence[bytes]], list[bool]]:
+    """Whether each of some lines says that some ABI of a range does not allow a record; a report of refused records
+    alone has no other lines.
     """
+    if only_refused:
+        return lambda lines: list(map(bool, lines))
     allowed = by_all(abis) + ENDS_ALLOWED
-    return (lambda line: line != b"") if only_refused else (lambda line: not line.endswith(allowed))
+    return lambda lines: list(map(not_, map(bytes.endswith, lines, repeat(allowed))))
 
 
 def split(line: bytes) -> list[bytes]:

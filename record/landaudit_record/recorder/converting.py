@@ -24,6 +24,7 @@ from .writing import LIMITS, Limits, ListedTree, Recording
 CORE_FILE = "a core file that the kernel was to write"
 TAKEN_AWAY = "a file system that was taken from its server, for which strace waited: its use failed from then on"
 NOT_SEEN_TO_START = "a process whose start was not seen"
+ELSEWHERE = "calls by an inherited descriptor whose path names another object"
 #: The number of lines after which progress may be shown again.
 LINES_APART = 64
 
@@ -129,6 +130,8 @@ def _started(scene: Scene, about: About, call: Call) -> Thread:
         handle.node = scene.names.at(handle.path) if handle.path is not None else None
         process.table[int(number)] = handle
         scene.adopt(thread, call, int(number), handle)
+        if known.get("elsewhere"):
+            scene.leave_out(thread, call, ELSEWHERE, asks=True)
     return thread
 
 

@@ -125,6 +125,11 @@ class MountPlaces:
         several = Counter(device for device, _ in self._at.values())
         self._several = {device for device, number in several.items() if number > 1}
 
+    @property
+    def are_several(self) -> bool:
+        """Whether a file system is mounted at several places."""
+        return bool(self._several)
+
     def splits_links(self, path: str) -> bool:
         """Whether the names of a file are, for all that is known, objects apart though they have one inode's number.
 
@@ -146,6 +151,11 @@ class MountPlaces:
         """A path in a proc(5) file system by the name that it has in /proc; any other path as it is."""
         place = next((place for place in self.procs if path.startswith(f"{place}/")), None)
         return path if place is None else PROC + path[len(place) :]
+
+    def is_in_further_proc(self, names: Sequence[str]) -> bool:
+        """Whether the names of a directory lead into a proc(5) file system that is not the one at /proc."""
+        path = f"/{'/'.join(names)}/" if self.procs else ""
+        return any(path.startswith(f"{place}/") for place in self.procs)
 
     def are_one(self, one: str, other: str) -> bool | None:
         """Whether two paths are in one mount; None if the mounts are not known."""

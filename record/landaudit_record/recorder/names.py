@@ -190,6 +190,7 @@ class Names:
         self._unknown: set[str] = set()
         self._asked_later: set[str] = set()
         self._read_late: dict[str, list[tuple[int, int]]] = {}
+        self._programs: dict[Node, set[str]] = {}
         self._disk = disk
         self._before = before
         self._watched = [top.rstrip("/") + "/" for top in watched]
@@ -278,12 +279,26 @@ class Names:
 
     def is_unknown(self, path: str) -> bool:
         """Whether nobody knows if an object was at a path before the current call, or of which kind it was."""
-        return path in self._unknown
+        return self._looked_up(path) in self._unknown
+
+    def _looked_up(self, path: str) -> str:
+        """The path at which a name is looked up: its directory may have others by other mounts of its file system."""
+        if not self.places.are_several:
+            return path
+        over, _, name = path.rpartition("/")
+        directory = self.at(over)
+        origin = directory.looked_up()[0] if directory is not None else None
+        return path if origin is None else f"{origin}/{name}"
 
     def check_way(self, here: Sequence[str], name: str, node: Node | None) -> None:
-        """Checks that a name which is followed is known to be a link or none."""
+        """Checks that a name which is followed is known to be a link or none, and that it is known where a link leads.
+
+        Those of a further mount of /proc lead each process elsewhere, and the recorder too when it looks.
+        """
         if node is None:
-            unknown = bool(self._unknown) and join([*here, name]) in self._unknown
+            unknown = bool(self._unknown) and self.is_unknown(join([*here, name]))
+        elif node.kind == "sym" and self.places.is_in_further_proc(here):
+            unknown = True
         else:
             unknown = bool(node.others) and any("sym" in (node.kind, other.kind) for other in node.others)
         if unknown:
@@ -291,26 +306,48 @@ class Names:
 
     def may_be_made(self, path: str) -> bool:
         """Whether nobody knows if a file at a path was there before the current call, which may have made it."""
-        late = self._late.get(path)
+        late = self._late.get(self._looked_up(path))
         if late is None or late.is_there or late.until < self.line or late.seen is None:
             return self.is_unknown(path)
         return late.seen.new is None and late.seen.kind == "reg"
 
     def may_be_replaced(self, path: str) -> bool:
         """Whether nobody knows if an object was at a path before the current call, which put another one there."""
-        late = self._late.get(path)
+        late = self._late.get(self._looked_up(path))
         if late is None or late.is_there or late.until < self.line:
             return self.is_unknown(path)
         return late.seen is not None
 
     def seen_later(self, path: str) -> Seen | None:
         """What was seen at a path after the current call, unless it is known that another call changed it meanwhile."""
+        path = self._looked_up(path)
         observed = self._disk.observed(path)
         self._asked_later.add(path)
         return None if path in self.doubts.objects or observed.until < self.line else observed.seen
 
+    def apart(self, path: str) -> Node | None:
+        """What was at a path before the current call, if this puts there what was seen later: an object of its own.
+
+        What has the same inode's number as that has names of what the call put there.
+        """
+        late, node = self._late.get(self._looked_up(path)), self.at(path)
+        seen = late.seen if late is not None and late.line == self.line else None
+        if node is None or seen is None or seen.inode is None:
+            return node
+        if node.start == path:
+            self._linked.pop(seen.inode, None)
+            return node
+        own = Node(node.kind, node.target)
+        if self._starts.get(path) is node:
+            own.start, self._starts[path] = path, own
+        over, _, name = path.rpartition("/")
+        if (directory := self.at(over)) is not None:
+            self._name(directory, name, own)
+        return own
+
     def stays(self, path: str) -> None:
         """Notes that what was seen later at a path, if it was asked for, is what the current call put there."""
+        path = self._looked_up(path)
         if path in self._asked_later:
             if (seen := self.seen_later(path)) is not None:
                 self._late[path] = _Late(self.line, self._disk.observed(path).until, seen, is_there=True)
@@ -318,7 +355,7 @@ class Names:
 
     def is_there(self, path: str) -> None:
         """Notes that a call has shown that an object was at a path before."""
-        if (late := self._late.get(path)) is not None:
+        if (late := self._late.get(self._looked_up(path))) is not None:
             late.is_there = True
 
     def settle(self, path: str) -> None:
@@ -326,6 +363,7 @@ class Names:
 
         If an object was seen there later, an earlier call may have met another one, or none.
         """
+        path = self._looked_up(path)
         late = self._late.pop(path, None)
         if late is not None and late.line < self.line <= late.until and late.seen is not None:
             self.doubts.objects.add(path)
@@ -338,23 +376,29 @@ class Names:
             return Program(known=False)
         if found.known and found.until >= self.line:
             self._read_late.setdefault(path, []).append((self.line, found.until))
+            seen, node = self._disk.look(path), self.at(path)
+            if node is not None and (self.places.are_several or (seen is not None and seen.inode is not None)):
+                self._programs.setdefault(node, set()).add(path)
         return found
 
     def changed(self, path: str) -> None:
         """Notes that a call changes what is at a path, or what is in the file there: what was seen later is not it."""
+        self.rewritten(path)
+        path = self._looked_up(path)
         late = self._late.get(path)
         if late is not None and late.line < self.line:
             if self.line <= late.until:
                 self.doubts.objects.add(path)
             del self._late[path]
         self._unknown.discard(path)
-        self.rewritten(path)
 
     def rewritten(self, path: str) -> None:
         """Notes that a call may change what is in the file at a path."""
-        for line, until in self._read_late.pop(path, ()):
-            if line < self.line <= until:
-                self.doubts.programs.add((path, line))
+        node = self.at(path) if self._programs else None
+        for one in {path, *(self._programs.pop(node, ()) if node is not None else ())}:
+            for line, until in self._read_late.pop(one, ()):
+                if line < self.line <= until:
+                    self.doubts.programs.add((one, line))
 
     def kind(self, seen: str) -> str:
         """The kind as which Landlock guards what was seen."""
@@ -430,7 +474,7 @@ class Names:
                 self._doubt_kind(child, path, among if count == len(names) else ())
             node = child
         self.is_there(path)
-        self._unknown.discard(path)
+        self._unknown.discard(self._looked_up(path))
         return node
 
     def _doubt_kind(self, node: Node, path: str, among: Sequence[str]) -> None:
@@ -558,9 +602,10 @@ class Names:
     def _arrives(self, node: Node | None, start: str, end: str) -> None:
         """Notes that the contents of a directory are looked up at its new path from now on."""
         if node is not None and node.origin is not None:
-            node.origin, node.arrived = end, self.line
-            for path in [path for path in self._late if path.startswith(f"{start}/")]:
+            beneath = f"{node.origin}/", f"{start}/"
+            for path in [path for path in self._late if path.startswith(beneath)]:
                 self.changed(path)
+            node.origin, node.arrived = end, self.line
 
     def seen_exchanged(self, one: str, other: str, end: int) -> None:
         """Corrects what two names were that a call exchanges which ends on a line, if they were seen only after it.
@@ -568,6 +613,7 @@ class Names:
         Each of the objects is then what was seen at the other name, if that was after the end of the call.
         """
         for path, now in ((one, other), (other, one)):
+            path = self._looked_up(path)
             late = self._late.get(path)
             if late is None or late.line < self.line:
                 continue

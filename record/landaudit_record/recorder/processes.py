@@ -18,7 +18,8 @@ class Handle:
     number that the trace has for the Landlock ruleset that it is; `tcp` is the family of a TCP socket. `foreign` says
     that the process did not open it, so nobody knows what Landlock kept with it; `placeless` says that it is in a mount
     that has no place in the tree, `unsure` that nothing says whether it is open on a device, `letters` that it is a UNIX
-    socket for datagrams. `terminal` is the path of the terminal of which it is the master, if that was asked for.
+    socket for datagrams, `socket` which UNIX socket it is. `terminal` is the path of the terminal of which it is the
+    master, if that was asked for.
     """
 
     path: str | None = None
@@ -33,6 +34,7 @@ class Handle:
     unsure: bool = False
     letters: bool = False
     terminal: str | None = None
+    socket: str | None = None
 
     def copy(self) -> Handle:
         """The same for another number or process; a fork copies all, and `dataclasses.replace` takes long."""
@@ -49,6 +51,7 @@ class Handle:
             self.unsure,
             self.letters,
             self.terminal,
+            self.socket,
         )
 
     def duplicate(self, *, close_on_exec: bool) -> Handle:

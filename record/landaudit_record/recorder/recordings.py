@@ -3,6 +3,7 @@
 from __future__ import annotations
 
 import ctypes
+import errno
 import json
 import os
 import socket
@@ -132,7 +133,8 @@ def policy_of(folder: Path) -> Path | None:
 def given_descriptors() -> dict[str, dict[str, Any]]:
     """The descriptors that a command inherits, each with its kind and path, and the family of a TCP socket.
 
-    Of a ruleset nothing is known, so it has no family.
+    `elsewhere` says that a file or directory is not what its path names: it is in another mount namespace, or another
+    one has been put in its place. Of a ruleset nothing is known, so it has no family.
     """
     found: dict[str, dict[str, Any]] = {}
     for number in sorted(map(int, os.listdir("/proc/self/fd"))):
@@ -146,9 +148,20 @@ def given_descriptors() -> dict[str, dict[str, Any]]:
         kinds = {stat.S_IFREG: "reg", stat.S_IFCHR: "device", stat.S_IFBLK: "device"}
         kind = kinds.get(stat.S_IFMT(status.st_mode), "other")
         given: dict[str, Any] = {"kind": kind, "path": path if path.startswith("/") else None}
+        if given["path"] is not None and _is_elsewhere(path, status):
+            given["elsewhere"] = True
         tcp = _tcp(number) if stat.S_ISSOCK(status.st_mode) else None
         found[str(number)] = given if path == RULESET else {**given, "tcp": tcp}
     return found
+
+
+def _is_elsewhere(path: str, opened: os.stat_result) -> bool:
+    """Whether an open file or directory that has a name is not at its path."""
+    is_either = stat.S_ISREG(opened.st_mode) or stat.S_ISDIR(opened.st_mode)
+    try:
+        return is_either and opened.st_nlink > 0 and not os.path.samestat(os.lstat(path), opened)
+    except OSError as error:
+        return error.errno != errno.EACCES
 
 
 def _tcp(number: int) -> int | None:

@@ -96,7 +96,7 @@ class Scene:
     `placeless` says whether there was a descriptor that is in a mount without a place. `through` are the processes
     whose links in /proc a path of this call goes through, `near` says which paths may, `reads_links` whether
     readlink(2) was traced, and `hides` whether all of a process in /proc is only for those who may trace it, and for
-    the group `hides_not_from`. `sockets` has the makers of UNIX sockets, each with the moment, and `abstract` those of
+    the group `hides_not_from`. `sockets` has the makers of UNIX sockets, each with the moment, and `abstract` which are
     the sockets that have an abstract name (None if nobody knows who made it); `ended` are the processes that ended last.
     """
 
@@ -128,7 +128,7 @@ class Scene:
         self.hides = False
         self.hides_not_from: int | None = None
         self.sockets: dict[str, tuple[int, int]] = {}
-        self.abstract: dict[str, tuple[int, int] | None] = {}
+        self.abstract: dict[str, str | None] = {}
         self.ended: dict[int, Process] = {}
         self.ruled: list[tuple[str, Node]] = []
         self.handles: dict[str, str] = {}
@@ -377,6 +377,7 @@ class Scene:
         """Puts a descriptor that came from elsewhere under its number, of the kind that it has."""
         handle = Handle(of.path, adopted=self._kind(of), close_on_exec=close_on_exec, foreign=_is_foreign(of))
         handle.node = self.names.at(of.path) if of.path is not None and not of.deleted and not of.in_memory else None
+        handle.socket = of.behind
         self.put(thread, call, of.number, handle)
         return handle
 

@@ -11,11 +11,12 @@ from ..common.jsonl import Record
 from ..common.numbered import Numbered
 from ..common.operations import call_text
 from ..common.rights import FS, NET, NONE, Rights
+from ..common.trace_lines import CALL
 from ..common.trees import Tree, directory_of
 from ..engine import processes
 from ..engine.answers import UNSURE, Answer, Closed, Gained, Kept, Missing, Objection
 from ..engine.processes import of_policy
-from ..engine.reading import Told, Walk
+from ..engine.reading import Alike, Told, Walk
 from ..policy.policies import Access, Layer, PathRule, Policy, PortRule, group_rules
 from . import missing_rights, styling, widening
 from .missing_rights import CallId, SuggestedRule, Wanted, Wants
@@ -38,7 +39,7 @@ class Recorded:
 
 @dataclass
 class Round:
-    """What one audit shows: what the policy's layers lack, by recording, and refusals that no rule can fix.
+    """What an audit or a part of it shows: what the policy's layers lack, by recording, and refusals that no rule fixes.
 
     `new` has, by recording and directory, the real paths of objects that calls would make there; `pids` has the
     processes of each recording. `unsure` has the calls that may be refused, each in words.
@@ -51,6 +52,21 @@ class Round:
     new: dict[int, dict[str, set[str]]] = field(default_factory=dict)
     pids: dict[int, set[int]] = field(default_factory=dict)
     unsure: dict[CallId, str] = field(default_factory=dict)
+
+    def add(self, other: Round) -> None:
+        """Adds what a later part shows."""
+        for number, by_recording in other.wants.items():
+            for index, more in by_recording.items():
+                missing_rights.unite(self.wants.setdefault(number, {}).setdefault(index, {}), more)
+        for index, by_directory in other.new.items():
+            for directory, paths in by_directory.items():
+                self.new.setdefault(index, {}).setdefault(directory, set()).update(paths)
+        for index, pids in other.pids.items():
+            self.pids.setdefault(index, set()).update(pids)
+        self.unmended.update(other.unmended)
+        self.of_program.update(other.of_program)
+        self.failed.update(other.failed)
+        self.unsure.update(other.unsure)
 
 
 @dataclass(frozen=True)
@@ -98,14 +114,14 @@ def suggest(
     recorded: Sequence[Recorded],
     policy: Policy,
     abi: int,
-    audit: Callable[[Policy], Iterable[tuple[int, Walk]]],
+    audit: Callable[[Policy, Callable[[int, Walk], Round]], Iterable[Round]],
     making: RuleMaking = RuleMaking(),
 ) -> Suggestion:
     """Adds rules until no layer of the policy refuses a call that a rule could fix.
 
-    `audit` audits each part of each recording under a policy, with the recording's index. With the rules of one round,
-    the next round may show further refusals, which came behind those that the rules fix. A round that shows nothing new
-    is the last.
+    `audit` audits each part of each recording under a policy, and gives what is shown by the recording's index and a
+    walk over the part. With the rules of one round, the next round may show further refusals, which came behind those
+    that the rules fix. A round that shows nothing new is the last.
     """
     found = Round()
     groups: dict[int, Mapping[str, int]] = {}
@@ -114,8 +130,11 @@ def suggest(
     new: list[dict[str, set[str]]] = [{} for _ in recorded]
     unsure: dict[CallId, str] = {}
     trees = [one.tree for one in recorded]
+    reading = _RefusalReading(recorded, policy, abi)
     for rounds in range(1, MOST_ROUNDS + 1):
-        found = _AuditCollector(recorded, policy, abi).over(audit(with_rules(policy, rules, groups)))
+        found = Round()
+        for part in audit(with_rules(policy, rules, groups), reading.shown):
+            found.add(part)
         known = _number_of(lacked)
         unsure.update(found.unsure)
         for number, by_recording in found.wants.items():
@@ -193,63 +212,63 @@ def _port_rules(rules: list[SuggestedRule]) -> Iterator[PortRule]:
                     for rule in same if not isinstance(rule.place, str))
 
 
-class _AuditCollector:
-    """Collects what one audit shows, over the walks of all recordings."""
+class _RefusalReading:
+    """Reads what one walk shows, each kind of refused records once."""
 
     def __init__(self, recorded: Sequence[Recorded], policy: Policy, abi: int) -> None:
         self._recorded = recorded
         self._known = FS.known(abi) | NET.known(abi)
         self._handled = {it.number: it.handled_access_fs.rights & self._known for it in policy.layers}
-        self._seen = Round()
 
-    def over(self, walks: Iterable[tuple[int, Walk]]) -> Round:
-        """What the walks show. A call is known by its number in the recording, else by that of its record's line."""
-        for index, walk in walks:
-            pids = self._seen.pids.setdefault(index, set())
-            for told in walk:
-                pids.update({told.record["pid"], told.record.get("child", told.record["pid"])})
-                if of_policy(told.record) is not None:
-                    continue
-                number = told.record.get("call")
-                call = CallId(index, number if type(number) is int else -told.line, told.times)
-                for _, answer in told.answered:
-                    if answer.layers:
-                        self._refused(walk, told, answer, call)
-                        self._seen.unsure.update({call: call_text(told.record)} if answer.verdict == UNSURE else {})
-        return self._seen
+    def shown(self, index: int, walk: Walk) -> Round:
+        """What a walk shows. A call is known by its number in the recording, else by that of its record's line."""
+        by_kind: dict[Alike, list[tuple[int, int]]] = {}
+        for kind, line, text in walk:
+            by_kind.setdefault(kind, []).append((line, -line if (call := CALL.search(text)) is None else int(call[1])))
+        seen = Round(pids={index: set(walk.pids)})
+        unsure: list[tuple[int, CallId, str]] = []
+        for kind, some in by_kind.items():
+            told = kind.told(walk.files[0], some[0][0])
+            calls = [CallId(index, number, told.times) for _, number in some]
+            for answer in (answer for _, answer in told.answered if answer.layers and of_policy(told.record) is None):
+                self._refused(seen, told, answer, calls)
+                if answer.verdict == UNSURE:
+                    unsure += [(line, call, call_text(told.record)) for (line, _), call in zip(some, calls)]
+        seen.unsure.update((call, words) for _, call, words in sorted(unsure))
+        return seen
 
-    def _refused(self, walk: Walk, told: Told, answer: Answer, call: CallId) -> None:
-        """Collects one refused call, for each layer that refuses it.
+    def _refused(self, seen: Round, told: Told, answer: Answer, calls: Sequence[CallId]) -> None:
+        """Collects refused calls of one kind, for each layer that refuses them.
 
         If one objection can't be fixed, rules for the others would not help. An
         example is `refer` at ABI 1, which no rule can grant there.
         """
-        record, one = told.record, self._recorded[call[0]]
+        record, index, times = told.record, calls[0].recording, told.times * len(calls)
         if _fails_anyway(told):
-            self._seen.failed[call_text(record)] += told.times
+            seen.failed[call_text(record)] += times
             return
+        one = self._recorded[index]
         for layer in answer.layers:
-            number = walk.policy_of(layer)
-            if number is None:
-                self._seen.of_program[call_text(record)] += told.times
+            if layer.policy is None:
+                seen.of_program[call_text(record)] += times
                 continue
             grants = [_grant(one.tree, objection) for objection in layer.objections]
             if not all(rights and rights <= self._known for _, rights in grants):
-                self._seen.unmended[call_text(record)] += told.times
+                seen.unmended[call_text(record)] += times
                 continue
-            grants += _for_the_run_after(one, record, self._handled[number])
-            self._note_new(record, call[0], {place for place, _ in grants})
-            lacked = self._seen.wants.setdefault(number, {}).setdefault(call[0], {})
+            grants += _for_the_run_after(one, record, self._handled[layer.policy])
+            _note_new(seen, one.tree, record, index, {place for place, _ in grants})
+            lacked = seen.wants.setdefault(layer.policy, {}).setdefault(index, {})
             for place, rights in grants:
-                missing_rights.unite(lacked, {place: {right: {call} for right in rights}})
+                missing_rights.unite(lacked, {place: {right: set(calls) for right in rights}})
 
 
-    def _note_new(self, record: Record, index: int, places: Set[str | int]) -> None:
-        """Notes what a call was to make in directories where it lacks something."""
-        for member in ("path", "to"):
-            name, real = record.get(member), processes.shown(record, member)
-            if isinstance(name, str) and name not in self._recorded[index].tree.kinds and directory_of(name) in places:
-                self._seen.new.setdefault(index, {}).setdefault(directory_of(name), set()).add(str(real))
+def _note_new(seen: Round, tree: Tree, record: Record, index: int, places: Set[str | int]) -> None:
+    """Notes what calls were to make in directories where they lack something."""
+    for member in ("path", "to"):
+        name, real = record.get(member), processes.shown(record, member)
+        if isinstance(name, str) and name not in tree.kinds and directory_of(name) in places:
+            seen.new.setdefault(index, {}).setdefault(directory_of(name), set()).add(str(real))
 
 
 def _fails_anyway(told: Told) -> bool:

@@ -13,9 +13,8 @@ from __future__ import annotations
 
 import json
 from collections import Counter
-from collections.abc import Iterator, Mapping
+from collections.abc import Iterator
 from dataclasses import dataclass, field
-from functools import lru_cache
 from pathlib import Path
 from typing import Any, NamedTuple
 
@@ -23,12 +22,14 @@ from ..common import jsonl
 from ..common.jsonl import Record
 from ..common.operations import DESCRIPTOR_CALLS, JUDGED, OPERATIONS
 from ..common.problems import Problem
-from ..common.trace_lines import ENDS, OF_PROCESS, OWN, body
+from ..common.trace_lines import ENDS, FD, OWN_OF_OPENING, POLICY, body
 from ..engine import reports
 from ..engine.processes import of_policy
 
-MOST_DECODED = 32_768
-"""The most decoded records that are kept for those that are alike."""
+#: Members as the report has them.
+_PID, _OP = b'"pid":%d', b'"op":"%b"'
+_ASKING, _ON_DESCRIPTORS = (frozenset(_OP % op.encode() for op in ops) for ops in (JUDGED, DESCRIPTOR_CALLS))
+_START, _OPEN, _CLOSE, _EXIT = (_OP % op for op in (b"start", b"open", b"close", b"exit"))
 
 BareCall = tuple[Any, ...]
 """A call without its process and its number: its operation, and then the members that decide the answer."""
@@ -65,23 +66,53 @@ class _HeldRuleset:
 
 
 @dataclass(slots=True)
+class _Asked:
+    """A question, what one record counts, and how often it was asked. A domain asks no call.
+
+    `then` has what is asked next under the same layers, by a record without what is its own: of a domain its calls, of
+    an opening the calls on what it opened.
+    """
+
+    question: LayeredCall
+    weight: int = 0
+    times: int = 0
+    then: dict[bytes, _Asked] = field(default_factory=dict)
+
+
+@dataclass(slots=True)
 class _AskingProcess:
-    """What a process has: its layers, its rulesets by number, and for each descriptor the question that opened it."""
+    """What a process has: its layers, what is asked under these if the policy has one of them, its rulesets by number,
+    and for each descriptor the question that opened it.
+    """
 
     domain: EnforcedLayers = ()
+    asks: _Asked | None = None
     rulesets: dict[int, _HeldRuleset] = field(default_factory=dict)
-    opened: dict[int, LayeredCall | None] = field(default_factory=dict)
+    opened: dict[int, _Asked | None] = field(default_factory=dict)
 
     def forked(self) -> _AskingProcess:
-        return _AskingProcess(self.domain, dict(self.rulesets), dict(self.opened))
+        return _AskingProcess(self.domain, self.asks, dict(self.rulesets), dict(self.opened))
 
 
 class Distilling:
-    """Follows a trace with its report, and counts the questions that the policy was asked and let pass."""
+    """Follows a trace with its report, and counts the questions that the policy was asked and let pass.
+
+    Of records that differ only in their processes, in the numbers of their calls and in those of their descriptors, the
+    first that asks something is decoded for all.
+    """
 
     def __init__(self) -> None:
-        self.questions: Counter[LayeredCall] = Counter()
-        self._by_pid: dict[int, _AskingProcess] = {}
+        self._counted: list[_Asked] = []
+        self._domains: dict[EnforcedLayers, _Asked] = {}
+        self._by_pid: dict[bytes, _AskingProcess] = {}
+
+    @property
+    def questions(self) -> Counter[LayeredCall]:
+        """How many calls asked each question."""
+        found: Counter[LayeredCall] = Counter()
+        for asked in self._counted:
+            found[asked.question] += asked.times
+        return found
 
     def follow(self, trace: Path, report: Path) -> None:
         """Reads a trace with a report on one ABI without explanations. What is refused or moot changes nothing."""
@@ -89,69 +120,64 @@ class Distilling:
             for number, line in enumerate(lines, start=1):
                 if not line.strip(jsonl.BLANKS):
                     continue
-                pid, record = self._read(trace, number, line)
                 answer = next(answers, b"")
-                if not answer.startswith(reports.head(number, pid)):
-                    raise Problem(f"{report} is not a report on {trace}: use programs of one version")
+                members = reports.split(answer)
+                if len(members) < 4 or members[0] != b'{"line":%d' % number:
+                    raise _other(trace, report)
+                _, pid, op, _ = members
+                begins = b"{%b,%b" % (op, pid)
+                if not line.startswith(begins + b","):
+                    line = _as_written(jsonl.read(trace, number, line))
+                    if not line.startswith((begins + b",", begins + b"}")):
+                        raise _other(trace, report)
                 if answer.endswith(reports.ENDS_ALLOWED):
-                    self._take(pid, record)
-                elif reports.HAS_REFUSED in answer and (origin := of_policy(record)) is not None:
-                    raise _refused(record, origin)
+                    self._take(op, pid, line)
+                elif POLICY in line and reports.HAS_REFUSED in answer:
+                    raise _refused(_decoded(line))
         self._by_pid.clear()
 
-    def _read(self, trace: Path, number: int, line: bytes) -> tuple[int, Record]:
-        """The process of a record, and the record. Of those that differ only in their processes and in the numbers of
-        their calls, the first is decoded for all.
-        """
-        pid = OF_PROCESS.match(line)
-        if pid is None:
-            record = jsonl.read(trace, number, line)
-            return record["pid"], record
-        try:
-            return int(pid[1]), _decoded(OWN.sub(b"", line))
-        except ValueError:
-            return int(pid[1]), jsonl.read(trace, number, line)
-
-    def _take(self, pid: int, record: Record) -> None:
-        """Reads a record of a process that is allowed."""
-        op = record["op"]
-        if op == "start":
+    def _take(self, op: bytes, pid: bytes, line: bytes) -> None:
+        """Reads a record of a process that is allowed; operation and process are members as the report has them."""
+        if op == _START:
             self._by_pid[pid] = _AskingProcess()
             return
         process = self._by_pid[pid]
-        if op in DESCRIPTOR_CALLS:
-            opened = process.opened.get(record["fd"])
-            if opened is not None:
-                self._ask(opened.domain, record, (*opened.calls, call_of(record)))
-        elif op in JUDGED:
-            question = self._ask(process.domain, record, (call_of(record),))
-            if op == "open":
-                process.opened[record["fd"]] = question
+        if op == _CLOSE:
+            process.opened.pop(_descriptor(line), None)
+        elif op in _ON_DESCRIPTORS:
+            self._ask(process.opened.get(_descriptor(line)), line)
+        elif op in _ASKING:
+            asked = self._ask(process.asks, line)
+            if op == _OPEN:
+                process.opened[_descriptor(line)] = asked
+        elif op == _EXIT:
+            del self._by_pid[pid]
         else:
-            self._change(process, pid, record)
+            self._change(process, _decoded(line))
 
-    def _ask(self, domain: EnforcedLayers, record: Record, calls: tuple[BareCall, ...]) -> LayeredCall | None:
+    def _ask(self, before: _Asked | None, line: bytes) -> _Asked | None:
         """Counts a question, if the policy is asked; the records that begin a part only repeat what there was."""
-        if not any(type(layer) is int for layer in domain):
+        if before is None:
             return None
-        question = LayeredCall(domain, calls)
-        if "again" not in record:
-            self.questions[question] += record.get("stands_for", 1)
-        return question
+        members = OWN_OF_OPENING.sub(b"", line)
+        asked = before.then.get(members)
+        if asked is None:
+            record, (domain, calls) = _decoded(members), before.question
+            weight = 0 if "again" in record else record.get("stands_for", 1)
+            asked = before.then[members] = _Asked(LayeredCall(domain, (*calls, call_of(record))), weight)
+            self._counted += [asked] if weight else []
+        asked.times += asked.weight
+        return asked
 
-    def _change(self, process: _AskingProcess, pid: int, record: Record) -> None:
+    def _change(self, process: _AskingProcess, record: Record) -> None:
         """What a record that asks nothing changes."""
         match record["op"]:
             case "fork":
-                self._by_pid[record["child"]] = process.forked()
-            case "exit":
-                del self._by_pid[pid]
+                self._by_pid[_PID % record["child"]] = process.forked()
             case "adopt":
                 process.opened[record["fd"]] = None
             case "dup":
                 process.opened[record["to"]] = process.opened.get(record["fd"])
-            case "close":
-                process.opened.pop(record["fd"], None)
             case "create":
                 origin = of_policy(record)
                 made = _HeldRuleset([call_of(record)], origin["layer"] if origin else None)
@@ -159,20 +185,41 @@ class Distilling:
             case "add_path" | "add_port":
                 process.rulesets[record["rs"]].made.append(call_of(record))
             case "restrict":
-                process.domain = (*process.domain, process.rulesets[record["rs"]].layer)
+                self._restrict(process, process.rulesets[record["rs"]].layer)
             case "close_rs":
                 process.rulesets.pop(record["rs"], None)
 
+    def _restrict(self, process: _AskingProcess, layer: Enforced) -> None:
+        """A process gets a layer. What processes ask under equal layers is the same."""
+        process.domain = domain = (*process.domain, layer)
+        if any(type(one) is int for one in domain):
+            process.asks = self._domains.setdefault(domain, _Asked(LayeredCall(domain, ())))
 
-@lru_cache(MOST_DECODED)
+
+def _other(trace: Path, report: Path) -> Problem:
+    return Problem(f"{report} is not a report on {trace}: use programs of one version")
+
+
+def _as_written(record: Record) -> bytes:
+    """A record as landaudit-record writes it, with its process at the beginning."""
+    return jsonl.line_bytes({"op": record["op"], "pid": record["pid"], **record})
+
+
+def _descriptor(line: bytes) -> int:
+    """The number of a record's descriptor."""
+    found = FD.search(line)
+    return int(_decoded(line)["fd"] if found is None else found[1])
+
+
 def _decoded(members: bytes) -> Record:
-    """A record without its process and the number of its call. It is not changed."""
+    """The record of a line, from which members may have been taken out."""
     found: Record = json.loads(ENDS.sub(b"}", members).decode())
     return found
 
 
-def _refused(record: Record, origin: Mapping[str, Any]) -> Problem:
+def _refused(record: Record) -> Problem:
     """The problem that the kernel refuses one of the policy's own calls."""
+    origin = record["policy"]
     where = ", ".join([f"layer {origin['layer']}", *([origin["rule"]] if "rule" in origin else [])])
     if record["op"] == "add_path":
         return Problem(f"{where}, parent {origin['parent']}: the kernel refuses this rule: it has rights for "

@@ -12,7 +12,7 @@ from ...audit import accepting, by_abi, reaching, together
 from ...audit.auditor import Auditing, TriedPolicy
 from ...audit.summary import Accepted, Summaries, Summary, as_data
 from ...audit.together import Member
-from ...common import apart, json_text, layout, options, variables
+from ...common import json_text, layout, options, variables
 from ...common.options import add_abis, add_as_recorded, add_landaudit, add_program, add_recordings, note
 from ...common.problems import NOT_ALL_JUDGED, USAGE, Problem
 from ...common.rights import ABI_OF_SCOPES, LATEST_ABI, NEWEST_ABI, OLDEST_ABI, judged
@@ -151,13 +151,8 @@ def _summaries(member: Member, auditing: Auditing, abis: range) -> list[Summary]
 
 
 def _by_part(auditing: Auditing, tried: TriedPolicy | None, step: range) -> Iterator[Counted]:
-    """What some of the ABIs answer to each part. Parts are counted by processes of their own, while landaudit judges
-    the next ones.
-    """
-    walks = auditing.walks(step, tried)
-    if len(auditing.recording.parts) > 1 and landaudit.workers() > 1:
-        return apart.each((walk.counted for walk in walks), landaudit.workers())
-    return (walk.counted() for walk in walks)
+    """What some of the ABIs answer to each part."""
+    return auditing.read(auditing.judged(step, tried), lambda files: auditing.walk(files, step).counted())
 
 
 def _print(

@@ -3,7 +3,7 @@
 from __future__ import annotations
 
 import argparse
-from collections.abc import Iterator, Sequence
+from collections.abc import Callable, Iterator, Sequence
 
 from ...audit import leftovers, of_program, together
 from ...audit.together import Member
@@ -15,7 +15,7 @@ from ...engine.reading import Walk
 from ...policy.policies import Policy
 from ...suggest import suggestion_text
 from ...suggest.objects import CountedObjects
-from ...suggest.suggesting import Recorded, RuleMaking, suggest
+from ...suggest.suggesting import Recorded, Round, RuleMaking, suggest
 
 EXACT, BASE = "exact", "base"
 NAME = "suggest"
@@ -60,8 +60,8 @@ def run(arguments: argparse.Namespace) -> int:
     note(together.policy_notes(members, abis))
     with together.audits(members, program, NAME, best_effort=not arguments.as_recorded) as audits:
 
-        def audit(extended: Policy) -> Iterator[tuple[int, Walk]]:
-            return together.walks(members, audits, abis, extended)
+        def audit(extended: Policy, shows: Callable[[int, Walk], Round]) -> Iterator[Round]:
+            return together.read(members, audits, abis, extended, shows)
 
         recorded = [_recorded(member) for member in members]
         suggestion = suggest(recorded, policy, arguments.abi, audit, _making(recorded, arguments))

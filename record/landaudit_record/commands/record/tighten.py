@@ -10,7 +10,7 @@ from pathlib import Path
 
 from ... import RECORDER
 from ...audit import of_program, together
-from ...audit.auditor import Auditing, TriedPolicy
+from ...audit.auditor import Auditing, Files, TriedPolicy
 from ...common.comments import Comments
 from ...common.options import add_judging, add_of_program, add_recordings, note
 from ...common.problems import WANTING, Problem
@@ -103,11 +103,17 @@ def _with_unknown(tight: Policy, whole: Policy, unknown: frozenset[str]) -> Poli
 
 def _questions(audit: Auditing, tried: TriedPolicy, policy: Policy, abi: int) -> _Asked:
     """The questions of a recording to a policy, for each tree by itself."""
-    by_tree: dict[Path, Distilling] = {}
-    for files in audit.judged(alone(abi), tried, policy, explain=False):
-        audit.progress.say("reading what is asked")
-        by_tree.setdefault(files.tree, Distilling()).follow(files.trace, files.report)
-    return {tree: found.questions for tree, found in by_tree.items()}
+    by_tree: _Asked = {}
+    for tree, found in audit.read(audit.judged(alone(abi), tried, policy, explain=False), _of_part):
+        by_tree.setdefault(tree, Counter()).update(found)
+    return by_tree
+
+
+def _of_part(files: Files) -> tuple[Path, Counter[LayeredCall]]:
+    """The questions of what was judged together, with its tree."""
+    found = Distilling()
+    found.follow(files.trace, files.report)
+    return files.tree, found.questions
 
 
 def _more(some: Sequence[_Asked], others: Sequence[_Asked]) -> int:

@@ -32,6 +32,9 @@ FIXED = "append-only or immutable"
 AF_UNSPEC, AF_INET, AF_INET6 = 0, 2, 10
 SOCK_STREAM, SOCK_DGRAM, SOCK_RAW, SOCK_TYPE = 1, 2, 3, 0xF
 IPPROTO_TCP = 6
+#: The families of addresses for which Landlock is asked about a socket of TCP.
+_ASKED_TO_CONNECT = (AF_INET, AF_INET6)
+_ASKED_TO_BIND = (*_ASKED_TO_CONNECT, AF_UNSPEC)
 TIOCGPTN, TIOCGPTPEER = 0x80045430, 0x5441
 
 FIOCLEX, FIONCLEX = 0x5451, 0x5450
@@ -193,7 +196,7 @@ def _on_port(scene: Scene, thread: Thread, call: Call, op: str) -> None:
         return
     if call.error == "EINVAL" and arguments.number_at(call, 2) > _LONGEST_ADDRESS:
         raise NotAsked("EINVAL before Landlock is asked")
-    if handle.foreign and _family(call) in (AF_INET, AF_INET6):
+    if handle.foreign and _family(call) in (_ASKED_TO_BIND if op == "bind" else _ASKED_TO_CONNECT):
         raise CannotSay("a port of a socket that came from elsewhere")
     if handle.tcp is not None:
         handle.tcp = _family_now(call, handle.tcp)

@@ -16,11 +16,14 @@ from . import arguments, ptrace, users
 MS_NOUSER = 1 << 31
 MNT_EXPIRE = 4
 MOVE_MOUNT_FLAGS = 0x377
-FSCONFIG_CMD_RECONFIGURE = 7
+FSCONFIG_CMD_CREATE, FSCONFIG_CMD_RECONFIGURE, FSCONFIG_CMD_CREATE_EXCL = 6, 7, 8
 OPEN_TREE_CLONE, FSMOUNT_CLOEXEC = 1, 1
 O_CLOEXEC = 0o2000000
 
+_MAKING = (FSCONFIG_CMD_CREATE, FSCONFIG_CMD_CREATE_EXCL)
+
 CHANGES_THE_TREE = "a mount that changes the tree"
+OF_A_FILE = "a file system that may be in a file, which the kernel opens (erofs)"
 WITHOUT_PLACE = "a mount that has no place in the tree"
 OTHER_NAMESPACE = "a process that goes to another mount namespace"
 
@@ -55,11 +58,16 @@ def _move_mount(scene: Scene, thread: Thread, call: Call) -> None:
 
 
 def _fsconfig(scene: Scene, thread: Thread, call: Call) -> None:
-    """The kernel asks Landlock about only one of its commands, if the descriptor is a context."""
-    if arguments.number_at(call, 1) != FSCONFIG_CMD_RECONFIGURE:
-        return
+    """If the descriptor is a context, the kernel asks Landlock about a file system that is set up anew, and about the
+    file in which one is that is made.
+    """
+    command = arguments.number_at(call, 1)
     is_context = values.descriptor(call.arguments[0]).behind == CONTEXT
-    _said(scene, thread, call, asked=is_context and call.error not in ("EBADF", "EBUSY", "EOPNOTSUPP"))
+    asked = is_context and call.error not in ("EBADF", "EBUSY", "EOPNOTSUPP")
+    if command == FSCONFIG_CMD_RECONFIGURE or (command in _MAKING and not asked):
+        _said(scene, thread, call, asked=asked)
+    elif command in _MAKING:
+        raise CannotSay(OF_A_FILE)
 
 
 def _has(call: Call, index: int, flags: int) -> bool:

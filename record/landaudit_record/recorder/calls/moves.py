@@ -37,7 +37,10 @@ def _rename(scene: Scene, thread: Thread, call: Call) -> None:
     if call.error == "EEXIST" and flags & RENAME_NOREPLACE:
         raise NotAsked("EEXIST before Landlock is asked")
     moved, target = (arguments.name_at(scene, thread, call, *end) for end in _ends(call))
+    if call.ok and moved.node is not target.node:
+        target = _as_before(scene, target)
     if call.ok and exchange:
+        moved = _as_before(scene, moved) if moved.node is not target.node else moved
         scene.names.seen_exchanged(moved.real, target.real, call.end)
     moved = _source(scene, call, moved, target, exchange)
     if exchange and call.error != "ENOENT":
@@ -61,6 +64,12 @@ def _rename(scene: Scene, thread: Thread, call: Call) -> None:
         _take_place(scene, moved, target, exchange)
     if call.ok and flags & RENAME_WHITEOUT:
         scene.names.put(moved.real, Node(scene.names.whiteouts))
+
+
+def _as_before(scene: Scene, spot: Spot) -> Spot:
+    """What was at a name before a call that puts another object there, if it was seen only after it."""
+    node = scene.names.apart(spot.real)
+    return scene.there(spot.real, node) if node is not None and node is not spot.node else spot
 
 
 #: Errors of a rename of a directory to what is none, and of the reverse.
@@ -165,7 +174,8 @@ def _link(scene: Scene, thread: Thread, call: Call) -> None:
     if call.ok and source.node is None and (follow or flags & arguments.AT_EMPTY_PATH):
         scene.names.put(target.real, Node("reg"))
         raise CannotSay("a link of a file that has no name")
-    source = _source(scene, call, source, target, False)
+    if not (call.error == "ENOENT" and _has_no_name(scene, source)):
+        source = _source(scene, call, source, target, False)
     if call.ok and target.node is not None:
         target = scene.absent(target.real)
     elif call.error == "EEXIST" and target.node is None and target.in_directory:
@@ -177,6 +187,13 @@ def _link(scene: Scene, thread: Thread, call: Call) -> None:
     if call.ok:
         scene.names.put(target.real, source.node)
         scene.names.stays(target.real)
+
+
+def _has_no_name(scene: Scene, source: Spot) -> bool:
+    """Whether a descriptor leads to a file that has no name any more, or never had one: it may get none, as the kernel
+    says by ENOENT after it has asked Landlock.
+    """
+    return source.node is not None and scene.names.at(source.real) is not source.node
 
 
 def _say_directory(scene: Scene, thread: Thread, call: Call, source: Spot, target: Spot) -> None:

@@ -20,6 +20,7 @@ from . import arguments
 O_CREAT = 0o100
 O_EXCL = 0o200
 O_TRUNC = 0o1000
+O_NONBLOCK = 0o4000
 O_DIRECTORY = 0o200000
 O_NOFOLLOW = 0o400000
 O_NOATIME = 0o1000000
@@ -30,8 +31,8 @@ MODES = ("r", "w", "rw")
 ACCESS_MODE = 0o3
 #: With it, the directory of a call is its root (openat2(2)).
 RESOLVE_IN_ROOT = 0x10
-#: The errors with which the `resolve` flags of openat2(2) end a call before Landlock is asked.
-RESOLVE_ERRORS = frozenset({"EAGAIN", "ELOOP", "EXDEV"})
+#: It fails with EAGAIN if a path is not in the cache of names, others if it may lead out of their directory.
+RESOLVE_CACHED, RESOLVE_INSIDE = 0x20, 0x18
 #: Errors of an open that may have made a file, or would have.
 MAY_BE_MADE = frozenset({"EACCES", "EINVAL", "EPERM"})
 #: What an object may be at which an open ends in ENXIO: a pipe without a reader, a device without a driver (open(2)).
@@ -56,7 +57,7 @@ def _openat2(scene: Scene, thread: Thread, call: Call) -> None:
         raise NotAsked("E2BIG before Landlock is asked")
     member = values.member(call.arguments[2], "resolve")
     resolve = values.number(member) if member is not None else 0
-    if call.error in RESOLVE_ERRORS and resolve:
+    if _resolve_ends(call, resolve):
         raise NotAsked("a path that openat2 may not resolve so")
     directories = thread.directories
     if resolve & RESOLVE_IN_ROOT:
@@ -66,6 +67,15 @@ def _openat2(scene: Scene, thread: Thread, call: Call) -> None:
         _open(scene, thread, call)
     finally:
         thread.directories = directories
+
+
+def _resolve_ends(call: Call, resolve: int) -> bool:
+    """Whether the `resolve` flags of openat2(2) ended a call, before Landlock was asked: with O_NONBLOCK, a file with a
+    lease ends it with EAGAIN too, after that (fcntl(2)).
+    """
+    if call.error == "EAGAIN":
+        return bool(resolve & (RESOLVE_CACHED if flags_of(call) & O_NONBLOCK else RESOLVE_CACHED | RESOLVE_INSIDE))
+    return bool(resolve) and call.error in ("ELOOP", "EXDEV")
 
 
 def flags_of(call: Call) -> int:
@@ -198,6 +208,9 @@ def _say_for_ioctl(scene: Scene, thread: Thread, call: Call, opened: _Opened, fl
 
 def _opened_spot(scene: Scene, path: str, result: Descriptor, flags: int) -> _Opened:
     """The object that was opened, and whether the call made it."""
+    directory = path.rpartition("/")[0]
+    if flags & O_CREAT and scene.names.at(directory) is None:
+        scene.present(directory, "dir")
     node = scene.names.at(path)
     if flags & O_CREAT and not scene.names.places.makes_files(path):
         flags &= ~O_CREAT
@@ -260,6 +273,8 @@ def _failed(scene: Scene, thread: Thread, call: Call, base: int | None, path: in
         raise NotAsked("EEXIST before Landlock is asked")
     unsure = bool(flags & O_CREAT) and not exclusive and scene.names.may_be_made(spot.real)
     spot = _after_failure(scene, call, spot, flags)
+    if call.error == "ETXTBSY" and not flags & ACCESS_MODE:
+        flags &= ~O_TRUNC
     if _comes_before(call, spot, flags) or (flags & O_CREAT and _makes_nothing(call, spot, path)):
         raise NotAsked(f"{call.error} before Landlock is asked")
     made = spot.node is None and bool(flags & O_CREAT) and call.error != "ELOOP"
@@ -280,7 +295,7 @@ def _failed(scene: Scene, thread: Thread, call: Call, base: int | None, path: in
 
 def _comes_before(call: Call, spot: Spot, flags: int) -> bool:
     """Whether an open failed before Landlock was asked: a program that runs, or an immutable file, can't be written,
-    and only its owner reads a file with O_NOATIME.
+    and only its owner reads a file with O_NOATIME. A program that runs is opened for reading before it can't be cut.
 
     A device says EPERM itself, after Landlock. That no file can be made in an immutable directory comes after it too.
     """

@@ -65,7 +65,8 @@ def owned(scene: Scene, thread: Thread, call: Call) -> None:
 
 def made(scene: Scene, thread: Thread, call: Call) -> None:
     """A UNIX socket: it is under the layers that its process has now."""
-    behind = values.descriptor(f"{call.value}{call.note}").behind
+    result = values.descriptor(f"{call.value}{call.note}")
+    thread.process.table[result.number].socket = behind = result.behind
     if behind is not None:
         scene.sockets[behind] = thread.process.pid, scene.recording.moment
 
@@ -74,21 +75,30 @@ def bound(scene: Scene, thread: Thread, call: Call) -> None:
     """An abstract name that a socket is bound to."""
     name = _abstract(call)
     if call.ok and name is not None:
-        scene.abstract[name] = scene.sockets.get(values.descriptor(call.arguments[0]).behind or "")
+        scene.abstract[name] = values.descriptor(call.arguments[0]).behind
 
 
 def connected(scene: Scene, thread: Thread, call: Call) -> None:
-    """A connection to an abstract name: of a socket of the recording, or of one outside of it."""
+    """A connection to an abstract name: of a socket of the recording, or of one outside of it.
+
+    A name is free when no process has its socket open any more: then it may be that of any other.
+    """
     name = _abstract(call)
     if name is None or not _is_asked(thread, call):
         return
-    maker = scene.abstract.get(name)
+    named = scene.abstract.get(name)
+    maker = scene.sockets.get(named) if named is not None and _is_open(scene, named) else None
     if maker is None and (name in scene.abstract or _CHOSEN.fullmatch(name)):
         _count(scene, thread, call, ABSTRACT)
         return
     about = {} if maker is None else {"since": maker[1]}
     to = [] if maker is None else [maker[0]]
     scene.recording.reaches(ABSTRACT, thread.process.pid, to, call.line, call.text, name=name, **about)
+
+
+def _is_open(scene: Scene, socket: str) -> bool:
+    tables = (process.table.values() for process in scene.processes.values())
+    return any(handle.socket == socket for table in tables for handle in table)
 
 
 def connected_somewhere(scene: Scene, thread: Thread, call: Call) -> None:
