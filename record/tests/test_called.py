@@ -20,7 +20,7 @@ from landaudit_record.common.trees import Tree
 from landaudit_record.engine import landaudit_rules
 from landaudit_record.engine.landaudit_rules import BUILT
 from landaudit_record.policy import applying, called
-from landaudit_record.policy.fitting import fit
+from landaudit_record.policy.fitting import fit, in_force
 from landaudit_record.policy.policies import Access, Layer, PathRule, Policy, PortRule
 
 from . import proved_calls
@@ -45,7 +45,7 @@ def policy(*paths: tuple[Access, str]) -> Policy:
 
 def calls(policy: Policy, abi: int) -> list[dict[str, Any]]:
     """The records by which Python puts a policy in force, each with the layer as landaudit-rules counts."""
-    records = applying.records(policy, fit(policy, abi)[0], TREE, 0)
+    records = applying.records(policy, tuple(in_force(policy, abi)[0]), TREE, 0)
     origins = [record.pop("policy") for record in records]
     layers = ({"layer": origin["layer"] - 1} if origin else {} for origin in origins)
     return [{**record, **of} for record, of in zip(records, layers)]

@@ -7,7 +7,7 @@ from pathlib import Path
 
 from landaudit_record.common.numbered import Numbered
 from landaudit_record.common.rights import FS, NET
-from landaudit_record.policy.fitting import FittedPathRule, fit
+from landaudit_record.policy.fitting import FittedPathRule, fit, in_force
 from landaudit_record.policy.policies import Access, Layer, PathRule, Policy, PortRule
 
 ALL_FS = Access(grouped=FS.groups["all"])
@@ -38,6 +38,21 @@ class Fitting(unittest.TestCase):
         (layer,), notes = fit(policy(ALL_FS, ALL_NET, ports=ports), 4)
         self.assertEqual((layer.handled_net, layer.port_rules[0].on_port), (["bind_tcp", "connect_tcp"],) * 2)
         self.assertEqual(notes, [])
+
+    def test_layers_of_ports_or_scopes_refuse_moves_beside_one_for_files(self) -> None:
+        files = Layer(1, Access(outright=frozenset({"read_file", "refer"})), Access(), (), ())
+        ports, scopes = Layer(2, Access(), ALL_NET, (), ()), Layer(3, Access(), Access(), (), (), ("signal",))
+        for abi, layers, handled in (
+            (3, (files, ports), [["read_file", "refer"]]),
+            (4, (files, ports, scopes), [["read_file", "refer"], ["refer"]]),
+            (5, (files, ports, scopes), [["read_file", "refer"], ["refer"], ["refer"]]),
+            (5, (scopes, ports), [[]]),
+        ):
+            with self.subTest(abi=abi, layers=len(layers)):
+                found, _ = fit(Policy(Path("P.toml"), layers), abi)
+                self.assertEqual([layer.handled_fs for layer in found], handled)
+        made, _ = in_force(Policy(Path("P.toml"), (files, ports)), 5)
+        self.assertEqual([layer.handled_fs for layer in made], [["read_file", "refer"], []])
 
     def test_a_right_that_is_named_is_dropped_with_a_note(self) -> None:
         named = Access(outright=frozenset({"read_file", "truncate"}))

@@ -4,17 +4,19 @@ from __future__ import annotations
 
 import json
 import shutil
+import tempfile
 import unittest
 from collections import Counter
 from pathlib import Path
 from typing import Any
 
-from landaudit_record.audit import together
+from landaudit_record.audit import mixing, together
 from landaudit_record.audit.moot import Unasked
 from landaudit_record.audit.summary import Accepted, Refusal, Summary
 from landaudit_record.audit.warnings import NoLayer, OfPolicy, RuleUnused
-from landaudit_record.common.finished import READING_LINKS, Converted, Finished, Size
+from landaudit_record.common.finished import READING_LINKS, Converted, Finished, Part, Size
 from landaudit_record.common.rights import alone
+from landaudit_record.policy import policies
 
 from .recorded import PID, last_line, missing_on, refused, write_lines
 from .stand_in import TRACE, StandIn
@@ -201,3 +203,40 @@ class United(unittest.TestCase):
         members = [self.member(name, READING_LINKS) for name in ("r1", "r2")]
         found = together.united([(member, Summary(5)) for member in members])
         self.assertEqual(found.untraced, ("readlink(2) into other processes is not recorded (run --readlink)",))
+
+
+class Mixed(unittest.TestCase):
+    """Moves under a program's own layers, of which one has rights for files and another one none."""
+
+    FILES: dict[str, Any] = {"op": "create", "pid": PID, "rs": 1, "fs": ["read_file", "refer"], "net": []}
+    PORTS: dict[str, Any] = {"op": "create", "pid": PID, "rs": 2, "fs": [], "net": ["bind_tcp"]}
+    MOVED: dict[str, Any] = {"op": "rename", "pid": PID, "from": "/a/f", "to": "/b/f"}
+
+    def moves(self, *records: dict[str, Any], policy: str | None = None, abi: int = 5) -> int:
+        """How many moves are counted under a policy that handles a right."""
+        with tempfile.TemporaryDirectory() as name:
+            folder = Path(name)
+            write_lines(folder / "trace.jsonl", list(records))
+            recording = Finished(folder, (Part(folder),), Counter(), Counter(), ended=True)
+            if policy is None:
+                return mixing.moves(recording, None, abi)
+            (folder / "p.toml").write_text(f"[[layer]]\n{policy}\n", encoding="utf-8")
+            return mixing.moves(recording, policies.read(folder / "p.toml"), abi)
+
+    def test_layers_of_both_kinds_by_the_program_or_with_the_policy(self) -> None:
+        ports, files = 'handled_access_net = ["bind_tcp"]', 'handled_access_fs = ["read_file"]'
+        for own, policy, counted in (
+            ([self.FILES, self.PORTS], None, 2), ([self.PORTS], files, 2), ([self.FILES], ports, 2),
+            ([self.FILES], files, 0), ([self.PORTS], ports, 0), ([self.PORTS], None, 0), ([], files, 0),
+        ):
+            with self.subTest(own=len(own), policy=policy):
+                self.assertEqual(self.moves(*own, self.MOVED, {**self.MOVED, "op": "link"}, policy=policy), counted)
+
+    def test_what_the_kernel_does_not_refuse(self) -> None:
+        within = {**self.MOVED, "to": "/a/g"}
+        self.assertEqual(self.moves(self.FILES, self.PORTS, within), 0)
+        self.assertEqual(self.moves(self.FILES, self.PORTS, self.MOVED, abi=3), 0)
+
+    def test_an_audit_says_so(self) -> None:
+        (said,) = Finished(Path("rec"), (), Counter(), Counter(), ended=True, mixed=2).missing
+        self.assertRegex(said, "^2 calls to another directory may fail with EXDEV")

@@ -328,6 +328,18 @@ class Programs(Unknown):
         self.assertEqual(self.run_by([gone], self.RUNS), [])
         self.assertEqual(self.unsaid(), [(programs.UNKNOWN_PROGRAM, True)])
 
+    def test_a_run_that_found_no_interpreter_of_what_was_gone_when_it_was_looked_at(self) -> None:
+        """ENOENT: nothing was there, or its interpreter was missing; a later call shows which."""
+        run, opened = self.RUNS.replace("= 0", "= -1 ENOENT (No such file or directory)"), opens("/s/x", "0")
+        for later in ('unlink("/s/x") = 0', 'rename("/s/x", "/s/y") = 0', opened):
+            with self.subTest(later):
+                self.run_over([seen("/s/x", None)], run, later)
+                self.assertIn((programs.UNKNOWN_PROGRAM, True), self.unsaid())
+        for disk in ([seen("/s/x", None)], [seen("/s/x", None, 0)]):
+            with self.subTest(disk):
+                self.assertEqual(self.run_over(disk, run, 'mkdir("/s/x", 0700) = 0')[0]["op"], "exec")
+                self.assertEqual(self.unsaid(), [])
+
     def test_a_file_that_was_not_to_be_run_when_it_was_first_seen(self) -> None:
         refused = 'execve("/s/x", ["x"], 0x1 /* 2 vars */) = -1 EACCES (Permission denied)'
         for runs, ops in ((True, ["restrict", "open", "exec"]), (False, ["restrict"])):

@@ -33,6 +33,11 @@ GLOB = "*?["
 _READ_ONLY = (errno.EACCES, errno.EPERM, errno.EROFS)
 
 
+def _at_once(recording: Finished) -> int:
+    """How many processes work on the parts of a recording."""
+    return min(landaudit.workers(), len(recording.parts))
+
+
 def tree_of(recording: Finished) -> Tree:
     """All objects of a recording, whichever parts have them."""
     return trees.read(*(part.tree for part in recording.parts), beside=surroundings.of(recording.folder))
@@ -122,7 +127,7 @@ def write_tree(part: Path, tree: Tree, inserted: Iterable[Record], out: Path) ->
 def tried(recording: Finished, policy: Policy, program: str | None) -> TriedPolicy:
     """A policy on a recording, before the first program of each process that it starts or before each run of one."""
     tree = tree_of(recording)
-    places = applying.plans([part.trace for part in recording.parts], tree, program)
+    places = applying.plans([part.trace for part in recording.parts], tree, program, _at_once(recording))
     unknown = applying.not_known(policy, tree)
     return TriedPolicy(replace(recording, unknown=unknown), policy, program, tree, places)
 
@@ -168,9 +173,7 @@ class Auditing:
         """Reads all files that were judged. Parts are read by processes of their own, while landaudit judges the next
         ones.
         """
-        if len(self.recording.parts) > 1 and landaudit.workers() > 1:
-            return apart.each((partial(reading, files) for files in judged), landaudit.workers())
-        return map(reading, judged)
+        return apart.each((partial(reading, files) for files in judged), _at_once(self.recording))
 
     def judged(
         self,

@@ -17,7 +17,7 @@ from ..common.rights import ABI_OF_SCOPES, LATEST_ABI
 from ..common.trees import Tree
 from ..engine.reading import Walk
 from ..policy.policies import Policy
-from . import auditor, expanding
+from . import auditor, expanding, mixing
 from .auditor import Auditing, Files, TriedPolicy
 from .summary import Summary
 from .warnings import RuleUnused
@@ -59,7 +59,7 @@ def opened(
     members = []
     scoped = policy.scoped if policy and abi >= ABI_OF_SCOPES else ()
     for name, found in (one for name in names for one in expanding.opened(name)):
-        recording = replace(found, scoped=scoped)
+        recording = replace(found, scoped=scoped, mixed=mixing.moves(found, policy, abi))
         tried = None if policy is None else auditor.tried(recording, policy, program)
         members.append(Member(name, recording if tried is None else tried.recording, tried))
     return members

@@ -18,7 +18,13 @@ _FORKING = multiprocessing.get_context("fork")
 
 
 def each(works: Iterable[Callable[[], Result]], most: int) -> Iterator[Result]:
-    """Does each work in a process of its own, at most some at once, and yields what they give, in their order."""
+    """Does each work in a process of its own, at most some at once, and yields what they give, in their order.
+
+    If there is to be one at most, this process does the works.
+    """
+    if most == 1:
+        yield from (work() for work in works)
+        return
     begun: deque[_Apart[Result]] = deque()
     try:
         for work in works:

@@ -137,7 +137,8 @@ class Finished:
     """The folder of a recording with all its parts.
 
     Of the policy that is tried on it, `scoped` has the scopes, and `unknown` the parents for which it is not known
-    where they led on the machine that recorded. Of a distilled recording, `left` has the files that the run left
+    where they led on the machine that recorded. `mixed` counts moves under layers with and without rights for files.
+    Of a distilled recording, `left` has the files that the run left
     behind, and `scratch` stands for its folder as long as that is needed.
     """
 
@@ -150,6 +151,7 @@ class Finished:
     untraced: tuple[str, ...] = ()
     scoped: tuple[str, ...] = ()
     unknown: tuple[str, ...] = ()
+    mixed: int = 0
     too_large: tuple[str, ...] = ()
     left: frozenset[str] | None = None
     scratch: object | None = None
@@ -171,6 +173,9 @@ class Finished:
         if self.unknown:
             parents = f"{counted(len(self.unknown), 'parent')} of the policy led on the machine that recorded"
             told.append(f"it is not known where {parents}, so no rule is put there: {some_of(self.unknown)}")
+        if self.mixed:
+            told.append(f"{counted(self.mixed, 'call')} to another directory may fail with EXDEV: layers of programs "
+                        "without rights for files refuse moves beside layers with some")
         if not self.ended:
             told.append("the recording is cut: the log stops before the command's end, so record it again")
         return told

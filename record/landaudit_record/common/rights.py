@@ -29,11 +29,13 @@ ABIS: Mapping[int, Version] = {
 #: knows: its answers hold for later ones, too.
 OLDEST_ABI, LATEST_ABI = min(ABIS), max(ABIS)
 NEWEST_ABI = 5
-#: The first ABI that has scopes, and the first whose kernels log what Landlock refuses.
-ABI_OF_SCOPES, ABI_OF_LOG = 6, 7
+#: The first ABIs that have ports and scopes, and the first whose kernels log what Landlock refuses.
+ABI_OF_PORTS, ABI_OF_SCOPES, ABI_OF_LOG = 4, 6, 7
 
 Rights = frozenset[str]
 NONE: Rights = frozenset()
+#: The right that is denied on all objects as soon as a layer handles a right for files.
+REFER = "refer"
 #: What a layer can keep from the processes outside it (ABI 6), in the order of the kernel's bits.
 SCOPES = ("abstract_unix_socket", "signal")
 

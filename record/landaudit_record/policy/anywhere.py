@@ -12,12 +12,12 @@ from collections.abc import Collection, Iterable, Iterator, Mapping, Sequence
 from dataclasses import dataclass, field
 from functools import cached_property
 
-from ..common.rights import FILE_RIGHTS, FS, NONE, SCOPES
+from ..common.rights import FILE_RIGHTS, FS, NONE, REFER, SCOPES
 from .differing_layers import Abis, MountChanges, Room, Unscoped
 from .moving import MAKING
 from .policies import Policy
 from .regions import Region
-from .ruling import CHAINS, GAINS, NOTHING, REFER, Comparison, Layers, Numbers, Objects, Ruled, Ruling
+from .ruling import CHAINS, GAINS, NOTHING, Comparison, Layers, Numbers, Objects, Ruled, Ruling
 from .sides import OF_OPENED, Gone, Sides, united
 
 _NOTHING: Abis = frozenset()

@@ -11,11 +11,12 @@ import difflib
 import shutil
 from collections.abc import Iterator, Sequence
 from dataclasses import dataclass, field
+from functools import partial
 from itertools import islice, takewhile
 from pathlib import Path
 from typing import Any, BinaryIO
 
-from ..common import jsonl
+from ..common import apart, jsonl
 from ..common.jsonl import Record
 from ..common.operations import OPERATIONS
 from ..common.problems import Problem
@@ -151,9 +152,12 @@ def plan(trace: Path, tree: Tree, program: str | None) -> Plan:
     return plans([trace], tree, program)[0]
 
 
-def plans(traces: Sequence[Path], tree: Tree, program: str | None) -> list[Plan]:
-    """Where a policy goes in the traces of a recording's parts, as `plan` says; a Problem if it goes nowhere."""
-    found = [places(trace, tree, program) for trace in traces]
+def plans(traces: Sequence[Path], tree: Tree, program: str | None, most: int = 1) -> list[Plan]:
+    """Where a policy goes in the traces of a recording's parts, as `plan` says; a Problem if it goes nowhere.
+
+    At most some processes read the parts at once.
+    """
+    found = list(apart.each((partial(places, trace, tree, program) for trace in traces), most))
     if not any(one.times for one in found):
         raise Problem(_nowhere(traces[0], program, sorted(set().union(*(one.programs for one in found)))))
     return found

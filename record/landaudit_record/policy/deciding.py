@@ -14,7 +14,7 @@ from dataclasses import dataclass, replace
 
 from ..common.problems import Problem
 from ..common.resolving import NOWHERE
-from ..common.rights import FILE_RIGHTS, FS, NONE, Rights
+from ..common.rights import FILE_RIGHTS, FS, NONE, REFER, Rights
 from ..common.trees import ROOT, directory_of, upwards
 from ..engine import landaudit_rules
 from ..recorder import disk
@@ -24,7 +24,7 @@ from .granting import Grant
 from .over_sets import ALL_ABIS, NEVER, SetQuestion, Together
 from .policies import Policy
 from .regions import Area, Region, Regions, areas, as_named
-from .ruling import REFER, SINGLE, Comparison, Granting, Layers, Ruled, RuledObjects, RuleOnObjects, Ruling
+from .ruling import SINGLE, Comparison, Granting, Layers, Ruled, RuledObjects, RuleOnObjects, Ruling
 
 _EVERYTHING = Granting(True)
 """A layer that refuses a right everywhere: where other layers let it pass, they let more pass."""

@@ -14,7 +14,7 @@ from collections.abc import Iterator, Mapping
 from dataclasses import dataclass, field
 from itertools import chain
 
-from ..common.rights import FILE_RIGHTS, FS, NET
+from ..common.rights import FILE_RIGHTS, FS, NET, REFER
 from ..engine import landaudit_rules
 from . import anywhere, moving, sides
 from .anywhere import Chain, Direction, Gain
@@ -22,7 +22,7 @@ from .differing_layers import Abis, OfLayers
 from .moving import Move
 from .policies import Policy
 from .regions import Region, Regions
-from .ruling import REFER, REGIONS, Comparison, ComparisonAnswer, Objects, Passing, RuledObjects, Ruling
+from .ruling import REGIONS, Comparison, ComparisonAnswer, Objects, Passing, RuledObjects, Ruling
 from .sides import OF_OPENED, OPENING, Sides
 
 _NONE: Abis = frozenset()

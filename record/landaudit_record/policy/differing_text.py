@@ -4,10 +4,10 @@ from __future__ import annotations
 
 from collections.abc import Iterable, Iterator
 
+from ..common.rights import REFER
 from ..common.wording import plain, runs, span, spans
 from .differing_rows import DifferenceRow, Gains, Moves, RightsInArea, RightsOnMoved, RightsOnPorts, What
 from .reviewing import EVERYTHING, Review
-from .ruling import REFER
 from .sides import OF_OPENED
 
 _KINDS = {

@@ -10,7 +10,7 @@ from collections.abc import Sequence
 from dataclasses import dataclass, replace
 
 from ..common.numbered import Numbered
-from ..common.rights import FS, NET, Family
+from ..common.rights import FS, NET, NEWEST_ABI, REFER, Family
 from . import called
 from .called import Calls
 from .policies import Access, Layer, PathRule, Policy, PortRule
@@ -57,16 +57,37 @@ class FittedLayer:
 
 
 def fit(policy: Policy, abi: int) -> tuple[tuple[FittedLayer, ...], list[str]]:
-    """A policy's layers at an ABI, and a note for each right that was dropped although the policy names it."""
+    """A policy's layers as an ABI judges them, and a note for each right that was dropped although the policy names it.
+
+    If a layer handles rights for files, the kernel takes `refer` for handled by all layers, also by those of ports or
+    scopes alone (`landlock_get_fs_access_mask`). Scopes count at the newest ABI that is judged, which stands for later
+    ones.
+    """
+    layers, notes = _dropped(policy, abi)
+    if not any(layer.handled_fs for layer in layers):
+        return layers, notes
+    known = {layer.number: layer for layer in layers}
+    fitted = (known.get(layer.number, _bare(layer)) for layer in policy.layers
+              if layer.number in known or (layer.scoped and abi >= NEWEST_ABI))
+    return tuple(it if it.handled_fs else replace(it, handled_fs=[REFER]) for it in fitted), notes
+
+
+def _dropped(policy: Policy, abi: int) -> tuple[tuple[FittedLayer, ...], list[str]]:
+    """A policy's layers with only what an ABI knows, and the notes of `fit`."""
     called.ask([policy], abi)
     notes: list[str] = []
     layers = tuple(fitted for layer in policy.layers if (fitted := _layer(layer, abi, notes)) is not None)
     return layers, notes
 
 
+def _bare(layer: Layer) -> FittedLayer:
+    """A layer that handles no right."""
+    return FittedLayer(layer.number, [], [], (), ())
+
+
 def in_force(policy: Policy, abi: int) -> tuple[list[FittedLayer], list[str]]:
     """The layers that a policy is at an ABI, with their scopes or with scopes alone, and notes as `fit` gives."""
-    layers, notes = fit(policy, abi)
+    layers, notes = _dropped(policy, abi)
     fitted = {layer.number: layer for layer in layers}
     found = []
     for layer in policy.layers:
@@ -74,8 +95,7 @@ def in_force(policy: Policy, abi: int) -> tuple[list[FittedLayer], list[str]]:
         if layer.scoped and not scoped:
             notes.append(f"layer {layer.number}: ABI {abi} does not know scopes: dropped")
         if layer.number in fitted or scoped:
-            bare = FittedLayer(layer.number, [], [], (), ())
-            found.append(replace(fitted.get(layer.number, bare), scoped=scoped))
+            found.append(replace(fitted.get(layer.number, _bare(layer)), scoped=scoped))
     return found, notes
 
 

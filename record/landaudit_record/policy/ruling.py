@@ -13,7 +13,7 @@ from functools import cache, cached_property
 from pathlib import Path
 from typing import Any, NamedTuple
 
-from ..common.rights import FS, NET, NONE, Rights
+from ..common.rights import FS, NET, NONE, REFER, Rights
 from ..common.trees import ROOT, upwards
 from ..engine import landaudit_rules
 from .regions import Region, as_named
@@ -141,8 +141,6 @@ class Ruled:
 Layers = tuple[Ruled, ...]
 Grantings = tuple[Granting, ...]
 
-#: What asks for a move to another directory: `refer`, and the right to make an object of the kind there.
-REFER = "refer"
 #: The name of the right that is asked about; it is the first in an answer.
 _ASKED = next(iter(FS.since))
 #: What is asked of a right.

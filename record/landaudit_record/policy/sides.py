@@ -9,11 +9,11 @@ from collections import defaultdict
 from collections.abc import Iterable, Mapping, Sequence
 from dataclasses import dataclass
 
-from ..common.rights import FILE_RIGHTS, FS, Rights
+from ..common.rights import FILE_RIGHTS, FS, REFER, Rights
 from .fitting import FittedLayer
 from .regions import Regions
 from .ruling import (
-    CHAINS, NOTHING, REFER, SINGLE, Comparison, Granting, Layers, Numbers, Objects, Ruled, RuledObjects, RuleOnObjects,
+    CHAINS, NOTHING, SINGLE, Comparison, Granting, Layers, Numbers, Objects, Ruled, RuledObjects, RuleOnObjects,
     RuleOnPorts,
 )
 

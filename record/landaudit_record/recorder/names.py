@@ -191,6 +191,7 @@ class Names:
         self._asked_later: set[str] = set()
         self._read_late: dict[str, list[tuple[int, int]]] = {}
         self._programs: dict[Node, set[str]] = {}
+        self._not_run: dict[str, set[int]] = {}
         self._disk = disk
         self._before = before
         self._watched = [top.rstrip("/") + "/" for top in watched]
@@ -381,6 +382,16 @@ class Names:
                 self._programs.setdefault(node, set()).add(path)
         return found
 
+    def may_be_program(self, path: str) -> bool:
+        """Whether nobody knows if what the current call runs was at a path, where it is not known to be.
+
+        A later call may show that it was there: then the run found no interpreter.
+        """
+        late = self._late.get(self._looked_up(path))
+        if late is not None and self.line <= late.until:
+            self._not_run.setdefault(path, set()).add(self.line)
+        return (path, self.line) in self.doubts.programs or self.is_unknown(path)
+
     def changed(self, path: str) -> None:
         """Notes that a call changes what is at a path, or what is in the file there: what was seen later is not it."""
         self.rewritten(path)
@@ -474,6 +485,7 @@ class Names:
                 self._doubt_kind(child, path, among if count == len(names) else ())
             node = child
         self.is_there(path)
+        self.doubts.programs.update((path, line) for line in self._not_run.pop(path, ()))
         self._unknown.discard(self._looked_up(path))
         return node
 

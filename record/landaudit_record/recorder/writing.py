@@ -255,14 +255,14 @@ class ListedTree:
 class Limits:
     """How much a part holds before the next one begins, with room for a policy; `own` are records not written again.
 
-    `own` is less than landaudit's limit: an audit needs memory for one part only, and judges it while the answers to
-    the one before are read.
+    `own` is less than landaudit's limit: an audit needs memory for some parts only, whose answers several processes
+    read while the next ones are judged.
     """
 
     records: int = MOST_RECORDS - POLICY_RECORDS
     processes: int = MOST_PROCESSES - 1
     objects: int = MOST_OBJECTS - POLICY_OBJECTS
-    own: int = 500_000
+    own: int = 250_000
 
 
 LIMITS = Limits()

@@ -16,13 +16,12 @@ from dataclasses import dataclass, field, replace
 from ...common.documents import listed
 from ...common.numbered import Numbered
 from ...common.problems import Problem
-from ...common.rights import FILE_RIGHTS, FS, LATEST_ABI, NET, NONE, SCOPES, Rights
+from ...common.rights import FILE_RIGHTS, FS, LATEST_ABI, NET, NONE, REFER, SCOPES, Rights
 from ..confining import NOT_THERE
 from ..fitting import FittedLayer, FittedPathRule, in_force
 from ..policies import Policy
 from . import Loss
 
-REFER = "refer"
 ROOT = "/"
 
 
@@ -126,9 +125,11 @@ def _ports(layer: FittedLayer) -> Iterator[OnPort]:
             yield OnPort(layer.number, rule.place, port, frozenset(rule.on_port))
 
 
-def _handles(layer: FittedLayer, right: str) -> bool:
-    """Whether a layer restricts a right; each that handles a right for files restricts `refer`."""
-    return bool(layer.handled_fs) if right == REFER else right in (*layer.handled_fs, *layer.handled_net)
+def _handling(layers: Sequence[FittedLayer], right: str) -> list[FittedLayer]:
+    """The layers that restrict a right; if one handles a right for files, all restrict `refer`."""
+    if right == REFER and any(layer.handled_fs for layer in layers):
+        return [*layers]
+    return [layer for layer in layers if right in (*layer.handled_fs, *layer.handled_net)]
 
 
 def _chosen(
@@ -138,7 +139,7 @@ def _chosen(
     found: dict[str, int] = {}
     lost: dict[tuple[int, int], list[str]] = {}
     for right in (*FS.since, *NET.since):
-        among = [layer for layer in layers if _handles(layer, right)]
+        among = _handling(layers, right)
         for best in among[-1:]:
             narrow = [one for one in among if all(_is_narrower(one, other, right, on_paths) for other in among)]
             found[right] = (narrow[-1] if narrow else best).number

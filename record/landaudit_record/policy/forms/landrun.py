@@ -13,10 +13,10 @@ from pathlib import Path
 from ...common.comments import Comments
 from ...common.documents import listed
 from ...common.problems import Problem
-from ...common.rights import FILE_RIGHTS, FS, NET, NONE, SCOPES, Rights
+from ...common.rights import FILE_RIGHTS, FS, NET, NONE, REFER, SCOPES, Rights
 from ..policies import Access, Layer, Policy
 from . import Exported, Imported, Loss, all_of, flat, path_rules, port_rules, words
-from .flat import REFER, ROOT, Flat, OnPath
+from .flat import ROOT, Flat, OnPath
 from .words import CommandLine, KnownOptions
 
 VERSION = "0.1.17"

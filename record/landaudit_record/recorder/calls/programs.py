@@ -6,6 +6,7 @@ from dataclasses import replace
 
 from .. import formats, values
 from ..disk import MOST_INTERPRETERS, Program
+from ..names import UnknownWay
 from ..unwritten import CannotSay, NotAsked
 from ..processes import Thread
 from ..scene import CLONE_FILES, CLONE_FS, CLONE_NEWNET, CLONE_NEWNS, CLONE_NEWUSER, NETWORK, Scene, Spot
@@ -23,16 +24,27 @@ UNKNOWN_FORMAT = "a program that the kernel runs by a format which is not known 
 
 
 def _execve(scene: Scene, thread: Thread, call: Call) -> None:
-    _run(scene, thread, call, arguments.spot_at(scene, thread, call, None, 0, True))
+    _run(scene, thread, call, _spot(scene, thread, call, None, 0, True))
 
 
 def _execveat(scene: Scene, thread: Thread, call: Call) -> None:
     flags = arguments.number_at(call, 4)
-    spot = arguments.spot_at(scene, thread, call, 0, 1, not flags & arguments.AT_SYMLINK_NOFOLLOW)
+    spot = _spot(scene, thread, call, 0, 1, not flags & arguments.AT_SYMLINK_NOFOLLOW)
     if flags & AT_EXECVE_CHECK:
         _check(scene, thread, call, spot)
     else:
         _run(scene, thread, call, spot)
+
+
+def _spot(scene: Scene, thread: Thread, call: Call, base: int | None, path: int, follow: bool) -> Spot:
+    """What a call runs. ENOENT does not say that nothing is there: an interpreter may be missing."""
+    try:
+        spot = arguments.spot_at(scene, thread, call, base, path, follow)
+    except UnknownWay as reason:
+        raise CannotSay(UNKNOWN_PROGRAM) if call.error == "ENOENT" else reason from None
+    if call.error == "ENOENT" and spot.node is None and scene.names.may_be_program(spot.real):
+        raise CannotSay(UNKNOWN_PROGRAM)
+    return spot
 
 
 def _check(scene: Scene, thread: Thread, call: Call, spot: Spot) -> None:

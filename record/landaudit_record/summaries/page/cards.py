@@ -11,7 +11,7 @@ from urllib.parse import quote
 
 from ...audit.auditor import TriedPolicy
 from ...audit.summary import Summary
-from ...common.rights import FS
+from ...common.rights import FS, REFER
 from ...common.wording import counted, printable
 from ...policy.policies import Policy
 from ...suggest import suggestion_text
@@ -29,7 +29,6 @@ from .tables import named
 MOST_CARDS = 20
 #: The width of a text that is not to be shortened.
 NO_LIMIT = 1_000_000
-REFER = "refer"
 #: What stands for the program of a process that ran none yet.
 NO_PROGRAM = "-"
 TOLD = element("p", "Rules for groups of refused calls, that of the earliest call first.")
