@@ -10,7 +10,7 @@ from collections import Counter
 from pathlib import Path
 from typing import Any
 
-from landaudit_record.audit import mixing, together
+from landaudit_record.audit import auditor, mixing, together
 from landaudit_record.audit.moot import Unasked
 from landaudit_record.audit.summary import Accepted, Refusal, Summary
 from landaudit_record.audit.warnings import NoLayer, OfPolicy, RuleUnused
@@ -216,12 +216,13 @@ class Mixed(unittest.TestCase):
         """How many moves are counted under a policy that handles a right."""
         with tempfile.TemporaryDirectory() as name:
             folder = Path(name)
-            write_lines(folder / "trace.jsonl", list(records))
+            write_lines(folder / "trace.jsonl", [*TRACE, *records])
             recording = Finished(folder, (Part(folder),), Counter(), Counter(), ended=True)
             if policy is None:
                 return mixing.moves(recording, None, abi)
             (folder / "p.toml").write_text(f"[[layer]]\n{policy}\n", encoding="utf-8")
-            return mixing.moves(recording, policies.read(folder / "p.toml"), abi)
+            write_lines(folder / "tree.jsonl", [{"path": "/p", "kind": "reg"}])
+            return mixing.moves(recording, auditor.tried(recording, policies.read(folder / "p.toml"), None), abi)
 
     def test_layers_of_both_kinds_by_the_program_or_with_the_policy(self) -> None:
         ports, files = 'handled_access_net = ["bind_tcp"]', 'handled_access_fs = ["read_file"]'

@@ -15,16 +15,18 @@ from ..common.operations import MOVES
 from ..common.resolving import directory_of
 from ..common.rights import ABI_OF_PORTS
 from ..common.trace_lines import heads, told
-from ..policy.policies import Policy
+from .auditor import TriedPolicy
 
 
-def moves(recording: Finished, policy: Policy | None, abi: int) -> int:
+def moves(recording: Finished, tried: TriedPolicy | None, abi: int) -> int:
     """How many calls move to another directory, if the layers of programs and of the policy are of both kinds."""
-    made = {bool(record.get("fs")) for record in _told(recording, {"create"}) if record.get("fs") or record.get("net")}
-    if abi < ABI_OF_PORTS or not made:
+    if abi < ABI_OF_PORTS:
         return 0
-    of_policy = set() if policy is None else {any(layer.handled_access_fs.rights for layer in policy.layers)}
-    if len(made | of_policy) == 1:
+    if tried is None:
+        layers = {bool(it.get("fs")) for it in _told(recording, {"create"}) if it.get("fs") or it.get("net")}
+    elif layers := set[bool]().union(*(places.own for places in tried.places)):
+        layers.add(any(layer.handled_access_fs.rights for layer in tried.policy.layers))
+    if len(layers) < 2:
         return 0
     return sum(record.get("stands_for", 1) for record in _told(recording, MOVES)
                if directory_of(record["from"]) != directory_of(record["to"]) and "again" not in record)

@@ -59,9 +59,10 @@ def opened(
     members = []
     scoped = policy.scoped if policy and abi >= ABI_OF_SCOPES else ()
     for name, found in (one for name in names for one in expanding.opened(name)):
-        recording = replace(found, scoped=scoped, mixed=mixing.moves(found, policy, abi))
+        recording = replace(found, scoped=scoped)
         tried = None if policy is None else auditor.tried(recording, policy, program)
-        members.append(Member(name, recording if tried is None else tried.recording, tried))
+        mixed = mixing.moves(found, tried, abi)
+        members.append(Member(name, replace(recording if tried is None else tried.recording, mixed=mixed), tried))
     return members
 
 

@@ -43,7 +43,8 @@ class Plan:
 
     `before` has the lines before which it goes, each with the process; `behind` has the lines after which it goes,
     since they repeat for a process what it had when it ran a program. `rs` is a ruleset number that the trace never
-    uses, `lines` the number of its lines, and `programs` the programs that it runs.
+    uses, `lines` the number of its lines, and `programs` the programs that it runs. `own` says of the rulesets that it
+    makes whether they handle rights for files.
     """
 
     before: dict[int, int]
@@ -51,6 +52,7 @@ class Plan:
     lines: int
     behind: dict[int, list[int]] = field(default_factory=dict)
     programs: frozenset[str] = frozenset()
+    own: frozenset[bool] = frozenset()
 
     @property
     def times(self) -> int:
@@ -82,6 +84,7 @@ class _Planning:
         self._before: dict[int, int] = {}
         self._behind: dict[int, list[int]] = {}
         self._rs = 0
+        self._own: set[bool] = set()
 
     def found(self) -> Plan:
         """Where the policy goes."""
@@ -96,7 +99,7 @@ class _Planning:
                     if block[index].strip(jsonl.BLANKS):
                         self._take(known + index + 1, block[index])
                 known, before = known + len(block), block
-        return Plan(self._before, self._rs + 1, known, self._behind, frozenset(self._programs))
+        return Plan(self._before, self._rs + 1, known, self._behind, frozenset(self._programs), frozenset(self._own))
 
     def _take(self, number: int, line: bytes) -> None:
         record = jsonl.read(self._trace, number, line)
@@ -104,6 +107,8 @@ class _Planning:
         if "rs" in record:
             self._rs = max(self._rs, _number(self._trace, number, record, "rs"))
         about = record.get("child", pid)
+        if record.get("op") == "create" and (record.get("fs") or record.get("net")):
+            self._own.add(bool(record.get("fs")))
         if (record.get("op") == "start" and "again" not in record) or "starting" in record:
             self._starting.add(about)
         elif record.get("op") == "exit":
