@@ -60,11 +60,11 @@ _KNOWN = heads(OPERATIONS)
 
 def told(trace: Path, some: frozenset[bytes], *marks: bytes) -> Iterator[tuple[int, jsonl.Record]]:
     """The records whose lines have one of some heads, or a mark, or that begin in another way, each with its line."""
-    others, marked = _KNOWN - some, re.compile(b"|".join(marks) or b"(?!)").search
+    others, marked = _KNOWN - some, re.compile(b"|".join(marks)).search
     with open(trace, "rb") as lines:
-        for number, line in enumerate(lines, start=1):
-            if line[:HEAD] not in others and line.strip(jsonl.BLANKS) or marked(line):
-                yield number, jsonl.read(trace, number, line)
+        found = ((number, line) for number, line in enumerate(lines, start=1)
+                 if line[:HEAD] not in others or (marks and marked(line)))
+        yield from ((number, jsonl.read(trace, number, line)) for number, line in found if line.strip(jsonl.BLANKS))
 
 
 def body(op: str, **members: object) -> str:
