@@ -14,3 +14,4 @@ pub mod Versions
 pub mod Seeing
 pub mod SaidByName
 pub mod RecentOwners
+pub mod WorkedRows

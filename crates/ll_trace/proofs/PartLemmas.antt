@@ -1,5 +1,5 @@
 -- Entries of a part that are admitted one after another are read as its lines are.
-use Rattle.std.proofs.Common.{◌≡◌, ℕ, List, [], ◌∷◌, ◌++◌, Option, Some, None, Result, Ok, Err, refl, sym, ap, ◌∙◌, append_assoc, subst, flat_map}
+use Rattle.std.proofs.Common.{◌≡◌, ℕ, List, [], ◌∷◌, ◌++◌, Option, Some, None, Result, Ok, Err, refl, sym, ap, ◌∙◌, append_assoc, subst, flat_map, map}
 use Rattle.std.specs.Prelude.{IfOk, IfErr}
 use Rattle.std.specs.List.{AllZip}
 use Rattle.std.proofs.lemmas.List.Concat.{flat_map-append, flat_map-cons}
@@ -159,45 +159,54 @@ pub Comes-end : (first now : List Entry) (lines : List (List Line)) (others : Li
 Comes-end first now lines others comes =
     comes.same others ∙ ap (λ left. read_lines trace_file now (flat_map (λ part. part) left ++ others)) (no_part comes.left comes.read)
 
--- what is read of a file's blocks: some are admitted, the parts behind them are read, and the others are left
-pub record AreReading (all : List Line) (admitted : List Entry) (parts : List PartRead) (left : List (List Line)) : Type 0 where
+-- what is read of a file's parts: some are admitted, those behind them are read, and the others are left
+pub record AreReading {P : Type 0} (lines_of : P → List Line) (all : List Line) (admitted : List Entry) (reads : List PartRead) (left : List P) : Type 0 where
   pub lines : List (List Line)
-  pub are : AllZip IsReadOf lines parts
-  pub same : read_lines trace_file [] all ≡ read_lines trace_file admitted (flat_map (λ part. part) lines ++ flat_map (λ block. block) left)
+  pub are : AllZip IsReadOf lines reads
+  pub same : read_lines trace_file [] all ≡ read_lines trace_file admitted (flat_map (λ part. part) lines ++ flat_map lines_of left)
 
--- the parts are admitted, and the next blocks are read
-pub AreReading-next : (all : List Line) (admitted now : List Entry) (parts read : List PartRead) (round rest left : List (List Line))
-    → round ++ rest ≡ left → AreReading all admitted parts left
-    → ((lines : List (List Line)) (others : List Line) → AllZip IsReadOf lines parts
-    → read_lines trace_file admitted (flat_map (λ part. part) lines ++ others) ≡ read_lines trace_file now others)
-    → AllZip IsReadOf round read → AreReading all now read rest
-AreReading-next all admitted now parts read round rest left cut so_far admits are = record {
-  lines = round;
-  are = are;
-  same = so_far.same ∙ admits so_far.lines (flat_map (λ block. block) left) so_far.are
-      ∙ ap (read_lines trace_file now) (ap (flat_map (λ block. block)) (sym cut) ∙ flat_map-append (λ (block : List Line). block) round rest);
-}
+module _ {P : Type 0} (lines_of : P → List Line) where
+  -- the lines of the next part come first
+  pub lines_of_first : (earlier : List Entry) (part : P) (left rest : List P) → left ≡ part ∷ rest
+      → read_lines trace_file earlier (flat_map lines_of left) ≡ read_lines trace_file earlier (lines_of part ++ flat_map lines_of rest)
+  lines_of_first earlier part left rest cut = ap (λ parts. read_lines trace_file earlier (flat_map lines_of parts)) cut
 
--- the fault of a part is that of the file
-pub AreReading-fault : (all : List Line) (admitted : List Entry) (parts : List PartRead) (left : List (List Line)) (fault : ReadFault)
-    → AreReading all admitted parts left
-    → ((lines : List (List Line)) (others : List Line) → AllZip IsReadOf lines parts
-    → MeetsFault fault.line fault.cause (read_lines trace_file admitted (flat_map (λ part. part) lines ++ others)))
-    → MeetsFault fault.line fault.cause (read_lines trace_file [] all)
-AreReading-fault all admitted parts left fault so_far meets =
-    subst (MeetsFault fault.line fault.cause) (sym so_far.same) (meets so_far.lines (flat_map (λ block. block) left) so_far.are)
+  are_read : (round : List P) (reads : List PartRead) → AllZip (λ part. IsReadOf (lines_of part)) round reads → AllZip IsReadOf (map lines_of round) reads
+  are_read [] [] are = are
+  are_read [] (read ∷ reads) are = absurd are
+  are_read (part ∷ round) [] are = absurd are
+  are_read (part ∷ round) (read ∷ reads) are = (are.0, are_read round reads are.1)
 
--- the last parts are admitted
-pub AreReading-end : (all : List Line) (admitted : List Entry) (parts : List PartRead) (left : List (List Line)) (result : Result Reader ReadFault) → left ≡ []
-    → AreReading all admitted parts left
-    → IfOk result (λ more. (lines : List (List Line)) (others : List Line) → AllZip IsReadOf lines parts
-    → read_lines trace_file admitted (flat_map (λ part. part) lines ++ others) ≡ read_lines trace_file (entries more) others)
-    → IfErr result (λ fault. (lines : List (List Line)) (others : List Line) → AllZip IsReadOf lines parts
-    → MeetsFault fault.line fault.cause (read_lines trace_file admitted (flat_map (λ part. part) lines ++ others)))
-    → GivesReading entries result (read_lines trace_file [] all)
-AreReading-end all admitted parts left (Ok more) none so_far admits meets =
-    so_far.same
-    ∙ admits so_far.lines (flat_map (λ block. block) left) so_far.are
-    ∙ ap (λ blocks. read_lines trace_file (entries more) (flat_map (λ block. block) blocks)) none
-    ∙ read_lines_end trace_file (entries more)
-AreReading-end all admitted parts left (Err fault) none so_far admits meets = AreReading-fault all admitted parts left fault so_far meets
+  all_lines : (parts : List P) → flat_map (λ lines. lines) (map lines_of parts) ≡ flat_map lines_of parts
+  all_lines [] = refl
+  all_lines (part ∷ parts) = ap (λ lines. lines_of part ++ lines) (all_lines parts)
+
+  -- the parts are admitted, and the next ones are read
+  pub AreReading-next : (all : List Line) (admitted now : List Entry) (reads next : List PartRead) (round rest left : List P)
+      → round ++ rest ≡ left → AreReading lines_of all admitted reads left
+      → ((lines : List (List Line)) (others : List Line) → AllZip IsReadOf lines reads
+      → read_lines trace_file admitted (flat_map (λ part. part) lines ++ others) ≡ read_lines trace_file now others)
+      → AllZip (λ part. IsReadOf (lines_of part)) round next → AreReading lines_of all now next rest
+  AreReading-next all admitted now reads next round rest left cut so_far admits are = record {
+    lines = map lines_of round;
+    are = are_read round next are;
+    same = so_far.same ∙ admits so_far.lines (flat_map lines_of left) so_far.are
+        ∙ ap (read_lines trace_file now) (ap (flat_map lines_of) (sym cut) ∙ flat_map-append lines_of round rest
+        ∙ ap (λ lines. lines ++ flat_map lines_of rest) (sym (all_lines round)));
+  }
+
+  -- the last parts are admitted
+  pub AreReading-end : (all : List Line) (admitted : List Entry) (reads : List PartRead) (left : List P) (result : Result Reader ReadFault) → left ≡ []
+      → AreReading lines_of all admitted reads left
+      → IfOk result (λ more. (lines : List (List Line)) (others : List Line) → AllZip IsReadOf lines reads
+      → read_lines trace_file admitted (flat_map (λ part. part) lines ++ others) ≡ read_lines trace_file (entries more) others)
+      → IfErr result (λ fault. (lines : List (List Line)) (others : List Line) → AllZip IsReadOf lines reads
+      → MeetsFault fault.line fault.cause (read_lines trace_file admitted (flat_map (λ part. part) lines ++ others)))
+      → GivesReading entries result (read_lines trace_file [] all)
+  AreReading-end all admitted reads left (Ok more) none so_far admits meets =
+      so_far.same
+      ∙ admits so_far.lines (flat_map lines_of left) so_far.are
+      ∙ ap (λ parts. read_lines trace_file (entries more) (flat_map lines_of parts)) none
+      ∙ read_lines_end trace_file (entries more)
+  AreReading-end all admitted reads left (Err fault) none so_far admits meets =
+      subst (MeetsFault fault.line fault.cause) (sym so_far.same) (meets so_far.lines (flat_map lines_of left) so_far.are)

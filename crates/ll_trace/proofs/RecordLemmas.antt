@@ -2,12 +2,9 @@
 use Rattle.std.proofs.Common.{◌≡◌, None, List, [], ◌∷◌, ◌++◌, map, reverse, refl, sym, ap, ◌∙◌, append_assoc}
 use Rattle.std.proofs.lemmas.List.{reverse-append, map-append, append-nil}
 use Rattle.std.specs.FinMap.{get}
-use Rattle.ll_lines.proofs.ReadingLemmas.{read_lines_next, read_lines_fault, read_lines_end}
 use Rattle.ll_trace.specs.declared.op.Record.{Record}
 use Rattle.ll_trace.specs.declared.reader.Reader.{Reader}
-use Rattle.ll_lines.specs.LineByLine.{read_lines}
-use Rattle.ll_lines.specs.Lines.{Line}
-use Rattle.ll_trace.specs.Entries.{Entry, entry_fault, process_count, trace_file}
+use Rattle.ll_trace.specs.Entries.{Entry, entry_fault, process_count}
 use Rattle.ll_trace.specs.Records.{entry_of, record_of, records_after}
 use Rattle.ll_trace.specs.Traces.{AreFaultless, AreRecords}
 use Rattle.ll_trace.proofs.Numbering.{are_numbered}
@@ -60,12 +57,3 @@ kept_admitted old noted new entry r kept here is_noted pushed same_owners same_c
       };
       records = rw items (AreRecords-append old.records.items entry r kept.records here is);
     }
-
--- nothing is read before the lines of a file, and nothing comes behind them
-pub read_whole : (earlier : List Entry) (lines whole : List Line) → earlier ≡ [] → lines ≡ whole
-    → read_lines trace_file earlier (lines ++ []) ≡ read_lines trace_file [] whole
-read_whole earlier lines whole none same =
-    ap (λ before. read_lines trace_file before (lines ++ [])) none ∙ ap (read_lines trace_file []) (append-nil lines ∙ same)
-
--- the next line, a faulty one, and the end
-pub ruleset line_by_line = (read_lines_next, read_lines_fault, read_lines_end)

@@ -1,9 +1,10 @@
 -- What is the same of the records of a trace under every kernel.
-use Rattle.std.proofs.Common.{◌≡◌, ◌∙◌, ℕ, Bool, false, List, length, refl, sym, ap, Some}
+use Rattle.std.proofs.Common.{◌≡◌, ◌<◌, ◌∙◌, ℕ, Bool, false, List, get_or, length, refl, sym, ap, Some}
 use Rattle.std.specs.Prelude.{slice_get, option_map}
 use Rattle.std.proofs.lemmas.List.{length-map}
-use Rattle.std.proofs.lemmas.Option.{slice_get-map, same_Some}
+use Rattle.std.proofs.lemmas.Option.{slice_get-map, slice_get_read, same_Some}
 use Rattle.ll_rights.specs.declared.abi.Abi.{Abi}
+use Rattle.ll_trace.specs.declared.op.Op.{Op}
 use Rattle.ll_trace.specs.declared.op.Op.TheVariants.{Start}
 use Rattle.ll_trace.specs.declared.op.Record.{Record}
 use Rattle.ll_trace.specs.declared.trace.Effort.{Effort}
@@ -16,6 +17,22 @@ use Rattle.ll_trace.specs.FirstPlaces.{AreFirstPlaces}
 use Rattle.ll_trace.specs.Taken.{by_effort, records_by}
 use Rattle.ll_trace.specs.Traces.{AreRecords}
 use Rattle.ll_trace.proofs.BestEffort.{are_records-kept, first_places-kept, forked-kept, is_start-kept, own-kept, parents-kept, starting-kept}
+
+module _ (effort : Effort) (abi : Abi) where
+  -- a start stays one, and no other call becomes one
+  pub start_seen : (op : Op) (nnp admin : Bool) → op ≡ Start nnp admin → by_effort effort abi op ≡ Start nnp admin
+  unfolding by_effort at_best_effort
+  start_seen op nnp admin is = ap (by_effort effort abi) is ∙ go effort where
+    go : (e : Effort) → by_effort e abi (Start nnp admin) ≡ Start nnp admin
+    go AsRecorded = refl
+    go Best = refl
+
+  pub no_start_seen : (op : Op) → is_start op ≡ false → is_start (by_effort effort abi op) ≡ false
+  unfolding by_effort
+  no_start_seen op is = go effort ∙ is where
+    go : (e : Effort) → is_start (by_effort e abi op) ≡ is_start op
+    go AsRecorded = refl
+    go Best = is_start-kept abi op
 
 module _ (effort : Effort) (abi : Abi) (records : List Record) where
   pub as_many : length (records_by effort abi records) ≡ length records
@@ -55,41 +72,6 @@ module _ (effort : Effort) (abi : Abi) (records : List Record) where
     go AsRecorded = refl
     go Best = forked-kept abi records k
 
-  -- the record at an index
-  pub op_seen : (k : ℕ) (r s : Record) → slice_get records k ≡ Some r → slice_get (records_by effort abi records) k ≡ Some s → by_effort effort abi r.op ≡ s.op
-  unfolding by_effort
-  op_seen k r s here there = go effort there where
-    go : (e : Effort) → slice_get (records_by e abi records) k ≡ Some s → by_effort e abi r.op ≡ s.op
-    go AsRecorded at = ap (λ (one : Record). one.op) (same_Some r s (sym here ∙ at))
-    go Best at =
-        ap (λ (one : Record). one.op) (same_Some (record_at_best_effort abi r) s
-        (sym (slice_get-map (record_at_best_effort abi) records k ∙ ap (option_map (record_at_best_effort abi)) here) ∙ at))
-
-  -- it is a start if it was recorded as one, and no other
-  pub start_seen : (k : ℕ) (r s : Record) (nnp admin : Bool) → slice_get records k ≡ Some r → slice_get (records_by effort abi records) k ≡ Some s
-      → r.op ≡ Start nnp admin → s.op ≡ Start nnp admin
-  unfolding by_effort at_best_effort
-  start_seen k r s nnp admin here there is = sym (op_seen k r s here there) ∙ ap (by_effort effort abi) is ∙ go effort where
-    go : (e : Effort) → by_effort e abi (Start nnp admin) ≡ Start nnp admin
-    go AsRecorded = refl
-    go Best = refl
-
-  pub no_start_seen : (k : ℕ) (r s : Record) → slice_get records k ≡ Some r → slice_get (records_by effort abi records) k ≡ Some s
-      → is_start r.op ≡ false → is_start s.op ≡ false
-  unfolding by_effort
-  no_start_seen k r s here there is = ap is_start (sym (op_seen k r s here there)) ∙ go effort ∙ is where
-    go : (e : Effort) → is_start (by_effort e abi r.op) ≡ is_start r.op
-    go AsRecorded = refl
-    go Best = is_start-kept abi r.op
-
-  pub process_seen : (k : ℕ) (r s : Record) → slice_get records k ≡ Some r → slice_get (records_by effort abi records) k ≡ Some s → r.process ≡ s.process
-  process_seen k r s here there = go effort there where
-    go : (e : Effort) → slice_get (records_by e abi records) k ≡ Some s → r.process ≡ s.process
-    go AsRecorded at = ap (λ (one : Record). one.process) (same_Some r s (sym here ∙ at))
-    go Best at =
-        ap (λ (one : Record). one.process) (same_Some (record_at_best_effort abi r) s
-        (sym (slice_get-map (record_at_best_effort abi) records k ∙ ap (option_map (record_at_best_effort abi)) here) ∙ at))
-
   pub record_seen : (k : ℕ) (r : Record) → slice_get records k ≡ Some r
       → slice_get (records_by effort abi records) k ≡ Some (record r { op = by_effort effort abi r.op })
   unfolding by_effort
@@ -97,6 +79,17 @@ module _ (effort : Effort) (abi : Abi) (records : List Record) where
     go : (e : Effort) → slice_get (records_by e abi records) k ≡ Some (record r { op = by_effort e abi r.op })
     go AsRecorded = here
     go Best = slice_get-map (record_at_best_effort abi) records k ∙ ap (option_map (record_at_best_effort abi)) here
+
+  -- the record that is read at an index
+  pub item_at : (k : ℕ) (item : Record) (held seen : List Record) → held ≡ records → records_by effort abi records ≡ seen → k < length seen
+      → item ≡ get_or held k item → slice_get records k ≡ Some item
+  item_at k item held seen same is within read = slice_get_read records (length records) k item refl (rw (← as_many, is) within) (rw same at read)
+
+  -- it is seen as it was recorded, but for its call
+  pub seen_at : (k : ℕ) (item r : Record) (held seen : List Record) → held ≡ records → records_by effort abi records ≡ seen → k < length seen
+      → item ≡ get_or held k item → slice_get seen k ≡ Some r → r ≡ record item { op = by_effort effort abi item.op }
+  seen_at k item r held seen same is within read there =
+      same_Some r _ (sym there ∙ ap (λ rs. slice_get rs k) (sym is) ∙ record_seen k item (item_at k item held seen same is within read))
 
   pub first_places_seen : (tree : List Entry) (places : List Place) → AreFirstPlaces tree records places
       → AreFirstPlaces tree (records_by effort abi records) places

@@ -15,3 +15,4 @@ pub mod SaidByName
 pub mod Taken
 pub mod Borrowed
 pub mod SeenRecords
+pub mod WorkedTraces

@@ -34,9 +34,7 @@ fn operation_by_name(alloc: Global, name: &str, members: &Members<'_>) -> Result
             nnp: flag_of(members, Name::Nnp)?,
             admin: flag_of(members, Name::Admin)?,
         }),
-        "fork" => Ok(Op::Fork {
-            child: number_of(members, Name::Child)?,
-        }),
+        "fork" => number_of(members, Name::Child).map(|child| Op::Fork { child }),
         "exit" => Ok(Op::Exit),
         "nnp" => Ok(Op::Nnp),
         "create" => Ok(Op::Create {
@@ -50,12 +48,8 @@ fn operation_by_name(alloc: Global, name: &str, members: &Members<'_>) -> Result
             port: number_of(members, Name::Port)?,
             net: net_of(members)?,
         }),
-        "close_rs" => Ok(Op::CloseRs {
-            rs: number_of(members, Name::Rs)?,
-        }),
-        "restrict" => Ok(Op::Restrict {
-            rs: number_of(members, Name::Rs)?,
-        }),
+        "close_rs" => number_of(members, Name::Rs).map(|rs| Op::CloseRs { rs }),
+        "restrict" => number_of(members, Name::Rs).map(|rs| Op::Restrict { rs }),
         "mount" => Ok(Op::Mount),
         _ => descriptor_operation(alloc, name, members),
     }
@@ -76,22 +70,14 @@ fn descriptor_operation(alloc: Global, name: &str, members: &Members<'_>) -> Res
             fd: number_of(members, Name::Fd)?,
             to: number_of(members, Name::To)?,
         }),
-        "close" => Ok(Op::Close {
-            fd: number_of(members, Name::Fd)?,
-        }),
-        "ftruncate" => Ok(Op::Ftruncate {
-            fd: number_of(members, Name::Fd)?,
-        }),
+        "close" => number_of(members, Name::Fd).map(|fd| Op::Close { fd }),
+        "ftruncate" => number_of(members, Name::Fd).map(|fd| Op::Ftruncate { fd }),
         "ioctl" => Ok(Op::Ioctl {
             fd: number_of(members, Name::Fd)?,
             driver: truth_of(members, Name::Driver)?,
         }),
-        "bind" => Ok(Op::Bind {
-            port: port_of(members)?,
-        }),
-        "connect" => Ok(Op::Connect {
-            port: port_of(members)?,
-        }),
+        "bind" => port_of(members).map(|port| Op::Bind { port }),
+        "connect" => port_of(members).map(|port| Op::Connect { port }),
         _ => path_operation(alloc, name, members),
     }
 }
@@ -103,26 +89,14 @@ fn path_operation(alloc: Global, name: &str, members: &Members<'_>) -> Result<Op
         → Gives (λ op. op) result (named_in (path_operations value) name.now) }
 {
     match name {
-        "truncate" => Ok(Op::Truncate {
-            path: path_of(alloc, members)?,
-        }),
-        "exec" => Ok(Op::Exec {
-            path: path_of(alloc, members)?,
-        }),
+        "truncate" => path_of(alloc, members).map(|path| Op::Truncate { path }),
+        "exec" => path_of(alloc, members).map(|path| Op::Exec { path }),
         "open" => open_of(alloc, members),
         "mknod" => mknod_of(alloc, members),
-        "mkdir" => Ok(Op::Mkdir {
-            path: path_of(alloc, members)?,
-        }),
-        "symlink" => Ok(Op::Symlink {
-            path: path_of(alloc, members)?,
-        }),
-        "unlink" => Ok(Op::Unlink {
-            path: path_of(alloc, members)?,
-        }),
-        "rmdir" => Ok(Op::Rmdir {
-            path: path_of(alloc, members)?,
-        }),
+        "mkdir" => path_of(alloc, members).map(|path| Op::Mkdir { path }),
+        "symlink" => path_of(alloc, members).map(|path| Op::Symlink { path }),
+        "unlink" => path_of(alloc, members).map(|path| Op::Unlink { path }),
+        "rmdir" => path_of(alloc, members).map(|path| Op::Rmdir { path }),
         "rename" => rename_of(alloc, members),
         "link" => link_of(alloc, members),
         _ => Err(Cause::Field),

@@ -1,10 +1,10 @@
-//! The reading of a trace file by several threads: each reads parts of the lines as entries, and one
-//! thread admits them in the order of the file.
+//! The reading of a trace file in parts: the lines of each are read as entries, by several threads or by one, and one
+//! thread admits the entries in the order of the file.
 
 ghost use Rattle.std.specs.Prelude.{◌≡◌, ◌≢◌, ◌≤◌, ◌<◌, ◌++◌, ◌∷◌, [], ℕ, List, flat_map, OnOk, OnErr, IfOk, IfErr, vec_len};
 ghost use Rattle.std.specs.List.{AllZip};
 ghost use Rattle.ll_lines.specs.Lines.{Line, filled_lines};
-ghost use Rattle.ll_lines.specs.LineByLine.{read_lines, reading, GivesReading, MeetsFault, line_view};
+ghost use Rattle.ll_lines.specs.LineByLine.{read_lines, GivesReading, MeetsFault, line_view};
 ghost use Rattle.ll_lines.specs.Readers.{Fails};
 ghost use Rattle.ll_lines.specs.declared.fault.Cause.TheVariants.{Memory};
 ghost use Rattle.ll_trace.specs.Entries.{entry_at, trace_file};
@@ -21,15 +21,48 @@ use std::alloc::{AllocError, Global};
 use std::mem;
 use std::thread::{Threads, join};
 
-/// The number of blocks that a worker reads before their entries are admitted.
-const BLOCKS_EACH: usize = 8;
+/// How many parts a worker reads before their entries are admitted.
+const PARTS_EACH: usize = 8;
+
+/// About how many bytes of a file that is given whole are read as one part, at most.
+const PART_BYTES: usize = 262_144;
 
 /// What a part of the lines reads as: the entries of the lines before the first line that has none,
 /// and the fault of that line.
 #[derive(Drop)]
-struct PartRead {
+pub(crate) struct PartRead {
     entries: Vec<Entry>,
     fault: Option<ReadFault>,
+}
+
+/// Lines of a file that are read by themselves.
+pub(crate) trait Part: Send + Drop {
+    ghost use Rattle.std.specs.Prelude.{List};
+    ghost use Rattle.ll_lines.specs.Lines.{Line};
+    ghost use Rattle.ll_trace.specs.Parts.{IsReadOf};
+
+    // The lines.
+    ghost lines: { Self → List Line };
+
+    /// Reads the lines, up to the first that has a fault, and gives the part back.
+    fn read(self, alloc: Global) -> PartRead
+        ensures { IsReadOf (lines self) result };
+}
+
+impl Part for LineBlock {
+    ghost lines = { λ block. block };
+
+    fn read(self, alloc: Global) -> PartRead {
+        read_part(alloc, self.lines())
+    }
+}
+
+impl<'a> Part for FilledLines<'a> {
+    ghost lines = { λ lines. lines };
+
+    fn read(self, alloc: Global) -> PartRead {
+        read_part(alloc, self)
+    }
 }
 
 /// Adds the entry that a line reads as.
@@ -114,45 +147,53 @@ fn admit_all(reader: Reader, parts: Vec<PartRead>) -> Result<Reader, ReadFault>
     Ok(reader)
 }
 
-/// The parts of a file, each read by itself.
-fn read_parts<R: Threads + Sync>(
-    rt: &R,
+/// The lines of these bytes in parts of at most about [`PART_BYTES`], and in [`PARTS_EACH`] for each worker or more.
+pub(crate) fn parts_of(
     alloc: Global,
     bytes: &[u8],
-    most: usize,
-) -> Result<Vec<PartRead>, AllocError>
-    ensures { IfOk result (λ parts. (lines : List (List Line))
-        × (flat_map (λ part. part) lines ≡ filled_lines bytes.now)
-        × AllZip IsReadOf lines parts.items) }
+    workers: usize,
+) -> Result<Vec<FilledLines<'_>>, AllocError>
+    ensures { IfOk result
+        (λ parts. flat_map (λ part. part) parts.items ≡ filled_lines bytes.now) }
 {
-    let parts = FilledLines::new(bytes).in_parts(alloc, most)?;
+    let most = workers
+        .saturating_mul(PARTS_EACH)
+        .max(bytes.len() / PART_BYTES);
+    FilledLines::new(bytes).in_parts(alloc, most)
+}
+
+/// Reads parts one after another: the entries of each are admitted before the next one is read.
+pub(crate) fn read_parts<P: Part>(alloc: Global, parts: Vec<P>) -> Result<Reader, ReadFault>
+    ensures gives { GivesReading entries result
+        (read_lines trace_file [] (flat_map P.lines parts.items)) }
+    ensures kept { IfOk result IsKept }
+{
+    let mut reader = Reader::new(alloc);
+    for part in parts {
+        if let Err(fault) = admit_part(&mut reader, part.read(alloc)) {
+            return Err(fault);
+        }
+    }
+    Ok(reader)
+}
+
+/// Parts, each read by itself, with at most a thread for every [`PARTS_EACH`] of them.
+fn read_each<R: Threads + Sync, P: Part>(
+    rt: &R,
+    alloc: Global,
+    parts: Vec<P>,
+) -> Result<Vec<PartRead>, AllocError>
+    ensures { IfOk result
+        (λ reads. AllZip (λ part. IsReadOf (P.lines part)) parts.items reads.items) }
+{
     parts
         .into_par_iter()
         .map(
-            |lines: FilledLines| -> PartRead
-                ensures { IsReadOf lines.entry result }
-            { read_part(alloc, lines) },
+            |part: P| -> PartRead
+                ensures { IsReadOf (P.lines part) result }
+            { part.read(alloc) },
         )
-        .with_min_len(1)
-        .collect(rt, alloc)
-}
-
-/// Blocks of lines, each read by itself, with at most a thread for every [`BLOCKS_EACH`] of them.
-fn read_each<R: Threads + Sync>(
-    rt: &R,
-    alloc: Global,
-    blocks: Vec<LineBlock>,
-) -> Result<Vec<PartRead>, AllocError>
-    ensures { IfOk result (λ parts. AllZip IsReadOf blocks.items parts.items) }
-{
-    blocks
-        .into_par_iter()
-        .map(
-            |block: LineBlock| -> PartRead
-                ensures { IsReadOf block result }
-            { read_part(alloc, block.lines()) },
-        )
-        .with_min_len(BLOCKS_EACH)
+        .with_min_len(PARTS_EACH)
         .collect(rt, alloc)
 }
 
@@ -166,41 +207,42 @@ pub(crate) fn no_memory() -> ReadFault
     }
 }
 
-/// Takes the next blocks, which are read together: so many for each worker.
-fn next_round(blocks: &mut Vec<LineBlock>, workers: usize) -> Result<Vec<LineBlock>, AllocError>
+/// Takes the next parts, which are read together: so many for each worker.
+fn next_round<P: Drop>(parts: &mut Vec<P>, workers: usize) -> Result<Vec<P>, AllocError>
     requires { 1 ≤ workers }
-    ensures next { IfOk result (λ round. round.items ++ blocks.new.items ≡ blocks.old.items) }
-    ensures some { IfOk result (λ round. vec_len blocks.old ≢ 0 → 0 < vec_len round) }
+    ensures next { IfOk result (λ round. round.items ++ parts.new.items ≡ parts.old.items) }
+    ensures some { IfOk result (λ round. vec_len parts.old ≢ 0 → 0 < vec_len round) }
 {
-    let many = workers.saturating_mul(BLOCKS_EACH).min(blocks.len());
-    let others = blocks.split_off(many)?;
-    Ok(mem::replace(blocks, others))
+    let many = workers.saturating_mul(PARTS_EACH).min(parts.len());
+    let others = parts.split_off(many)?;
+    Ok(mem::replace(parts, others))
 }
 
-/// Admits the entries of parts as records while one thread for every [`BLOCKS_EACH`] blocks reads these.
-fn admit_beside<R: Threads + Sync>(
+/// Admits the entries of parts that are read as records, while one thread for every [`PARTS_EACH`] others reads these.
+fn admit_beside<R: Threads + Sync, P: Part>(
     rt: &R,
     alloc: Global,
     reader: Reader,
-    parts: Vec<PartRead>,
-    blocks: Vec<LineBlock>,
+    reads: Vec<PartRead>,
+    parts: Vec<P>,
 ) -> Result<(Reader, Vec<PartRead>), ReadFault>
     requires { IsKept reader }
     ensures admitted { IfOk result (λ both. (lines : List (List Line)) (others : List Line)
-        → AllZip IsReadOf lines parts.items
+        → AllZip IsReadOf lines reads.items
         → read_lines trace_file (entries reader) (flat_map (λ part. part) lines ++ others)
         ≡ read_lines trace_file (entries both.0) others) }
-    ensures read { IfOk result (λ both. AllZip IsReadOf blocks.items both.1.items) }
+    ensures read { IfOk result
+        (λ both. AllZip (λ part. IsReadOf (P.lines part)) parts.items both.1.items) }
     ensures fault { IfErr result (λ fault. (lines : List (List Line)) (others : List Line)
-        → AllZip IsReadOf lines parts.items
+        → AllZip IsReadOf lines reads.items
         → MeetsFault fault.line fault.cause
         (read_lines trace_file (entries reader) (flat_map (λ part. part) lines ++ others))) }
     ensures kept { IfOk result (λ both. IsKept both.0) }
 {
     let (admitted, read) = join(
         rt,
-        move || admit_all(reader, parts),
-        move || read_each(rt, alloc, blocks),
+        move || admit_all(reader, reads),
+        move || read_each(rt, alloc, parts),
     );
     let reader = admitted?;
     let Ok(read) = read else {
@@ -209,45 +251,31 @@ fn admit_beside<R: Threads + Sync>(
     Ok((reader, read))
 }
 
-/// Reads blocks of lines, which are given back, by at most this many threads. The calling thread admits the records of
-/// the blocks before at the same time, so that few entries are kept.
-pub(crate) fn read_blocks_by<R: Threads + Sync>(
+/// Reads parts by at most this many threads, and one reads them as [`read_parts`] does. Of several, the calling thread
+/// admits the entries of some parts while the others read the next ones, so that few entries are kept.
+pub(crate) fn read_parts_by<R: Threads + Sync, P: Part>(
     rt: &R,
     alloc: Global,
-    blocks: Vec<LineBlock>,
+    parts: Vec<P>,
     workers: usize,
 ) -> Result<Reader, ReadFault>
-    requires { 1 ≤ workers }
     ensures gives { GivesReading entries result
-        (read_lines trace_file [] (flat_map (λ block. block) blocks.items)) }
+        (read_lines trace_file [] (flat_map P.lines parts.items)) }
     ensures kept { IfOk result IsKept }
 {
+    if workers <= 1 {
+        return read_parts(alloc, parts);
+    }
     let mut reader = Reader::new(alloc);
-    let mut parts = Vec::new(alloc);
-    let mut left = blocks;
+    let mut reads = Vec::new(alloc);
+    let mut left = parts;
     while !left.is_empty() {
         let Ok(round) = next_round(&mut left, workers) else {
             return Err(no_memory());
         };
-        let (admitted, read) = admit_beside(rt, alloc, reader, parts, round)?;
+        let (admitted, read) = admit_beside(rt, alloc, reader, reads, round)?;
         reader = admitted;
-        parts = read;
+        reads = read;
     }
-    admit_all(reader, parts)
-}
-
-/// Reads a file in at most this many parts: its records, or the first fault of its first faulty line.
-pub(crate) fn read_all_by<R: Threads + Sync>(
-    rt: &R,
-    alloc: Global,
-    bytes: &[u8],
-    most: usize,
-) -> Result<Reader, ReadFault>
-    ensures gives { GivesReading entries result (reading trace_file bytes.now) }
-    ensures kept { IfOk result IsKept }
-{
-    let Ok(parts) = read_parts(rt, alloc, bytes, most) else {
-        return Err(no_memory());
-    };
-    admit_all(Reader::new(alloc), parts)
+    admit_all(reader, reads)
 }

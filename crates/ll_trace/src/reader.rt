@@ -1,8 +1,8 @@
-//! The reading of a trace file, record after record.
+//! What a line of a trace file says, and the admission of entries as records, one after another.
 
-ghost use Rattle.std.specs.Prelude.{◌≡◌, ◌+◌, ◌<◌, ◌∷◌, ◌++◌, [], List, OnOk, IfOk, IfErr, None, Ok, flat_map, unwrap_or, nat_le};
-ghost use Rattle.ll_lines.specs.{declared.fault.Cause.TheVariants.Memory, Readers.Gives, Lines.Line};
-ghost use Rattle.ll_lines.specs.LineByLine.{with_entry, with_line, read_lines, reading, GivesReading, MeetsFault, line_view};
+ghost use Rattle.std.specs.Prelude.{◌≡◌, ◌<◌, [], List, OnOk, IfOk, IfErr, None, unwrap_or, nat_le};
+ghost use Rattle.ll_lines.specs.{declared.fault.Cause.TheVariants.Memory, Readers.Gives};
+ghost use Rattle.ll_lines.specs.LineByLine.{with_entry, line_view};
 ghost use Rattle.ll_trace.specs.declared.reader.TheConstants.{MOST_PROCESSES, MOST_RECORDS};
 ghost use Rattle.ll_trace.specs.Entries.{Entry as Seen, entry_at, is_live as is_live_in, is_unknown as is_unknown_in, is_twice as is_twice_in, is_too_many, is_end_of, entry_fault, process_count, started_pid, trace_file};
 ghost use Rattle.ll_trace.specs.Records.{process_of};
@@ -12,9 +12,8 @@ use crate::op::{Op, ProcessId, Record};
 use crate::operations::operation_of;
 use crate::owners::{Owner, Owners};
 use json::Scratch;
-use ll_lines::blocks::LineBlock;
-use ll_lines::lines::{FileLine, FilledLines};
-use ll_lines::{Cause, ReadFault};
+use ll_lines::Cause;
+use ll_lines::lines::FileLine;
 use ll_members::{Name, number_of, read_members};
 use std::alloc::Global;
 
@@ -189,16 +188,6 @@ impl Reader {
         Ok(())
     }
 
-    fn take(&mut self, alloc: Global, line: &FileLine, scratch: &mut Scratch) -> Result<(), Cause>
-        requires { IsKept self.old }
-        ensures gives { Gives (λ _. entries self.new) result
-            (with_line trace_file (entries self.old) (line_view line.now)) }
-        ensures kept { OnOk result (IsKept self.new) }
-    {
-        let entry = entry_of(alloc, line, scratch)?;
-        self.admit(entry)
-    }
-
     /// Notes which process an entry starts or ends.
     #[tactic(auto, using(crate::proofs::KeptLemmas::noted_begin, crate::proofs::KeptLemmas::noted_stop, crate::proofs::KeptLemmas::noted_same))]
     fn note(&mut self, entry: &Entry) -> Result<(), Cause>
@@ -254,53 +243,4 @@ fn process_or_first(owner: Option<Owner>) -> ProcessId
         None => ProcessId(0),
         Some(owner) => owner.process,
     }
-}
-
-/// Admits the entries of lines as records, up to the first fault.
-fn take_lines(
-    alloc: Global,
-    reader: &mut Reader,
-    lines: FilledLines,
-    scratch: &mut Scratch,
-) -> Result<(), ReadFault>
-    requires { IsKept reader.old }
-    ensures admitted { OnOk result ((others : List Line)
-        → read_lines trace_file (entries reader.old) (lines.entry ++ others)
-        ≡ read_lines trace_file (entries reader.new) others) }
-    ensures fault { IfErr result (λ fault. (others : List Line)
-        → MeetsFault fault.line fault.cause
-        (read_lines trace_file (entries reader.old) (lines.entry ++ others))) }
-    ensures kept { OnOk result (IsKept reader.new) }
-{
-    for line in lines {
-        if let Err(cause) = reader.take(alloc, &line, scratch) {
-            return Err(line.fault(cause));
-        }
-    }
-    Ok(())
-}
-
-/// Reads a file line after line: its records, or the first fault of its first faulty line.
-pub(crate) fn read_all(alloc: Global, bytes: &[u8]) -> Result<Reader, ReadFault>
-    ensures gives { GivesReading entries result (reading trace_file bytes.now) }
-    ensures kept { IfOk result IsKept }
-{
-    let mut reader = Reader::new(alloc);
-    let mut scratch = Scratch::new(alloc);
-    take_lines(alloc, &mut reader, FilledLines::new(bytes), &mut scratch)?;
-    Ok(reader)
-}
-
-/// Reads blocks of lines one after another, and gives the memory of each back.
-pub(crate) fn read_blocks(alloc: Global, blocks: Vec<LineBlock>) -> Result<Reader, ReadFault>
-    ensures gives { GivesReading entries result
-        (read_lines trace_file [] (flat_map (λ block. block) blocks.items)) }
-    ensures kept { IfOk result IsKept }
-{
-    let mut reader = Reader::new(alloc);
-    let mut scratch = Scratch::new(alloc);
-    for block in blocks {
-        take_lines(alloc, &mut reader, block.lines(), &mut scratch)?;
-    }
-    Ok(reader)
 }

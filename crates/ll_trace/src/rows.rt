@@ -1,144 +1,26 @@
 //! Worked traces: each law is proved by computation, which reads the file as the
 //! definitions do.
 
-ghost use Rattle.std.specs.Prelude.{codes, [], ◌∷◌, true, false};
-ghost use Rattle.ll_lines.specs.declared.fault.Cause.TheVariants.{Json, Field, BadPath, UnknownProcess, Twice};
+ghost use Rattle.std.specs.Prelude.{◌≡◌, All, codes};
 ghost use Rattle.ll_lines.specs.Reading.{IsBad};
-ghost use Rattle.ll_trace.specs.{Entries.trace_file, Records.IsTrace};
-ghost use Rattle.std.specs.Prelude.{◌≡◌};
 ghost use Rattle.ll_rights.specs.declared.abi.Abi.{Abi as Version};
 ghost use Rattle.ll_rights.specs.Rights as files;
 ghost use Rattle.ll_rights.specs.NetRights as network;
+ghost use Rattle.ll_trace.specs.{Entries.trace_file, Records.IsTrace};
 ghost use Rattle.ll_trace.specs.BestEffort.{at_best_effort};
+ghost use Rattle.ll_trace.specs.WorkedTraces.{faulty, whole};
 
 use crate::op::Op;
 use ll_rights::Abi;
 
 /// Files with a fault, their first faulty lines and the causes.
 pub fn faulty_traces()
-    ensures never_started { IsBad trace_file (codes "{\"op\":\"nnp\",\"pid\":10}")
-        (record { line = 1; cause = UnknownProcess }) }
-    ensures started_twice { IsBad trace_file
-        (codes "{\"op\":\"start\",\"pid\":10}\n{\"op\":\"start\",\"pid\":10}")
-        (record { line = 2; cause = Twice }) }
-    ensures exited { IsBad trace_file
-        (codes
-        "{\"op\":\"start\",\"pid\":10}\n{\"op\":\"exit\",\"pid\":10}\n{\"op\":\"nnp\",\"pid\":10}")
-        (record { line = 3; cause = UnknownProcess }) }
-    ensures own_child { IsBad trace_file
-        (codes "{\"op\":\"start\",\"pid\":10}\n{\"op\":\"fork\",\"pid\":10,\"child\":10}")
-        (record { line = 2; cause = Twice }) }
-    ensures forked_twice { IsBad trace_file
-        (codes
-        "{\"op\":\"start\",\"pid\":10}\n{\"op\":\"fork\",\"pid\":10,\"child\":11}\n{\"op\":\"fork\",\"pid\":10,\"child\":11}")
-        (record { line = 3; cause = Twice }) }
-    ensures exited_child { IsBad trace_file
-        (codes
-        "{\"op\":\"start\",\"pid\":10}\n{\"op\":\"fork\",\"pid\":10,\"child\":11}\n{\"op\":\"exit\",\"pid\":11}\n{\"op\":\"nnp\",\"pid\":11}")
-        (record { line = 4; cause = UnknownProcess }) }
-    ensures no_operation { IsBad trace_file (codes "{\"op\":\"nosuch\",\"pid\":10}")
-        (record { line = 1; cause = Field }) }
-    ensures cut_short { IsBad trace_file
-        (codes
-        "{\"op\":\"start\",\"pid\":10}\n{\"op\":\"nnp\",\"pid\":10}\n{\"op\":\"create\",\"pid\":10,\"rs\":3,\"fs\":[\"read_file\"]}\n{\"op\":\"add_path\",\"pid\":10,\"rs\":3,\"path\":\"/a\",\"fs\":[\"read_file\"]}\n{\"op\":\"restrict\",\"pid\":10,\"rs\":3}\n{\"op\":\"open\",\"pid\":10,\"path\":\"/a/f\",\"fd\":4,\"mode\":\"r\"}\n{\"op\":\"open\",\"pid\":10,\"path\":\"/b/g\",\"fd\":5,\"mode\":\"r\"}\n{\"op\":\"open\",\"pid\":10,\"path\":\"/b/")
-        (record { line = 8; cause = Json }) }
-    ensures large_pid { IsBad trace_file (codes "{\"op\":\"start\",\"pid\":18446744073709551616}")
-        (record { line = 1; cause = Field }) }
-    ensures fraction { IsBad trace_file (codes "{\"op\":\"start\",\"pid\":1.0}")
-        (record { line = 1; cause = Field }) }
-    ensures negative { IsBad trace_file (codes "{\"op\":\"start\",\"pid\":-1}")
-        (record { line = 1; cause = Field }) }
-    ensures null { IsBad trace_file (codes "{\"op\":\"start\",\"pid\":null}")
-        (record { line = 1; cause = Field }) }
-    ensures null_flag { IsBad trace_file (codes "{\"op\":\"start\",\"pid\":10,\"nnp\":null}")
-        (record { line = 1; cause = Field }) }
-    ensures two_values { IsBad trace_file
-        (codes "{\"op\":\"start\",\"pid\":10} {\"op\":\"exit\",\"pid\":10}")
-        (record { line = 1; cause = Json }) }
-    ensures no_object { IsBad trace_file (codes "\n[]")
-        (record { line = 2; cause = Field }) }
-    ensures bad_path { IsBad trace_file
-        (codes "{\"op\":\"start\",\"pid\":10}\n{\"op\":\"exec\",\"pid\":10,\"path\":\"a\"}")
-        (record { line = 2; cause = BadPath }) }
-    ensures field_first { IsBad trace_file
-        (codes
-        "{\"op\":\"start\",\"pid\":10}\n{\"op\":\"rename\",\"pid\":10,\"from\":\"a\",\"to\":\"/b\",\"exchange\":1}")
-        (record { line = 2; cause = Field }) }
-    ensures path_first { IsBad trace_file (codes "{\"op\":\"exec\",\"pid\":10,\"path\":\"/a/\"}")
-        (record { line = 1; cause = BadPath }) }
-    ensures port { IsBad trace_file
-        (codes "{\"op\":\"start\",\"pid\":10}\n{\"op\":\"bind\",\"pid\":10,\"port\":65536}")
-        (record { line = 2; cause = Field }) }
-    ensures mode { IsBad trace_file
-        (codes
-        "{\"op\":\"start\",\"pid\":10}\n{\"op\":\"open\",\"pid\":10,\"path\":\"/a\",\"fd\":3,\"mode\":\"x\"}")
-        (record { line = 2; cause = Field }) }
+    ensures { All (λ row. IsBad trace_file row.0 row.1) faulty }
 {}
 
 /// Files that read, and their records.
 pub fn whole_traces()
-    ensures used_again { IsTrace
-        (codes
-        "{\"op\":\"start\",\"pid\":10}\n{\"op\":\"exit\",\"pid\":10}\n{\"op\":\"start\",\"pid\":10}")
-        (record { line = 1; process = record { 0 = 0 }; pid = 10; op = Op.Start false false }
-        ∷ record { line = 2; process = record { 0 = 0 }; pid = 10; op = Op.Exit }
-        ∷ record {
-          line = 3;
-          process = record { 0 = 1 };
-          pid = 10;
-          op = Op.Start false false;
-        } ∷ []) }
-    ensures forked_again { IsTrace
-        (codes
-        "{\"op\":\"start\",\"pid\":10}\n{\"op\":\"fork\",\"pid\":10,\"child\":11}\n{\"op\":\"exit\",\"pid\":11}\n{\"op\":\"start\",\"pid\":11}\n{\"op\":\"exit\",\"pid\":11}\n{\"op\":\"fork\",\"pid\":10,\"child\":11}\n{\"op\":\"nnp\",\"pid\":11}")
-        (record { line = 1; process = record { 0 = 0 }; pid = 10; op = Op.Start false false }
-        ∷ record { line = 2; process = record { 0 = 0 }; pid = 10; op = Op.Fork 11 }
-        ∷ record { line = 3; process = record { 0 = 1 }; pid = 11; op = Op.Exit }
-        ∷ record { line = 4; process = record { 0 = 2 }; pid = 11; op = Op.Start false false }
-        ∷ record { line = 5; process = record { 0 = 2 }; pid = 11; op = Op.Exit }
-        ∷ record { line = 6; process = record { 0 = 0 }; pid = 10; op = Op.Fork 11 }
-        ∷ record { line = 7; process = record { 0 = 3 }; pid = 11; op = Op.Nnp } ∷ []) }
-    ensures last_name_counts { IsTrace (codes "{\"op\":\"start\",\"pid\":9,\"pid\":10}")
-        (record {
-          line = 1;
-          process = record { 0 = 0 };
-          pid = 10;
-          op = Op.Start false false;
-        } ∷ []) }
-    ensures largest_pid { IsTrace (codes "{\"op\":\"start\",\"pid\":18446744073709551615}")
-        (record {
-          line = 1;
-          process = record { 0 = 0 };
-          pid = 18446744073709551615;
-          op = Op.Start false false;
-        } ∷ []) }
-    ensures blank_lines { IsTrace
-        (codes
-        "\n \t\r\n{\"op\":\"start\",\"pid\":10,\"nnp\":true}\r\n\n{\"op\":\"mount\",\"pid\":10}\n")
-        (record { line = 3; process = record { 0 = 0 }; pid = 10; op = Op.Start true false }
-        ∷ record { line = 5; process = record { 0 = 0 }; pid = 10; op = Op.Mount } ∷ []) }
-    ensures sets_and_paths { IsTrace
-        (codes
-        "{\"op\":\"start\",\"pid\":10,\"admin\":true}\n{\"op\":\"create\",\"pid\":10,\"rs\":3,\"fs\":[\"read_file\",\"write_file\",\"read_file\"]}\n{\"op\":\"add_path\",\"pid\":10,\"rs\":3,\"path\":\"/a/f\",\"fs\":[\"nosuch\"]}\n{\"op\":\"rename\",\"pid\":10,\"from\":\"/a\",\"to\":\"/b\"}")
-        (record { line = 1; process = record { 0 = 0 }; pid = 10; op = Op.Start false true }
-        ∷ record {
-          line = 2;
-          process = record { 0 = 0 };
-          pid = 10;
-          op = Op.Create 3 (record { 0 = 6 }) (record { 0 = 0 });
-        }
-        ∷ record {
-          line = 3;
-          process = record { 0 = 0 };
-          pid = 10;
-          op = Op.AddPath 3 (codes "/a/f") (files.only files.other);
-        }
-        ∷ record {
-          line = 4;
-          process = record { 0 = 0 };
-          pid = 10;
-          op = Op.Rename (codes "/a") (codes "/b") false;
-        } ∷ []) }
+    ensures { All (λ row. IsTrace row.0 row.1) whole }
 {}
 
 /// Calls of a program that goes by its kernel's version (landlock(7), "VERSIONS").

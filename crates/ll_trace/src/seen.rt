@@ -187,36 +187,36 @@ impl<'t> Seen<'t> {
         self.call
     }
 
-    /// Whether it forks.
-    #[tactic(auto, unfolding(crate::specs::Borrowed::meant, crate::specs::Borrowed::is_of_rights, crate::specs::Processes::is_fork))]
-    pub fn is_fork(&self) -> bool
-        ensures { result ≡ is_fork self.now }
+    /// The operation itself, if it is one that no kernel changes. The others start no process.
+    #[tactic(auto, unfolding(crate::specs::Borrowed::meant, crate::specs::Processes::is_fork, crate::specs::Entries::is_start))]
+    fn unchanged(&self) -> Option<&'t Op>
+        ensures same { IfSome result (λ op. op.now ≡ self.now) }
+        ensures no_fork { IfNone result (is_fork self.now ≡ false) }
+        ensures no_start { IfNone result (is_start self.now ≡ false) }
     {
         match self.call {
-            Call::Other(op) => op.is_fork(),
+            Call::Other(op) => Some(op),
             Call::Create { .. }
             | Call::CreateEmpty { .. }
             | Call::AddPath { .. }
             | Call::AddPort { .. }
             | Call::LeaveOutPath { .. }
-            | Call::LeaveOutPort => false,
+            | Call::LeaveOutPort => None,
         }
     }
 
+    /// Whether it forks.
+    pub fn is_fork(&self) -> bool
+        ensures { result ≡ is_fork self.now }
+    {
+        self.unchanged().is_some_and(|op| op.is_fork())
+    }
+
     /// Whether it begins a process with which the trace begins.
-    #[tactic(auto, unfolding(crate::specs::Borrowed::meant, crate::specs::Borrowed::is_of_rights, crate::specs::Entries::is_start))]
     pub fn is_start(&self) -> bool
         ensures { result ≡ is_start self.now }
     {
-        match self.call {
-            Call::Other(op) => op.is_start(),
-            Call::Create { .. }
-            | Call::CreateEmpty { .. }
-            | Call::AddPath { .. }
-            | Call::AddPort { .. }
-            | Call::LeaveOutPath { .. }
-            | Call::LeaveOutPort => false,
-        }
+        self.unchanged().is_some_and(|op| op.is_start())
     }
 }
 

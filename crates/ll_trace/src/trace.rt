@@ -7,8 +7,8 @@ ghost use Rattle.ll_trace.specs.{Entries.trace_file, Traces.AreRecords, Records.
 ghost use Rattle.ll_trace.specs.Processes.{process_count, parent_of, own_records, started_at};
 
 use crate::op::{ProcessId, Record};
-use crate::parts::{no_memory, read_all_by, read_blocks_by};
-use crate::reader::{Reader, read_all, read_blocks};
+use crate::parts::{no_memory, parts_of, read_parts, read_parts_by};
+use crate::reader::Reader;
 use crate::tables::{Tables, index};
 use ll_lines::blocks::LineBlocks;
 use ll_lines::{Cause, ReadFault};
@@ -62,7 +62,10 @@ impl Trace {
         ensures bad { IfErr result
             (λ fault. fault.cause ≢ Memory → IsBad trace_file bytes.now fault) }
     {
-        Trace::of(alloc, read_all(alloc, bytes)?)
+        let Ok(parts) = parts_of(alloc, bytes, 1) else {
+            return Err(no_memory());
+        };
+        Trace::of(alloc, read_parts(alloc, parts)?)
     }
 
     /// Reads a trace file as [`Trace::read`] does, with at most this many threads, which read parts of
@@ -79,10 +82,10 @@ impl Trace {
         ensures bad { IfErr result
             (λ fault. fault.cause ≢ Memory → IsBad trace_file bytes.now fault) }
     {
-        if workers <= 1 {
-            return Trace::read(alloc, bytes);
-        }
-        Trace::of(alloc, read_all_by(rt, alloc, bytes, workers)?)
+        let Ok(parts) = parts_of(alloc, bytes, workers) else {
+            return Err(no_memory());
+        };
+        Trace::of(alloc, read_parts_by(rt, alloc, parts, workers)?)
     }
 
     /// Reads a trace file in blocks as [`Trace::read_by`] does, and gives the memory of each block back once its lines
@@ -98,13 +101,10 @@ impl Trace {
         ensures bad { IfErr result
             (λ fault. fault.cause ≢ Memory → IsBad trace_file blocks fault) }
     {
-        let Ok(blocks) = blocks.into_blocks(alloc) else {
+        let Ok(parts) = blocks.into_blocks(alloc) else {
             return Err(no_memory());
         };
-        if workers <= 1 {
-            return Trace::of(alloc, read_blocks(alloc, blocks)?);
-        }
-        Trace::of(alloc, read_blocks_by(rt, alloc, blocks, workers)?)
+        Trace::of(alloc, read_parts_by(rt, alloc, parts, workers)?)
     }
 
     /// The trace with the records that were read.

@@ -2,11 +2,11 @@
 use Rattle.std.proofs.Common.{flat_map, length}
 use Rattle.ll_trace.specs.Kept.{entries, IsKept}
 use Rattle.ll_trace.proofs.PartLemmas.{AreReading}
-use Rattle.ll_trace.proofs.parts.read_blocks_by.Given as goal
+use Rattle.ll_trace.proofs.parts.read_parts_by.Given as goal
 
 abbrev pub invariant-loop-alloc : goal.invariant-loop-alloc
 invariant-loop-alloc g l = record {
-  reading : AreReading (flat_map (λ block. block) l.fn.blocks.items) (entries l.reader) l.parts.items l.left.items;
+  reading : AreReading g.P.Part.lines (flat_map g.P.Part.lines l.fn.parts.items) (entries l.reader) l.reads.items l.left.items;
   kept : IsKept l.reader;
 }
 
