@@ -49,7 +49,8 @@ impl Model for Trace {
 
 impl Trace {
     /// Reads a trace file: its records if no line has a fault, else the first fault of the first
-    /// faulty line. If memory runs out, the fault is `Memory` at the line that was being read.
+    /// faulty line. If memory runs out, the fault is `Memory` at the line that was being read, or at
+    /// the first line.
     ///
     /// ```
     /// let lines = "{\"op\":\"start\",\"pid\":10}\n{\"op\":\"nnp\",\"pid\":10}\n";
