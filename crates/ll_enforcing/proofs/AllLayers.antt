@@ -4,6 +4,7 @@ use Rattle.std.proofs.Common.{nat_le, nat_eq, All, subst, inl, inr}
 use Rattle.std.specs.Map.{update}
 use Rattle.std.specs.List.{flat_map}
 use Rattle.std.proofs.lemmas.List.{append_assoc, append-nil, length-append, map-append, reverse-append}
+use Rattle.std.proofs.lemmas.Simd.{map-map}
 use Rattle.std.proofs.lemmas.Bool.{eq-eqb, ne_eqb, cases_eq}
 use Rattle.std.proofs.lemmas.Bool.Decides.{nat_tests}
 use Rattle.std.proofs.lemmas.List.Elements.{All-head, All-tail}
@@ -81,10 +82,6 @@ filled_is tree left =
 
 -- ---- one layer
 
-pub map_twice : {X Y Z : Type 0} (f : Y → Z) (g : X → Y) (xs : List X) → map f (map g xs) ≡ map (λ x. f (g x)) xs
-map_twice f g [] = refl
-map_twice f g (x ∷ xs) = ap (λ zs. f (g x) ∷ zs) (map_twice f g xs)
-
 -- what is made of the calls of a layer, one after another
 pub mapped : {Z : Type 0} (f : Call → Z) (left : Fitted) → map f (calls_of_layer left)
     ≡ f (calls.CreateRuleset left.layer left.files left.network) ∷ (map (λ rule. f (calls.AddPath left.layer rule)) left.path_rules
@@ -96,8 +93,8 @@ mapped f left =
     (map-append f (of_path_rules left ++ of_port_rules left) last
     ∙ ap (λ zs. zs ++ map f last)
     (map-append f (of_path_rules left) (of_port_rules left)
-    ∙ ap (λ zs. zs ++ map f (of_port_rules left)) (map_twice f (λ rule. calls.AddPath left.layer rule) left.path_rules)
-    ∙ ap (λ zs. map (λ rule. f (calls.AddPath left.layer rule)) left.path_rules ++ zs) (map_twice f (λ rule. calls.AddPort left.layer rule) left.port_rules)))
+    ∙ ap (λ zs. zs ++ map f (of_port_rules left)) (map-map f (λ rule. calls.AddPath left.layer rule) left.path_rules)
+    ∙ ap (λ zs. map (λ rule. f (calls.AddPath left.layer rule)) left.path_rules ++ zs) (map-map f (λ rule. calls.AddPort left.layer rule) left.port_rules)))
 
 module _ (tree : List Entry) (abi : Abi) (missing : List ℕ) (rs : ℕ) where
   -- the state of a process that has a layer more

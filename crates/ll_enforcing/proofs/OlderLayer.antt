@@ -2,7 +2,7 @@
 use Rattle.std.proofs.Common.{◌≡◌, ℕ, ◌≤◌, Bool, true, false, not, ◌&&◌, ◌||◌, List, [], ◌∷◌, ◌++◌, map, length, Option, Some, None, refl, sym, ap, ◌∙◌}
 use Rattle.std.proofs.Common.{if◌then◌else◌, subst, All, nat_le}
 use Rattle.std.specs.List.{flat_map, enumerate_from}
-use Rattle.std.proofs.lemmas.Bool.{true≢false, eq-eqb}
+use Rattle.std.proofs.lemmas.Bool.{true≢false, eq-eqb, and_parts}
 use Rattle.std.proofs.lemmas.List.{map-append}
 use Rattle.std.proofs.lemmas.List.Concat.{flat_map-append}
 use Rattle.std.proofs.lemmas.List.Elements.{All-head, All-tail}
@@ -17,6 +17,7 @@ use Rattle.ll_rights.specs.NetRights as network
 use Rattle.ll_rights.proofs.Supported.{fs_supported-older, net_supported-older}
 use Rattle.ll_tree.specs.Trees.{Entry, place}
 use Rattle.ll_tree.specs.TreeFacts.{IsTree}
+use Rattle.ll_rules.proofs.Booleans.{or_false}
 use Rattle.ll_rules.specs.declared.domain.TheConstants.{MOST_LAYERS}
 use Rattle.ll_rules.specs.InTree.{in_tree}
 use Rattle.ll_rules.specs.Layers.{without_rules}
@@ -48,7 +49,7 @@ use Rattle.ll_enforcing.proofs.OneLayer.{with_granted, with_granted-append, hand
 use Rattle.ll_enforcing.proofs.OneLayer.{leads_restrict, leads_close}
 use Rattle.ll_enforcing.proofs.AllLayers.{filled, filled_is, mapped, after_layer}
 use Rattle.ll_enforcing.proofs.OlderRights.{older_rights, net_supported_nothing, is_zero, net_is_zero}
-use Rattle.ll_enforcing.proofs.OlderRules.{Goes, goes_none, goes_one, goes_on, all_left, all_right, or_false, any_refused, best_path, best_port, IsSame}
+use Rattle.ll_enforcing.proofs.OlderRules.{Goes, goes_none, goes_one, goes_on, all_left, all_right, any_refused, best_path, best_port, IsSame}
 use Rattle.ll_enforcing.proofs.OlderRules.{goes_rule, goes_port_by}
 
 -- ---- a rule that is left, or isn't
@@ -184,10 +185,6 @@ module _ (tree : List Entry) (older newer : Abi) (le : number_of older ≤ numbe
   created_some true false c x y is = refl
   created_some false b c x y is = refl
 
-  both_parts : (a b : Bool) → (a && b) ≡ true → (a ≡ true) × (b ≡ true)
-  both_parts true b is = (refl, is)
-  both_parts false b is = absurd (cc)
-
   files_left : supported_fs older (handled_files newer layer) ≡ handled_files older layer
   unfolding handled_at
   files_left = fs_supported-older older newer (listed for_files layer.handled_files) le
@@ -232,7 +229,7 @@ module _ (tree : List Entry) (older newer : Abi) (le : number_of older ≤ numbe
       → Goes tree older false r s (best_create ∷ []) (r ++ without_rules (handled_files older layer) (handled_network older layer) ∷ [])
       (with_held s rs (Some (length r)))
   goes_create true r s free known known_on_ports some none =
-      let parts = both_parts (files.is_empty (handled_files older layer)) (network.is_empty (handled_network older layer)) none in
+      let parts = and_parts (files.is_empty (handled_files older layer)) (network.is_empty (handled_network older layer)) none in
       subst (λ (op : Op). Goes tree older false r s (op ∷ []) (r ++ without_rules (handled_files older layer) (handled_network older layer) ∷ [])
       (with_held s rs (Some (length r))))
       (sym (empty_op none some))

@@ -6,7 +6,8 @@ use Rattle.std.proofs.Common.{arith, if◌then◌else◌, subst, inl, inr, All}
 use Rattle.std.specs.List.{flat_map, enumerate_from, list_any}
 use Rattle.std.specs.Option.{is_some, option_or}
 use Rattle.std.proofs.lemmas.List.Folds.{list_any-append, list_any_none}
-use Rattle.std.proofs.lemmas.Bool.{cases_Bool, true≢false, false≢true}
+use Rattle.std.proofs.lemmas.Simd.{map-map}
+use Rattle.std.proofs.lemmas.Bool.{cases_Bool, true≢false, false≢true, and_parts, and_from, and_left}
 use Rattle.std.proofs.lemmas.List.{append-nil, append_assoc, map-append, length-append}
 use Rattle.std.proofs.lemmas.List.Concat.{flat_map-append}
 use Rattle.std.proofs.lemmas.List.Elements.{All-head, All-tail, filter-append}
@@ -18,6 +19,7 @@ use Rattle.ll_rights.specs.NetRights as network
 use Rattle.ll_rights.proofs.Supported.{fs_has-supported, fs_supported-older, net_supported-older}
 use Rattle.ll_tree.specs.Trees.{Entry, place}
 use Rattle.ll_tree.specs.TreeFacts.{IsTree}
+use Rattle.ll_rules.proofs.Booleans.{or_false}
 use Rattle.ll_rules.specs.declared.domain.TheConstants.{MOST_LAYERS}
 use Rattle.ll_rules.specs.InTree.{in_tree, all_in_tree}
 use Rattle.ll_rules.specs.Layers.{handles_nothing}
@@ -40,16 +42,16 @@ use Rattle.ll_fitting.specs.Misfits as misfits
 use Rattle.ll_fitting.specs.Fitting.{Fitted, fitted, fitted_if_any, fitted_layer, fitted_path_rules, fitted_path_rule, rights_on, rights_at, handled_files}
 use Rattle.ll_fitting.specs.Fitting.{handled_at, handled_network}
 use Rattle.ll_fitting.specs.Taken.{is_refused, rules_of, layers_of, first_refused}
-use Rattle.ll_fitting.proofs.Left.{all_if, all_flat, none_or, none_told, told_none, fits_if, fits_in, named_alone, on_within, false_and, AreFit}
+use Rattle.ll_fitting.proofs.Left.{all_if, all_flat, none_or, none_told, told_none, fits_if, fits_in, named_alone, on_within, AreFit}
 use Rattle.ll_enforcing.specs.declared.calls.Call.{Call}
 use Rattle.ll_enforcing.specs.declared.calls.Call.TheVariants as calls
 use Rattle.ll_enforcing.specs.Calls.{path_to, operation_of, calls_of_layer, calls_of}
 use Rattle.ll_enforcing.specs.Answered.{is_refusal, IsListed, IsNoObject, HasGained, MayEnforce, records_of}
 use Rattle.ll_enforcing.specs.AtBestEffort.{taken_at, IsTheSame}
 use Rattle.ll_enforcing.proofs.Runs.{NoneStarts, judged_on, state_then_on}
-use Rattle.ll_enforcing.proofs.AllLayers.{after_layer, unprivileged, gained_more, has_room, ends, leads_nnp, map_twice}
+use Rattle.ll_enforcing.proofs.AllLayers.{after_layer, unprivileged, gained_more, has_room, ends, leads_nnp}
 use Rattle.ll_enforcing.proofs.OlderRights.{within_nothing, supported_nothing, net_supported_nothing}
-use Rattle.ll_enforcing.proofs.OlderRules.{Goes, goes_none, goes_one, goes_on, all_left, all_right, or_false, any_refused}
+use Rattle.ll_enforcing.proofs.OlderRules.{Goes, goes_none, goes_one, goes_on, all_left, all_right, any_refused}
 use Rattle.ll_enforcing.proofs.OlderLayer.{goes_layer}
 
 -- ---- a layer of which an older version knows nothing has no rule there
@@ -65,7 +67,7 @@ none_left P abi layer known empty =
     (λ numbered there. all_if P (files.is_empty (rights_at abi layer numbered.1 numbered.1.parent)) _
     (λ some. absurd (true≢false (sym (within_nothing (rights_at abi layer numbered.1 numbered.1.parent)
     (supported_fs abi (listed for_files layer.handled_files))
-    (fs_has-supported abi (listed for_files layer.handled_files) files.other ∙ false_and (files.has (listed for_files layer.handled_files) files.other) _ known)
+    (fs_has-supported abi (listed for_files layer.handled_files) files.other ∙ and_left (files.has (listed for_files layer.handled_files) files.other) _ known)
     (on_within abi layer known numbered.1 numbered.1.parent) empty) ∙ some))))
     (enumerate_from 0 layer.path_rules) (λ k d less. tt)
 
@@ -225,21 +227,13 @@ module _ (tree : List Entry) (older newer : Abi) (le : number_of older ≤ numbe
   nothing_older : (layer : policies.Layer) → is_nothing newer layer ≡ true → is_nothing older layer ≡ true
   unfolding handled_at
   nothing_older layer none =
-      let parts = both_parts _ _ none in
-      both (files.is_empty (supported_fs older (listed for_files layer.handled_files)))
+      let parts = and_parts _ _ none in
+      and_from (files.is_empty (supported_fs older (listed for_files layer.handled_files)))
       (network.is_empty (supported_net older (listed for_network layer.handled_network)))
       (ap files.is_empty (sym (fs_supported-older older newer (listed for_files layer.handled_files) le))
       ∙ supported_nothing older (supported_fs newer (listed for_files layer.handled_files)) parts.0)
       (ap network.is_empty (sym (net_supported-older older newer (listed for_network layer.handled_network) le))
       ∙ net_supported_nothing older (supported_net newer (listed for_network layer.handled_network)) parts.1)
-    where
-      both_parts : (a b : Bool) → (a && b) ≡ true → (a ≡ true) × (b ≡ true)
-      both_parts true b is = (refl, is)
-      both_parts false b is = absurd (cc)
-
-      both : (a b : Bool) → a ≡ true → b ≡ true → (a && b) ≡ true
-      both true b is other = other
-      both false b is other = absurd (cc)
 
   filter_head : (numbered : ℕ × policies.Layer)
       → filter handles_some (all_in_tree tree (map rules_of (kept_if numbered))) ≡ all_in_tree tree (map rules_of (fitted_if_any older numbered))
@@ -272,11 +266,7 @@ module _ (tree : List Entry) (older newer : Abi) (le : number_of older ≤ numbe
   refused_one false false index layer known older_too is = refl
   refused_one false true index layer known older_too is =
       or_false (any_refused (fitted_path_rules older layer))
-      ∙ list_any_none is_refused (fitted_path_rules older layer) (none_left Unrefused older layer known (first _ _ is))
-    where
-      first : (a b : Bool) → (a && b) ≡ true → a ≡ true
-      first true b is = refl
-      first false b is = absurd (cc)
+      ∙ list_any_none is_refused (fitted_path_rules older layer) (none_left Unrefused older layer known (and_parts _ _ is).0)
 
   refused_head : (numbered : ℕ × policies.Layer) → Fit numbered → list_any refuses_in (kept_if numbered) ≡ list_any refuses_in (fitted_if_any older numbered)
   unfolding kept_if fitted_if_any misfits.layer_misfit
@@ -351,7 +341,7 @@ module _ (tree : List Entry) (older newer : Abi) (le : number_of older ≤ numbe
       goes_on tree older _ _ _ _ _ s (unprivileged tree older missing rs s) all.0 (Nnp ∷ []) (map best_call (flat_map calls_of_layer (fitted newer policy)))
       (goes_one tree older _ _ s _ Nnp Allowed (leads_nnp tree older missing rs w.rulesets s)) all.1.0 in
       let end = ends tree older missing rs _ _ s all.0 ops whole.answers whole.leads in
-      let same : ops ≡ taken_at tree missing rs older newer policy = sym (map_twice (at_best_effort older) (operation_of tree missing rs) made) in
+      let same : ops ≡ taken_at tree missing rs older newer policy = sym (map-map (at_best_effort older) (operation_of tree missing rs) made) in
       record {
         layers = all_in_tree tree (map rules_of (kept numbered));
         handling = filter_all numbered;

@@ -2,7 +2,7 @@
 use Rattle.std.proofs.Common.{◌≡◌, ℕ, ◌≤◌, true, false, not, sym, ap, ◌∙◌}
 use Rattle.std.proofs.Common.{inl, inr, bit_and}
 use Rattle.std.specs.Int.Bits.{and_zero_r}
-use Rattle.std.proofs.lemmas.Bool.{eqb-true, eq-eqb, cases_Bool}
+use Rattle.std.proofs.lemmas.Bool.{eqb-true, eq-eqb, cases_Bool, and_left}
 use Rattle.ll_rights.specs.declared.abi.Abi.{Abi}
 use Rattle.ll_rights.specs.declared.fs.Fs.{Fs}
 use Rattle.ll_rights.specs.declared.net.Net.{Net}
@@ -19,7 +19,6 @@ use Rattle.ll_fitting.specs.declared.written.Parent.TheVariants.{There, Missing}
 use Rattle.ll_rights.specs.Families.{for_files, common}
 use Rattle.ll_fitting.specs.Written.{Layer, listed}
 use Rattle.ll_fitting.specs.Fitting.{left_of, rights_on_kind, rights_at}
-use Rattle.ll_fitting.proofs.Left.{false_and}
 
 -- ---- sets, right by right
 
@@ -41,7 +40,7 @@ has_none set right empty = rw (is_zero set empty) (zero_bit (files.bit_of files.
 -- nothing is left of nothing
 pub supported_nothing : (abi : Abi) (set : Fs) → files.is_empty set ≡ true → files.is_empty (supported_fs abi set) ≡ true
 supported_nothing abi set empty =
-    no_right_has (supported_fs abi set) (λ right. fs_has-supported abi set right ∙ false_and (files.has set right) _ (has_none set right empty))
+    no_right_has (supported_fs abi set) (λ right. fs_has-supported abi set right ∙ and_left (files.has set right) _ (has_none set right empty))
 
 -- ---- what best effort makes of the rights of a rule
 
@@ -77,4 +76,4 @@ pub net_supported_nothing : (abi : Abi) (set : Net) → network.is_empty set ≡
 unfolding network.some_right
 net_supported_nothing abi set empty =
     ap not (any_none (network.has (supported_net abi set))
-    (λ right. net_has-supported abi set right ∙ false_and (network.has set right) _ (net_has_none set right empty)) network.all_rights)
+    (λ right. net_has-supported abi set right ∙ and_left (network.has set right) _ (net_has_none set right empty)) network.all_rights)

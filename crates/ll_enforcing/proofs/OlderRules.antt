@@ -13,6 +13,7 @@ use Rattle.ll_rights.specs.Rights as files
 use Rattle.ll_rights.specs.NetRights as network
 use Rattle.ll_tree.specs.Trees.{Entry, place}
 use Rattle.ll_tree.specs.TreeFacts.{IsTree}
+use Rattle.ll_rules.proofs.Booleans.{or_false}
 use Rattle.ll_trace.specs.declared.op.Op.{Op}
 use Rattle.ll_trace.specs.declared.op.Op.TheVariants.{AddPath, AddPort, LeaveOutPath, LeaveOutPort}
 use Rattle.ll_trace.specs.BestEffort.{at_best_effort}
@@ -38,10 +39,6 @@ pub record Goes (tree : List Entry) (abi : Abi) (refused : Bool) (r : List Layer
   pub answers : List Answer
   pub leads : Leads tree abi r s ops answers r' s'
   pub refuses : list_any is_refusal answers ≡ refused
-
-pub or_false : (b : Bool) → (b || false) ≡ b
-or_false true = refl
-or_false false = refl
 
 module _ (tree : List Entry) (abi : Abi) where
   pub goes_none : (r : List Layer) (s : State) → Goes tree abi false r s [] r s

@@ -1,10 +1,10 @@
 -- What the calls for one layer do.
-use Rattle.std.proofs.Common.{◌≡◌, ℕ, Bool, true, false, not, ◌&&◌, ◌||◌, List, [], ◌∷◌, ◌++◌, map, length, Option, Some, None, refl, sym, ap, ◌∙◌}
+use Rattle.std.proofs.Common.{◌≡◌, ℕ, Bool, true, false, not, ◌&&◌, List, [], ◌∷◌, ◌++◌, map, length, Option, Some, None, refl, sym, ap, ◌∙◌}
 use Rattle.std.proofs.Common.{if◌then◌else◌, nat_le, nat_lt, All, subst}
 use Rattle.std.specs.Prelude.{slice_set, unwrap_or, option_map}
 use Rattle.std.specs.List.{flat_map}
 use Rattle.std.proofs.lemmas.List.{set_at}
-use Rattle.std.proofs.lemmas.Bool.{eq-eqb}
+use Rattle.std.proofs.lemmas.Bool.{eq-eqb, or_left}
 use Rattle.ll_rights.specs.declared.abi.Abi.{Abi}
 use Rattle.ll_rights.specs.declared.fs.Fs.{Fs}
 use Rattle.ll_rights.specs.declared.net.Net.{Net}
@@ -243,10 +243,6 @@ module _ (tree : List Entry) (abi : Abi) (missing : List ℕ) (rs : ℕ) where
   restricted false full no_room no_leave a b = absurd (cc)
 
   -- one that can't gain privileges may restrict itself
-  may : (a b : Bool) → a ≡ true → (a || b) ≡ true
-  may true b is = refl
-  may false b is = absurd (cc)
-
   pub leads_restrict : (before : List Layer) (layer : Layer) (s : State) → s.held rs ≡ Some (length before) → s.no_new_privs ≡ true →
       nat_le MOST_LAYERS (length s.domain) ≡ false
       → Leads tree abi (before ++ layer ∷ []) s (Restrict rs ∷ []) (Allowed ∷ []) (before ++ layer ∷ []) (with_layer s (Some layer))
@@ -255,7 +251,7 @@ module _ (tree : List Entry) (abi : Abi) (missing : List ℕ) (rs : ℕ) where
       leads_allowed tree abi (before ++ layer ∷ []) _ s _ (Restrict rs)
       (ap (restrict_answer s) (last_is before layer (s.held rs) held)
       ∙ restricted (may_restrict s) (nat_le MOST_LAYERS (length s.domain)) (fails_by layer TooBig) (fails_by layer Perm)
-      (may s.no_new_privs s.admin unprivileged) room)
+      (or_left s.no_new_privs s.admin unprivileged) room)
       refl (ap (with_layer s) (last_is before layer (s.held rs) held))
 
   pub leads_close : (r : List Layer) (s : State) (index : ℕ) → s.held rs ≡ Some index

@@ -3,7 +3,7 @@ use Rattle.std.proofs.Common.{◌≡◌, ℕ, Bool, true, false, cond, List, [],
 use Rattle.std.specs.Prelude.{codes, bytes_eq}
 use Rattle.std.specs.List.{cons_option}
 use Rattle.std.specs.Result.{result_ok}
-use Rattle.std.proofs.lemmas.List.Elements.{All-head, All-tail, All-cons}
+use Rattle.std.proofs.lemmas.List.Elements.{All-nil, All-head, All-tail, All-cons}
 use Rattle.serde_json.specs.Data.{Data}
 use Rattle.ll_lines.specs.declared.fault.Cause.{Cause}
 use Rattle.ll_lines.specs.declared.fault.Cause.TheVariants.{BadPath}
@@ -81,11 +81,8 @@ entry_made line entry reads =
 
 -- ---- all entries, and all records
 
-all_none : {X : Type 0} (P : X → Type 0) → All P []
-all_none P = λ k d less. absurd (omega arith)
-
 entries_made : (lines : List Line) → All (λ (entry : Entry). IsMade entry.op) (entries_of trace_file lines)
-entries_made [] = all_none (λ (entry : Entry). IsMade entry.op)
+entries_made [] = All-nil (λ (entry : Entry). IsMade entry.op)
 entries_made (line ∷ lines) = go (entry_at line) refl (entries_made lines)
   where
     go : (read : Result Entry Cause) → entry_at line ≡ read → All (λ (entry : Entry). IsMade entry.op) (entries_of trace_file lines)
@@ -94,7 +91,7 @@ entries_made (line ∷ lines) = go (entry_at line) refl (entries_made lines)
     go (Err cause) is rest = rest
 
 records_made : (records : List Record) → All (λ (entry : Entry). IsMade entry.op) (map entry_of records) → All (λ (r : Record). IsMade r.op) records
-records_made [] all = all_none (λ (r : Record). IsMade r.op)
+records_made [] all = All-nil (λ (r : Record). IsMade r.op)
 records_made (r ∷ records) all =
     All-cons (λ (one : Record). IsMade one.op) r records (All-head (λ (entry : Entry). IsMade entry.op) (entry_of r) (map entry_of records) all)
     (records_made records (All-tail (λ (entry : Entry). IsMade entry.op) (entry_of r) (map entry_of records) all))

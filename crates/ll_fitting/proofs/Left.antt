@@ -4,8 +4,8 @@ use Rattle.std.proofs.Common.{if◌then◌else◌, nat_lt, All, inl, inr}
 use Rattle.std.specs.Prelude.{option_map, ◌==◌}
 use Rattle.std.specs.List.{flat_map, enumerate_from}
 use Rattle.std.specs.Option.{option_or}
-use Rattle.std.proofs.lemmas.List.Elements.{All-head, All-tail, All-cons, All-append}
-use Rattle.std.proofs.lemmas.Bool.{cases_Bool, true≢false, false≢true}
+use Rattle.std.proofs.lemmas.List.Elements.{All-nil, All-head, All-tail, All-cons, All-append}
+use Rattle.std.proofs.lemmas.Bool.{cases_Bool, true≢false, false≢true, and_right, and_left, and_from}
 use Rattle.ll_rights.specs.declared.abi.Abi.{Abi}
 use Rattle.ll_rights.specs.declared.fs.Fs.{Fs}
 use Rattle.ll_rights.specs.declared.net.Net.{Net}
@@ -45,14 +45,6 @@ nothing_within whole =
 
 -- ---- versions without rules for ports
 
-pub and_false : (a b : Bool) → b ≡ false → (a && b) ≡ false
-and_false true b is = is
-and_false false b is = refl
-
-pub false_and : (a b : Bool) → a ≡ false → (a && b) ≡ false
-false_and false b is = refl
-false_and true b is = absurd (cc)
-
 or_false : (a : Bool) → a ≡ false → (a || false) ≡ false
 or_false false is = refl
 or_false true is = absurd (cc)
@@ -60,11 +52,11 @@ or_false true is = absurd (cc)
 unsupported : (abi : Abi) (set : Net) (right : network.NetRight) → network.has set network.other ≡ false → has_ports abi ≡ false
     → network.has (supported_net abi set) right ≡ false
 unsupported abi set network.other known old =
-    net_has-supported abi set network.other ∙ false_and (network.has set network.other) (knows_net abi network.other || true) known
+    net_has-supported abi set network.other ∙ and_left (network.has set network.other) (knows_net abi network.other || true) known
 unsupported abi set network.bind_tcp known old =
-    net_has-supported abi set network.bind_tcp ∙ and_false (network.has set network.bind_tcp) (has_ports abi || false) (or_false (has_ports abi) old)
+    net_has-supported abi set network.bind_tcp ∙ and_right (network.has set network.bind_tcp) (has_ports abi || false) (or_false (has_ports abi) old)
 unsupported abi set network.connect_tcp known old =
-    net_has-supported abi set network.connect_tcp ∙ and_false (network.has set network.connect_tcp) (has_ports abi || false) (or_false (has_ports abi) old)
+    net_has-supported abi set network.connect_tcp ∙ and_right (network.has set network.connect_tcp) (has_ports abi || false) (or_false (has_ports abi) old)
 
 none_supported : (abi : Abi) (set : Net) → network.has set network.other ≡ false → has_ports abi ≡ false → network.is_empty (supported_net abi set) ≡ true
 unfolding network.some_right
@@ -92,10 +84,6 @@ longer true ports is = refl
 longer false true is = refl
 longer false false is = absurd (false≢true (is refl))
 
-both : (a b : Bool) → a ≡ true → b ≡ true → (a && b) ≡ true
-both true b is other = other
-both false b is other = absurd (cc)
-
 pub created : (abi : Abi) (layer : Layer) → files.has (listed for_files layer.handled_files) files.other ≡ false →
     network.has (listed for_network layer.handled_network) network.other ≡ false →
     (files.is_empty (handled_files abi layer) && network.is_empty (handled_network abi layer)) ≡ false
@@ -106,21 +94,18 @@ created abi layer known known_on_ports some =
     let on_ports : Net = supported_net abi (listed for_network layer.handled_network) in
     faultless (not (network.is_empty on_ports) && not (has_ports abi)) (knows_all abi on_files on_ports) (files.is_empty on_files && network.is_empty on_ports)
     (longer (network.is_empty on_ports) (has_ports abi) (ports_there abi (listed for_network layer.handled_network) known_on_ports))
-    (both _ _ (knows_supported file_sets abi (listed for_files layer.handled_files) known)
+    (and_from _ _ (knows_supported file_sets abi (listed for_files layer.handled_files) known)
     (knows_supported port_sets abi (listed for_network layer.handled_network) known_on_ports)) some
 
 -- ---- lists
 
-pub all_none : {X : Type 0} (P : X → Type 0) → All P []
-all_none P = λ k d less. absurd (omega arith)
-
 pub all_if : {X : Type 0} (P : X → Type 0) (b : Bool) (x : X) → (b ≡ false → P x) → All P (if b then [] else x ∷ [])
-all_if P true x holds = all_none P
-all_if P false x holds = All-cons P x [] (holds refl) (all_none P)
+all_if P true x holds = All-nil P
+all_if P false x holds = All-cons P x [] (holds refl) (All-nil P)
 
 pub all_flat : {X A : Type 0} (Q : X → Type 0) (P : A → Type 0) (f : X → List A) → ((x : X) → Q x → All P (f x)) → (xs : List X) → All Q xs
     → All P (flat_map f xs)
-all_flat Q P f each [] all = all_none P
+all_flat Q P f each [] all = All-nil P
 all_flat Q P f each (x ∷ xs) all =
     All-append P (f x) (flat_map f xs) (each x (All-head Q x xs all)) (all_flat Q P f each xs (All-tail Q x xs all))
 
@@ -130,7 +115,7 @@ none_or (Some m) b is = absurd (cc)
 
 pub none_told : {X M : Type 0} (tell : X → Option M) (xs : List X) → misfits.first_of tell xs ≡ None → All (λ x. tell x ≡ None) xs
 unfolding misfits.first_of
-none_told tell [] is = all_none (λ x. tell x ≡ None)
+none_told tell [] is = All-nil (λ x. tell x ≡ None)
 none_told tell (x ∷ xs) is =
     let parts = none_or (tell x) (misfits.first_of tell xs) is in
     All-cons (λ x. tell x ≡ None) x xs parts.0 (none_told tell xs parts.1)
@@ -191,7 +176,7 @@ module _ (abi : Abi) (layer : Layer) (known : network.has (listed for_network la
       let both_have : Net = common for_network (listed for_network rule.allowed) (listed for_network layer.handled_network) in
       let unnamed : network.has both_have network.other ≡ false =
       port_sets.both (listed for_network rule.allowed) (listed for_network layer.handled_network) network.other known
-      ∙ and_false (network.has (listed for_network rule.allowed) network.other) _ known in
+      ∙ and_right (network.has (listed for_network rule.allowed) network.other) _ known in
       all_if IsAskedOnPort (network.is_empty (supported_net abi both_have)) _
       (λ some. (
         ports_there abi both_have unnamed some,

@@ -1,6 +1,6 @@
 //! The rules that the kernel refuses.
 
-ghost use Rattle.std.specs.Prelude.{◌≡◌, find, map};
+ghost use Rattle.std.specs.Prelude.{◌≡◌, map};
 ghost use Rattle.ll_rules.specs.Rulesets.{are_file_rights};
 ghost use Rattle.ll_fitting.specs.Shown.{shown};
 ghost use Rattle.ll_fitting.specs.Taken.{is_refused, refused_in, first_refused};
@@ -36,24 +36,15 @@ fn is_refused(rule: FittedPathRule) -> bool
     }
 }
 
-/// The first of some rules that the kernel refuses.
-fn refused_among(rules: &[FittedPathRule]) -> Option<FittedPathRule>
-    ensures { result ≡ find is_refused rules.now }
-{
-    rules.iter().copied().find(|rule| is_refused(*rule))
-}
-
 /// The first rule of a layer that the kernel refuses.
 fn refused_in(left: &FittedLayer) -> Option<RefusedRule>
     ensures { result ≡ refused_in (shown left.now) }
 {
-    match refused_among(&left.path_rules) {
-        None => None,
-        Some(first) => Some(RefusedRule {
-            layer: left.layer,
-            rule: first.rule,
-        }),
-    }
+    let first = left.path_rules.iter().find(|rule| is_refused(**rule))?;
+    Some(RefusedRule {
+        layer: left.layer,
+        rule: first.rule,
+    })
 }
 
 /// The first rule of a policy that the kernel refuses. If there is none, nothing of the policy is refused.
