@@ -7,7 +7,7 @@ use Rattle.serde_json.specs.Find.{get}
 use Rattle.ll_rights.specs.declared.fs.Fs.{Fs}
 use Rattle.ll_rights.specs.declared.net.Net.{Net}
 use Rattle.ll_rights.specs.Rights as files
-use Rattle.ll_rights.specs.NetRights as network
+use Rattle.ll_rights.specs.Families.{Family, for_files, for_network, no_right}
 use Rattle.ll_lines.specs.declared.fault.Cause.{Cause}
 use Rattle.ll_lines.specs.declared.fault.Cause.TheVariants.{Field}
 use Rattle.ll_lines.specs.Members.{value_at, number_at, flag_at, items_at, ◌>>=◌}
@@ -41,36 +41,24 @@ pub record Comparison : Type 0 where
 abbrev pub rights_at : List ℕ → Data → Result Fs Cause
 rights_at name value = texts_at name with_fs files.no_right value
 
--- what rules grant: no right, the rights of two sets, and those of a rule
-pub record Rights (S : Type 0) : Type 0 where
-  pub none : S
-  pub united : S → S → S
-  pub of_rule : Data → Result S Cause
-
-abbrev pub file_rights : Rights Fs
-file_rights = record { none = files.no_right; united = files.united; of_rule = rights_at (codes "fs") }
-
-abbrev pub network_rights : Rights Net
-network_rights = record { none = network.no_right; united = network.united; of_rule = net_at }
-
 -- some rights more on what has a number
-unfoldable pub with_rights_on : {S : Type 0} → Rights S → S → List S → Data → Result (List S) Cause
-with_rights_on granted rights sets value = do
+unfoldable pub with_rights_on : {S R : Type 0} → Family S R → S → List S → Data → Result (List S) Cause
+with_rights_on family rights sets value = do
   place ← place_in (length sets) value
-  Ok (slice_set sets place (granted.united (slice_index_or sets place granted.none) rights))
+  Ok (slice_set sets place (family.united (slice_index_or sets place (no_right family)) rights))
 
 -- what a rule grants more, on the numbers of a member
-unfoldable pub with_rule : {S : Type 0} → Rights S → List ℕ → List S → Data → Result (List S) Cause
-with_rule granted name sets value = do
-  rights ← granted.of_rule value
+unfoldable pub with_rule : {S R : Type 0} → Family S R → (Data → Result S Cause) → List ℕ → List S → Data → Result (List S) Cause
+with_rule family in_rule name sets value = do
+  rights ← in_rule value
   numbers ← items_at name value
-  fold_items (with_rights_on granted rights) sets numbers
+  fold_items (with_rights_on family rights) sets numbers
 
 -- what all rules of a member grant on each of so many numbers
-unfoldable pub granted_at : {S : Type 0} → Rights S → List ℕ → List ℕ → ℕ → Data → Result (List S) Cause
-granted_at granted rules name count value = do
+unfoldable pub granted_at : {S R : Type 0} → Family S R → (Data → Result S Cause) → List ℕ → List ℕ → ℕ → Data → Result (List S) Cause
+granted_at family in_rule rules name count value = do
   all ← items_at rules value
-  fold_items (with_rule granted name) (replicate count granted.none) all
+  fold_items (with_rule family in_rule name) (replicate count (no_right family)) all
 
 -- ---- layers
 
@@ -86,8 +74,8 @@ unfoldable pub layer_in : ℕ → ℕ → Data → Result LayerSeen Cause
 layer_in objects ports value = do
   handled ← rights_at (codes "fs") value
   handled_network ← net_at value
-  on_objects ← granted_at file_rights (codes "object_rules") (codes "objects") objects value
-  on_ports ← granted_at network_rights (codes "port_rules") (codes "ports") ports value
+  on_objects ← granted_at for_files (rights_at (codes "fs")) (codes "object_rules") (codes "objects") objects value
+  on_ports ← granted_at for_network net_at (codes "port_rules") (codes "ports") ports value
   scopes ← scopes_in value
   Ok (record {
     files = handled;

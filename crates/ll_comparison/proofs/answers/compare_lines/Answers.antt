@@ -1,6 +1,5 @@
 use Rattle.ll_lines.specs.LineByLine.{line_view}
 use Rattle.ll_values.proofs.Answering.{fault_met}
-use Rattle.ll_comparison.specs.Answers.{IsAnswer}
 use Rattle.ll_comparison.specs.Comparisons.{comparison_on}
 use Rattle.ll_comparison.proofs.Answered.{answered_none, answered_next}
 use Rattle.ll_comparison.proofs.answers.compare_lines.Goals as goal
@@ -18,5 +17,5 @@ loop-line-preserved c =
 pub returns-in-Err-clause-fault : goal.returns-in-Err-clause-fault
 returns-in-Err-clause-fault c =
     rw c.fault.ensures
-    (fault_met comparison_on IsAnswer c.args.bytes.now c.loop-line.line-iterator (line_view c.in-Some.line) c.next.new.self c.loop-line.invariant.texts
-    c.in-Err.cause c.in-Some.ensures.steps c.loop-line.invariant.so_far c.in-Err.ensures.fault)
+    (fault_met comparison_on c.args.bytes.now c.loop-line.line-iterator (line_view c.in-Some.line) c.next.new.self _
+    c.in-Err.cause c.in-Some.ensures.steps c.loop-line.invariant.so_far.reads c.in-Err.ensures.fault)

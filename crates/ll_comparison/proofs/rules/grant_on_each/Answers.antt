@@ -5,5 +5,5 @@ use Rattle.ll_comparison.proofs.rules.grant_on_each.Goals as goal
 
 pub loop-number-preserved : goal.loop-number-preserved
 loop-number-preserved g c =
-    sym (fold_next (with_rights_on g.S.Granted.rights c.args.rights) c.loop-number.sets c.grant_on.new.sets c.args.numbers.now c.loop-number.number-index
+    sym (fold_next (with_rights_on g.S.RightSet.family c.args.rights) c.loop-number.sets c.grant_on.new.sets c.args.numbers.now c.loop-number.number-index
     c.number-item.result c.loop-number-test.true c.number-item.is c.in_ok-grant_on.ensures) ∙ c.loop-number.invariant
