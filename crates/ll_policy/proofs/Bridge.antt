@@ -3,7 +3,7 @@ use Rattle.std.proofs.Common.{◌≡◌, ℕ, zero, suc, ◌+◌, ◌<◌, Bool,
 use Rattle.std.proofs.Common.{◌∷◌, ◌++◌, map, length, get_or, refl, sym, ap, ◌∙◌, subst, inl, inr, ◌⊎◌, arith}
 use Rattle.std.specs.Prelude.{◌↔◌, All, if◌then◌else◌}
 use Rattle.std.specs.List.{Contains, filter, list_any}
-use Rattle.std.proofs.lemmas.Bool.{cases_lt, and_parts, and_from, false≢true}
+use Rattle.std.proofs.lemmas.Bool.{cases_lt, and_parts, and_from, false≢true, not-true, not_from_false}
 use Rattle.std.proofs.lemmas.List.Elements.{All-contains, All-cons, All-nil}
 use Rattle.ll_rights.specs.declared.fs.Fs.{Fs}
 use Rattle.ll_rights.specs.Rights.{FsRight, has, only, is_right, some_right, all_rights, named_rights, execute, refer}
@@ -22,7 +22,7 @@ use Rattle.ll_policy.specs.Chains.{is_among, IsChain, lets, some_among, passes}
 use Rattle.ll_policy.specs.Granted.{granting, root}
 use Rattle.ll_policy.specs.WaysUp.{ruled, all_ruled, way_up, is_file_at}
 use Rattle.ll_policy.proofs.Lists.{here, there, some_passes, that_passes, filtered, filter_test, kept_within, in_flat_map}
-use Rattle.ll_policy.proofs.Exactly.{among-contains, contains-among, not_true, not_false}
+use Rattle.ll_policy.proofs.Exactly.{among-contains, contains-among}
 
 -- ---- one right alone
 
@@ -133,11 +133,11 @@ lets_where_nothing_lacks tree nodes layer path right within =
 
 -- ---- domains
 
-no_numbers : (test : Bool) (number : ℕ) (numbers : List ℕ) → (if test then number ∷ [] else []) ++ numbers ≡ [] → (test ≡ false) × (numbers ≡ [])
+pub cons_or_nil : (x : ℕ) (xs : List ℕ) → x ∷ xs ≡ [] → ⊥
+cons_or_nil x xs is = cc
+
+pub no_numbers : (test : Bool) (number : ℕ) (numbers : List ℕ) → (if test then number ∷ [] else []) ++ numbers ≡ [] → (test ≡ false) × (numbers ≡ [])
 no_numbers true number numbers none = absurd (cons_or_nil number numbers none)
-  where
-    cons_or_nil : (x : ℕ) (xs : List ℕ) → x ∷ xs ≡ [] → ⊥
-    cons_or_nil x xs is = cc
 no_numbers false number numbers none = (refl, none)
 
 -- no layer refuses where each lets the way up pass
@@ -152,14 +152,14 @@ refuses_none tree nodes path right number (layer ∷ layers) within =
     let first = lets_where_nothing_lacks tree nodes layer path right (within layer (here layer layers)) in (
       λ all.
           let parts = and_parts (lets (way_up tree nodes path) (granting right layer)) (passes (map (granting right) layers) (way_up tree nodes path)) all in
-          let lacking : lacks (in_tree tree layer) path (only right) ≡ false = not_true (lacks (in_tree tree layer) path (only right)) (sym first ∙ parts.0) in
+          let lacking : lacks (in_tree tree layer) path (only right) ≡ false = not-true (lacks (in_tree tree layer) path (only right)) (sym first ∙ parts.0) in
           ap (λ (b : Bool). (if b then number ∷ [] else []) ++ numbers_from (λ own. lacks own path (only right)) (number + 1) (all_in_tree tree layers)) lacking
           ∙ rest.0 parts.1,
       λ none.
           let parts = no_numbers (lacks (in_tree tree layer) path (only right)) number
           (numbers_from (λ own. lacks own path (only right)) (number + 1) (all_in_tree tree layers)) none in
           and_from (lets (way_up tree nodes path) (granting right layer)) (passes (map (granting right) layers) (way_up tree nodes path))
-          (first ∙ not_false (lacks (in_tree tree layer) path (only right)) parts.0) (rest.1 parts.1),
+          (first ∙ not_from_false (lacks (in_tree tree layer) path (only right)) parts.0) (rest.1 parts.1),
     )
 
 among_flat : (layers : List (RulesOn ℕ)) (layer : RulesOn ℕ) → Contains layers layer → AreRuledBy (all_ruled layers) layer
@@ -223,7 +223,7 @@ way_up_chain tree nodes here listed inside within one other first second is too 
     let single = λ (number : ℕ) (there_is : Contains (way_up tree nodes (path_at tree here)) number) (file : is_file_at tree number ≡ true).
     let at = on_way tree nodes (path_at tree here) number listed inside there_is in
     ap (λ (n : NodeId). n.0)
-    (file_on_way (suc here.0) tree (node number) here (omega arith) listed at.0 within (not_true (is_dir (kind_at tree (node number))) file) at.1) in
+    (file_on_way (suc here.0) tree (node number) here (omega arith) listed at.0 within (not-true (is_dir (kind_at tree (node number))) file) at.1) in
     single one first is ∙ sym (single other second too)
 
 pub way_up_begins : (tree : List Entry) (nodes : List ℕ) (path : Path) → IsTree tree → All (Contains (way_up tree nodes path)) root

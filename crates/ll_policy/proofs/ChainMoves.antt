@@ -3,6 +3,7 @@ use Rattle.std.proofs.Common.{◌≡◌, ℕ, ◌+◌, Bool, true, false, not, �
 use Rattle.std.specs.Prelude.{All, filter, if◌then◌else◌}
 use Rattle.std.specs.List.{Contains, list_any, list_all}
 use Rattle.std.proofs.lemmas.List.Elements.{All-contains}
+use Rattle.std.proofs.lemmas.Bool.{or_right}
 use Rattle.ll_rights.specs.declared.kind.Kind.{Kind}
 use Rattle.ll_rights.specs.Rights.{FsRight, refer, only, some_right, all_rights, is_file_right}
 use Rattle.ll_rights.specs.Kinds.{make_right_of, remove_right_of}
@@ -22,7 +23,7 @@ use Rattle.ll_policy.specs.WaysUp.{ruled, all_ruled, way_up}
 use Rattle.ll_policy.specs.PassingMoves.{lets_pass, lets_use, is_none, linking, renaming}
 use Rattle.ll_policy.specs.Moving.{applies, about_moves, gains_nothing, gains_none, comes, link_passes, rename_passes, IsWayUp, GoesBy}
 use Rattle.ll_policy.proofs.Lists.{in_flat_map, that_passes, some_passes, all_of_mapped, here, there}
-use Rattle.ll_policy.proofs.Bridge.{AreRuledBy, by_way, handles_alike, equal_tests}
+use Rattle.ll_policy.proofs.Bridge.{AreRuledBy, by_way, cons_or_nil, handles_alike, equal_tests}
 use Rattle.ll_policy.proofs.Alike.{refused_in_region}
 use Rattle.ll_policy.proofs.PassingMoves.{parts, lacks_none, usable, none_by, none_by_either, none_alike, rename_parts}
 
@@ -31,9 +32,6 @@ use Rattle.ll_policy.proofs.PassingMoves.{parts, lacks_none, usable, none_by, no
 none_if_empty : (layers : List ℕ) (passing : Bool) → (passing ≡ true → layers ≡ []) → (layers ≡ [] → passing ≡ true) → is_none layers ≡ passing
 none_if_empty [] passing forth back = sym (back refl)
 none_if_empty (layer ∷ layers) true forth back = absurd (cons_or_nil layer layers (forth refl))
-  where
-    cons_or_nil : (x : ℕ) (xs : List ℕ) → x ∷ xs ≡ [] → ⊥
-    cons_or_nil x xs is = cc
 none_if_empty (layer ∷ layers) false forth back = refl
 
 module _ (tree : List Entry) (nodes : List ℕ) (path : Path) (chain : List ℕ) (is : IsWayUp tree nodes path chain) where
@@ -123,15 +121,11 @@ module _ (tree : List Entry) (layers : List (RulesOn ℕ)) (moved directory : No
   or_all true c d = refl
   or_all false c d = refl
 
-  or_true : (b : Bool) → (b || true) ≡ true
-  or_true true = refl
-  or_true false = refl
-
   none_gains : (right : FsRight) (number : ℕ) (some : List (RulesOn ℕ)) → ((layer : RulesOn ℕ) → Contains some layer → AreRuledBy goes.nodes layer)
       → is_none (numbers_from (gains_right right) number (all_in_tree tree some))
       ≡ (not (applies kind right) || list_all (gains_nothing object to) (map (granting right) some))
   unfolding numbers_from
-  none_gains right number [] within = sym (or_true (not (applies kind right)))
+  none_gains right number [] within = sym (or_right (not (applies kind right)) true refl)
   none_gains right number (layer ∷ some) within =
       none_by (gains_right right) number (in_tree tree layer) (all_in_tree tree some)
       ∙ rw (

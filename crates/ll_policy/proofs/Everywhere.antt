@@ -3,7 +3,7 @@ use Rattle.std.proofs.Common.{◌≡◌, ℕ, zero, suc, ◌+◌, ◌<◌, Bool,
 use Rattle.std.proofs.Common.{◌∷◌, ◌++◌, map, length, get_or, refl, sym, ap, ◌∙◌, subst, inl, inr, arith, lit<}
 use Rattle.std.specs.Prelude.{All, if◌then◌else◌}
 use Rattle.std.specs.List.{Contains, filter, list_any}
-use Rattle.std.proofs.lemmas.Bool.{and_parts, and_from, false≢true}
+use Rattle.std.proofs.lemmas.Bool.{and_parts, and_from, false≢true, not-true, not_from_false, false_from_ne_true, not-false, or_from, or_parts}
 use Rattle.std.proofs.lemmas.List.Elements.{All-contains, Contains-append_left, Contains-append_right, Contains-append_cases, Contains-get_or}
 use Rattle.ll_rights.specs.declared.fs.Fs.{Fs}
 use Rattle.ll_rights.specs.declared.kind.Kind.{Kind}
@@ -34,8 +34,8 @@ use Rattle.ll_policy.specs.Gains.{granting_there, KeepsGains, AllKeepGains}
 use Rattle.ll_policy.specs.WaysUp.{ruled, all_ruled, way_up, is_file_at, IsTargetOf, AreRuledIn}
 use Rattle.ll_policy.proofs.Lists.{here, there, some_passes, that_passes, each_passes, passes_among}
 use Rattle.ll_policy.proofs.Lists.{that_fails, filtered, filter_test, kept_within, in_flat_map, flat_from}
-use Rattle.ll_policy.proofs.Exactly.{among-contains, not_true, not_false}
-use Rattle.ll_policy.proofs.Bridge.{lacks-only, is_by, granted_by, mapped_from, mapped_to}
+use Rattle.ll_policy.proofs.Exactly.{among-contains}
+use Rattle.ll_policy.proofs.Bridge.{lacks-only, is_by, granted_by, mapped_from, mapped_to, no_numbers}
 use Rattle.ll_policy.proofs.Bridge.{AreRuledBy, lets_where_nothing_lacks, file_on_way, on_way, way_up_chain, way_up_begins}
 
 -- ---- rights that are asked
@@ -53,10 +53,6 @@ lack layer path right = handles layer right && not (granted layer path right)
 abbrev lacks_asked : RulesOn Path → Path → (FsRight → Bool) → Bool
 lacks_asked layer path asked = some_right (λ right. asked right && handles layer right && not (granted layer path right))
 
-not_true-false : (b : Bool) → (b ≡ true → ⊥) → b ≡ false
-not_true-false true isnt = absurd (isnt refl)
-not_true-false false isnt = refl
-
 three : (a b c : Bool) → a ≡ true → (b && c) ≡ true → (a && b && c) ≡ true
 three true b c first rest = rest
 three false b c first rest = absurd (false≢true first)
@@ -69,33 +65,22 @@ nothing_asked : (layer : RulesOn Path) (path : Path) (asked : FsRight → Bool) 
     → (right : FsRight) → asked right ≡ true → lack layer path right ≡ false
 unfolding some_right
 nothing_asked layer path asked none right is =
-    not_true-false (lack layer path right)
+    false_from_ne_true (lack layer path right)
     (λ lacking. false≢true (sym none
     ∙ some_passes (λ own. asked own && handles layer own && not (granted layer path own)) all_rights right (each_there right)
     (three (asked right) (handles layer right) (not (granted layer path right)) is lacking)))
-
-not_false-true : (b : Bool) → not b ≡ false → b ≡ true
-not_false-true true isnt = refl
-not_false-true false isnt = sym isnt
 
 asks_nothing : (layer : RulesOn Path) (path : Path) (asked : FsRight → Bool) → ((right : FsRight) → asked right ≡ true → lack layer path right ≡ false)
     → lacks_asked layer path asked ≡ false
 unfolding some_right
 asks_nothing layer path asked each =
-    not_true-false (lacks_asked layer path asked)
+    false_from_ne_true (lacks_asked layer path asked)
     (λ some.
     let found = that_passes (λ own. asked own && handles layer own && not (granted layer path own)) all_rights some in
     let parts = three_parts (asked found.0) (handles layer found.0) (not (granted layer path found.0)) found.2 in
     false≢true (sym (each found.0 parts.0) ∙ parts.1))
 
 -- ---- layers by number
-
-pub no_numbers : (test : Bool) (number : ℕ) (numbers : List ℕ) → (if test then number ∷ [] else []) ++ numbers ≡ [] → (test ≡ false) × (numbers ≡ [])
-no_numbers true number numbers none = absurd (cons_or_nil number numbers none)
-  where
-    cons_or_nil : (x : ℕ) (xs : List ℕ) → x ∷ xs ≡ [] → ⊥
-    cons_or_nil x xs is = cc
-no_numbers false number numbers none = (refl, none)
 
 module _ (tree : List Entry) (test : RulesOn Path → Bool) where
   none_at : (number : ℕ) (layers : List (RulesOn ℕ)) (layer : RulesOn ℕ) (k : ℕ) → k < length layers → get_or layers k layer ≡ layer
@@ -120,14 +105,6 @@ module _ (tree : List Entry) (test : RulesOn Path → Bool) where
   each_none number (first ∷ layers) each =
       ap (λ (b : Bool). (if b then number ∷ [] else []) ++ numbers_from test (number + 1) (all_in_tree tree layers)) (each first (here first layers))
       ∙ each_none (number + 1) layers (λ layer within. each layer (there first layers layer within))
-
-both_false : (a b : Bool) → a ≡ false → b ≡ false → (a || b) ≡ false
-both_false true b first second = first
-both_false false b first second = second
-
-neither_of : (a b : Bool) → (a || b) ≡ false → (a ≡ false) × (b ≡ false)
-neither_of true b none = absurd (false≢true (sym none))
-neither_of false b none = (refl, none)
 
 -- ---- verdicts
 
@@ -223,7 +200,7 @@ module _ (is_file : ℕ → Bool) (old new : List (RulesOn ℕ)) (nothing : Noth
       let from = mapped_from (granting right) new own its in
       ap (lets (chain object)) (sym from.2) ∙ lets_lack from.0 object right (new_ruled from.0 from.1) ∙ ap not (none from.0 from.1)) in
       let passed = nothing right (chain object) (chain_is object within) (way_up_begins tree nodes (path_at tree object) ruled_in.listed) passing in
-      not_true (lack (in_tree tree layer) (path_at tree object) right)
+      not-true (lack (in_tree tree layer) (path_at tree object) right)
       (sym (lets_lack layer object right (old_ruled layer inside))
       ∙ passes_among (lets (chain object)) (map (granting right) old) (granting right layer) passed (mapped_to (granting right) old layer inside))
 
@@ -274,11 +251,11 @@ module _ (is_file : ℕ → Bool) (old new : List (RulesOn ℕ)) (nothing : Noth
         mapped_to (λ (rule : ℕ × Fs). rule.0) (filter (λ (rule : ℕ × Fs). has rule.1 right) layer.file_rules) found.0
             (filtered (λ (rule : ℕ × Fs). has rule.1 right) layer.file_rules found.0 found.1 parts.1),
         ruled_in.tells number listed_node
-            ∙ not_true-false (is_file_at tree number)
+            ∙ false_from_ne_true (is_file_at tree number)
             (λ file.
             let same = file_on_way (suc directory.0) tree (node number) directory (omega arith) ruled_in.listed listed_node within
-            (not_true (is_dir (kind_at tree (node number))) file) parts.0 in
-            false≢true (sym (not_true (is_dir (kind_at tree (node number))) file) ∙ ap (λ (n : NodeId). is_dir (kind_at tree n)) same
+            (not-true (is_dir (kind_at tree (node number))) file) parts.0 in
+            false≢true (sym (not-true (is_dir (kind_at tree (node number))) file) ∙ ap (λ (n : NodeId). is_dir (kind_at tree n)) same
             ∙ ap is_dir is_directory)),
         parts.0,
       )
@@ -320,7 +297,7 @@ module _ (is_file : ℕ → Bool) (old new : List (RulesOn ℕ)) (nothing : Noth
       let given : Contains (granting right from.0).grants number =
       among-contains number (granting right from.0).grants (ap (λ (one : Granting). is_among number one.grants) from.2 ∙ there_granted) in
       let lacking : lack (in_tree tree from.0) (path_at tree object) right ≡ true =
-      not_false-true (lack (in_tree tree from.0) (path_at tree object) right)
+      not-false (lack (in_tree tree from.0) (path_at tree object) right)
       (sym (lets_lack from.0 object right (new_ruled from.0 from.1)) ∙ ap (lets (chain object)) from.2 ∙ stopped) in
       let layer = in_tree tree from.0 in
       false≢true (sym (none from.0 from.1)
@@ -335,7 +312,7 @@ module _ (is_file : ℕ → Bool) (old new : List (RulesOn ℕ)) (nothing : Noth
   unfolding some_right passes
   gains_kept gaining kind object within path directory none layer inside =
       let rules = in_tree tree layer in
-      not_true-false (gains rules kind (path_at tree object) path)
+      false_from_ne_true (gains rules kind (path_at tree object) path)
       (λ some.
       let found = that_passes (λ one. granted rules path one && (handles rules one && (is_dir kind || is_file_right one)) && not
       (granted rules (path_at tree object) one))
@@ -348,11 +325,11 @@ module _ (is_file : ℕ → Bool) (old new : List (RulesOn ℕ)) (nothing : Noth
       let stopped : lets (chain object) (granting right layer) ≡ false =
       lets_lack layer object right (old_ruled layer inside)
       ∙ ap not (and_from (handles rules right) (not (granted rules (path_at tree object) right)) parts.1
-      (not_false (granted rules (path_at tree object) right) parts.3)) in
+      (not_from_false (granted rules (path_at tree object) right) parts.3)) in
       let keeps = All-contains (KeepsGains is_file (map (granting right) new)) (map (granting right) old) (granting right layer) (gaining right)
       (mapped_to (granting right) old layer inside) in
       let blocked : passes (granting_there rule.0 (map (granting right) new)) (chain object) ≡ false =
-      not_true-false (passes (granting_there rule.0 (map (granting right) new)) (chain object))
+      false_from_ne_true (passes (granting_there rule.0 (map (granting right) new)) (chain object))
       (λ passing. false≢true (sym stopped
       ∙ keeps rule.0 rule.1 rule.2 (chain object) (chain_is object within) (way_up_begins tree nodes (path_at tree object) ruled_in.listed) passing)) in
       let by = that_fails (lets (chain object)) (granting_there rule.0 (map (granting right) new)) blocked in
@@ -372,9 +349,9 @@ module _ (is_file : ℕ → Bool) (old new : List (RulesOn ℕ)) (nothing : Noth
 
   either_kept : (one other : RulesOn Path → Bool) → Kept one → Kept other → Kept (λ layer. one layer || other layer)
   either_kept one other first second none layer inside =
-      both_false (one (in_tree tree layer)) (other (in_tree tree layer))
-      (first (λ own its. (neither_of (one (in_tree tree own)) (other (in_tree tree own)) (none own its)).0) layer inside)
-      (second (λ own its. (neither_of (one (in_tree tree own)) (other (in_tree tree own)) (none own its)).1) layer inside)
+      or_from (one (in_tree tree layer)) (other (in_tree tree layer))
+      (first (λ own its. (or_parts (one (in_tree tree own)) (other (in_tree tree own)) (none own its)).0) layer inside)
+      (second (λ own its. (or_parts (one (in_tree tree own)) (other (in_tree tree own)) (none own its)).1) layer inside)
 
   asked_of : (path : Path) → IsDirectory tree path → (asked : List FsRight) → Kept (λ layer. lacks_one_of layer path asked)
   asked_of path directory asked none = asked_there path directory (λ right. list_any (is_right right) asked) none

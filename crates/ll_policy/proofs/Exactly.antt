@@ -2,7 +2,7 @@
 use Rattle.std.proofs.Common.{◌≡◌, ℕ, ◌<◌, Bool, true, false, not, ◌&&◌, ◌||◌, ◌==◌, List, [], ◌∷◌, refl, sym, ◌∙◌, subst, inl, inr, arith, get_or}
 use Rattle.std.specs.Prelude.{Option, Some, None, All}
 use Rattle.std.specs.List.{Contains, filter, list_any, list_all, range_with_len}
-use Rattle.std.proofs.lemmas.Bool.{cases_Bool, and_parts, and_from, eqb-true, false≢true}
+use Rattle.std.proofs.lemmas.Bool.{cases_Bool, and_parts, and_from, eqb-true, false≢true, or_right, or_left, not_from_false, not-true}
 use Rattle.std.proofs.lemmas.Option.{none-some}
 use Rattle.std.proofs.lemmas.List.Elements.{All-contains, Contains-append_cases, Contains-append_left, Contains-append_right}
 use Rattle.ll_policy.specs.Chains.{Granting, is_among, IsChain, lets, some_among, passes, NothingMoreThan, IsExcess, AreDirectories}
@@ -12,14 +12,6 @@ use Rattle.ll_policy.proofs.Lists.{some_passes, that_passes, each_passes, passes
 use Rattle.ll_policy.proofs.Lists.{filter_test, kept_within, found_passes, none_passes, in_range, contains_first, here}
 
 -- ---- Booleans
-
-pub or_right : (a b : Bool) → b ≡ true → (a || b) ≡ true
-or_right true b holds = refl
-or_right false b holds = holds
-
-pub or_left : (a b : Bool) → a ≡ true → (a || b) ≡ true
-or_left true b holds = refl
-or_left false b holds = absurd (false≢true holds)
 
 pub neither : (a b : Bool) → (not a || b) ≡ false → (a ≡ true) × (b ≡ false)
 neither true b none = (refl, none)
@@ -33,14 +25,6 @@ pub when : (a b : Bool) → (a ≡ true → b ≡ true) → (not a || b) ≡ tru
 when true b so = so refl
 when false b so = refl
 
-pub not_false : (a : Bool) → a ≡ false → not a ≡ true
-not_false false fails = refl
-not_false true fails = absurd (false≢true (sym fails))
-
-pub not_true : (a : Bool) → not a ≡ true → a ≡ false
-not_true false holds = refl
-not_true true holds = absurd (false≢true holds)
-
 pub second : (a b : Bool) → a ≡ false → (a || b) ≡ true → b ≡ true
 second true b fails some = absurd (false≢true (sym fails))
 second false b fails some = some
@@ -53,7 +37,7 @@ third true true c holds fails none = absurd (false≢true (sym fails))
 
 -- ---- objects
 
-number-refl : (n : ℕ) → (n == n) ≡ true
+pub number-refl : (n : ℕ) → (n == n) ≡ true
 number-refl n = grind arith
 
 pub among-contains : (object : ℕ) (objects : List ℕ) → is_among object objects ≡ true → Contains objects object
@@ -82,14 +66,14 @@ module _ (is_file : ℕ → Bool) where
   -- ---- what counts
 
   directory-counts : (file : Option ℕ) (object : ℕ) → is_file object ≡ false → counts is_file file object ≡ true
-  directory-counts None object fails = not_false (is_file object) fails
-  directory-counts (Some file) object fails = or_left (not (is_file object)) (file == object) (not_false (is_file object) fails)
+  directory-counts None object fails = not_from_false (is_file object) fails
+  directory-counts (Some file) object fails = or_left (not (is_file object)) (file == object) (not_from_false (is_file object) fails)
 
   itself-counts : (file : ℕ) → counts is_file (Some file) file ≡ true
   itself-counts file = or_right (not (is_file file)) (file == file) (number-refl file)
 
   none-is_file : (object : ℕ) → counts is_file None object ≡ true → is_file object ≡ false
-  none-is_file object counted = not_true (is_file object) counted
+  none-is_file object counted = not-true (is_file object) counted
 
   some-is_file : (file object : ℕ) → counts is_file (Some file) object ≡ true → is_file object ≡ true → file ≡ object
   some-is_file file object counted holds = eqb-true file object (given (is_file object) (file == object) counted holds)
@@ -268,7 +252,7 @@ module _ (is_file : ℕ → Bool) where
       let two = and_parts (not (is_among file old.grants)) (all_grant (narrow_ones is_file old new) file) parts.1 in
       let granted = passes_among (λ one. is_among file one.grants) (narrow_ones is_file old new) layer two.1
       (narrow-there old new (Some file) layer within covered) in
-      false≢true (sym (not_true (is_among file old.grants) two.0) ∙ covers-file old layer file covered granted)
+      false≢true (sym (not-true (is_among file old.grants) two.0) ∙ covers-file old layer file covered granted)
 
   -- the choice of a file by which a chain passes
   abbrev IsChoice : Granting → List Granting → Option ℕ → Type 0
@@ -319,7 +303,7 @@ module _ (is_file : ℕ → Bool) where
             (filter_test (is_further is_file always file old new) (range_with_len 0 of.bound) object after) in
             let parts = and_parts (counts is_file file object) (not (is_among object old.grants) && some_grants new object) extra.0 in
             let two = and_parts (not (is_among object old.grants)) (some_grants new object) parts.1 in
-            record { counted = parts.0; ungranted = not_true (is_among object old.grants) two.0 }
+            record { counted = parts.0; ungranted = not-true (is_among object old.grants) two.0 }
       ]
 
   chain-extra : (always : List ℕ) (file : Option ℕ) (old : Granting) (new : List Granting) (chain : List ℕ)
@@ -338,9 +322,9 @@ module _ (is_file : ℕ → Bool) where
             (All-contains (λ (own : Granting). All (λ (x : ℕ). x < of.bound) own.grants) new layer of.below inside) within))
             (and_from (is_extra is_file file old new object) (not (is_among object always))
             (and_from (counts is_file file object) (not (is_among object old.grants) && some_grants new object) counted
-            (and_from (not (is_among object old.grants)) (some_grants new object) (not_false (is_among object old.grants) ungranted)
+            (and_from (not (is_among object old.grants)) (some_grants new object) (not_from_false (is_among object old.grants) ungranted)
             (some_passes (λ (own : Granting). is_among object own.grants) new layer inside (contains-among object layer.grants within))))
-            (not_false (is_among object always) after)))
+            (not_from_false (is_among object always) after)))
       ])
 
   extra-lets : (always : List ℕ) (file : Option ℕ) (old : Granting) (new : List Granting) (chain : List ℕ)

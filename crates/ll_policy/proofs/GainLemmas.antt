@@ -4,12 +4,12 @@ use Rattle.std.specs.Prelude.{Option, Some, None, ◌≢◌}
 use Rattle.std.specs.List.{Contains, filter}
 use Rattle.std.specs.Global.{Global}
 use Rattle.std.specs.Prelude.{Vec}
-use Rattle.std.proofs.lemmas.Bool.{cases_Bool, and_parts, false≢true}
+use Rattle.std.proofs.lemmas.Bool.{cases_Bool, and_parts, false≢true, not-true}
 use Rattle.ll_policy.specs.Chains.{Granting, is_among, NothingMoreThan, Tells}
 use Rattle.ll_policy.specs.Choices.{is_narrow, narrow_ones, open_file}
 use Rattle.ll_policy.specs.Gains.{granting_there, KeepsGainsInto, IsGain}
 use Rattle.ll_policy.specs.Granted.{root}
-use Rattle.ll_policy.proofs.Exactly.{among-contains, contains-among, not_true, holds}
+use Rattle.ll_policy.proofs.Exactly.{among-contains, contains-among, holds}
 
 kept_first : {X : Type 0} (p : X → Bool) (x : X) (xs : List X) → p x ≡ true → filter p (x ∷ xs) ≡ x ∷ filter p xs
 kept_first p x xs is = ap (λ (b : Bool). cond b (x ∷ filter p xs) (filter p xs)) is
@@ -60,7 +60,7 @@ pub asked : (is_file : ℕ → Bool) (old : Granting) (directory : ℕ) → (is_
     → Contains old.grants directory × (is_file directory ≡ false)
 asked is_file old directory is =
     let parts = and_parts (is_among directory old.grants) (not (is_file directory)) is in
-    (among-contains directory old.grants parts.0, not_true (is_file directory) parts.1)
+    (among-contains directory old.grants parts.0, not-true (is_file directory) parts.1)
 
 pub is_gain : (is_file : ℕ → Bool) (new : List Granting) (old : Granting) (directory : ℕ) (found : Option (Vec ℕ Global)) (chain : Vec ℕ Global)
     → Contains old.grants directory × (is_file directory ≡ false) → Tells is_file root (granting_there directory new) old found → found ≡ Some chain

@@ -1,7 +1,7 @@
 -- Old layers, one by one.
-use Rattle.std.proofs.Common.{◌≡◌, ℕ, ◌<◌, zero, suc, Bool, true, false, not, List, [], ◌∷◌, get_or, refl, sym, ap, ◌∙◌, arith}
+use Rattle.std.proofs.Common.{◌≡◌, ℕ, ◌<◌, zero, suc, Bool, true, false, not, List, [], ◌∷◌, get_or, sym, ap, ◌∙◌, arith}
 use Rattle.std.specs.Prelude.{◌↔◌, All}
-use Rattle.std.proofs.lemmas.Bool.{false≢true, and_parts}
+use Rattle.std.proofs.lemmas.Bool.{false≢true, and_parts, not-true}
 use Rattle.std.proofs.lemmas.List.Elements.{All-contains, Contains-get_or}
 use Rattle.ll_policy.specs.Chains.{Granting, IsExcess, NothingMore, NothingMoreThan, IsChain, lets, passes}
 use Rattle.std.specs.List.{Contains, range_with_len}
@@ -40,10 +40,6 @@ root_begins : (object k d : ℕ) → k < 1 → Contains (0 ∷ object ∷ []) (g
 root_begins object zero d below = here 0 (object ∷ [])
 root_begins object (suc k) d below = absurd (omega (arith, below))
 
-not_false : (b : Bool) → not b ≡ true → b ≡ false
-not_false true is = sym is
-not_false false is = refl
-
 pub enough_is_excess : (is_file : ℕ → Bool) (count object : ℕ) (old : Granting) (new : List Granting) → is_file 0 ≡ false
     → Contains (enough_of count old new) object
     → IsExcess is_file root old new (0 ∷ object ∷ [])
@@ -55,5 +51,5 @@ enough_is_excess is_file count object old new root_is within =
       is_chain = pair_is_chain is_file object root_is;
       begins = root_begins object;
       passes_new = both.1;
-      kept_by_old = not_false (lets (0 ∷ object ∷ []) old) both.0;
+      kept_by_old = not-true (lets (0 ∷ object ∷ []) old) both.0;
     }

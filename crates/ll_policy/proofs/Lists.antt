@@ -1,10 +1,11 @@
 -- Tests over lists, and the elements that they tell of.
 use Rattle.std.proofs.Common.{◌≡◌, ℕ, zero, suc, ◌+◌, ◌<◌, ◌≤◌, Bool, true, false, ◌&&◌, cond, List}
 use Rattle.std.proofs.Common.{[], ◌∷◌, ◌++◌, length, take, get_or, refl, sym, ap, ◌∙◌, subst, inl, inr, arith}
-use Rattle.std.specs.Prelude.{All, Some, None, find, unwrap_or, map}
-use Rattle.std.proofs.lemmas.Option.{none-some}
+use Rattle.std.specs.Prelude.{All, Some, None, find, map}
+use Rattle.std.proofs.lemmas.Option.{none-some, same_Some}
 use Rattle.std.proofs.lemmas.List.FromFn.{length-range_with_len, get_or-range_with_len, filter_of_map_range_with_len_more, map-range_with_len_more}
 use Rattle.std.proofs.lemmas.List.{map-id, append_assoc, append-nil, take_more, take_all}
+use Rattle.std.proofs.lemmas.Slice.Zip.{all_zipped_more}
 use Rattle.std.specs.List.{Contains, flat_map, filter, list_any, list_all, range_with_len, AllZip}
 use Rattle.std.proofs.lemmas.Bool.{cases_Bool, and_parts, and_from, false≢true}
 use Rattle.std.proofs.lemmas.List.Elements.{All-contains, All-filter, All-contains_itself, filter_passes}
@@ -95,14 +96,11 @@ kept_within p xs x within = All-contains (Contains xs) (filter p xs) x (All-filt
 
 -- ---- the first that passes
 
-unsome : {X : Type 0} (x y : X) → Some x ≡ Some y → x ≡ y
-unsome x y is = ap (λ o. unwrap_or o x) is
-
 pub found_passes : {X : Type 0} (p : X → Bool) (xs : List X) (x : X) → find p xs ≡ Some x → p x ≡ true
 found_passes p [] x is = absurd (none-some x is)
 found_passes p (first ∷ xs) x is =
     elim (cases_Bool (p first)) [
-      | inl passes ↦ subst (λ y. p y ≡ true) (unsome first x (sym (ap (λ (b : Bool). cond b (Some first) (find p xs)) passes) ∙ is)) passes
+      | inl passes ↦ subst (λ y. p y ≡ true) (same_Some first x (sym (ap (λ (b : Bool). cond b (Some first) (find p xs)) passes) ∙ is)) passes
       | inr fails ↦ found_passes p xs x (sym (ap (λ (b : Bool). cond b (Some first) (find p xs)) fails) ∙ is)
     ]
 
@@ -154,23 +152,17 @@ range_left p bound first chain so_far fails =
 
 -- ---- two lists, place by place
 
-zip_push : {A B : Type 0} (R : A → B → Type 0) (xs : List A) (ys : List B) (x : A) (y : B) → AllZip R xs ys → R x y → AllZip R (xs ++ x ∷ []) (ys ++ y ∷ [])
-zip_push R [] [] x y each last = (last, tt)
-zip_push R [] (other ∷ ys) x y each last = absurd each
-zip_push R (first ∷ xs) [] x y each last = absurd each
-zip_push R (first ∷ xs) (other ∷ ys) x y each last = (each.0, zip_push R xs ys x y each.1 last)
-
 pub zip_more : {A B : Type 0} (R : A → B → Type 0) (xs : List A) (i : ℕ) (d : A) (ys new : List B) (y : B) → i < length xs
     → AllZip R (take i xs) ys → R (get_or xs i d) y → new ≡ ys ++ y ∷ [] → AllZip R (take (i + 1) xs) new
 zip_more {A = A} {B = B} R xs i d ys new y within so_far one is =
     subst (λ (zs : List B). AllZip R (take (i + 1) xs) zs) (sym is)
-    (subst (λ (some : List A). AllZip R some (ys ++ y ∷ [])) (sym (take_more xs i d within)) (zip_push R (take i xs) ys (get_or xs i d) y so_far one))
+    (subst (λ (some : List A). AllZip R some (ys ++ y ∷ [])) (sym (take_more xs i d within)) (all_zipped_more R (take i xs) ys (get_or xs i d) y so_far one))
 
 pub zip_next : {B : Type 0} (R : ℕ → B → Type 0) (bound : ℕ) (ys new : List B) (y : B) → AllZip R (range_with_len 0 bound) ys → R bound y
     → new ≡ ys ++ y ∷ [] → AllZip R (range_with_len 0 (bound + 1)) new
 zip_next {B = B} R bound ys new y so_far one is =
     subst (λ (zs : List B). AllZip R (range_with_len 0 (bound + 1)) zs) (sym is)
-    (subst (λ (numbers : List ℕ). AllZip R numbers (ys ++ y ∷ [])) (sym (range_next bound)) (zip_push R (range_with_len 0 bound) ys bound y so_far one))
+    (subst (λ (numbers : List ℕ). AllZip R numbers (ys ++ y ∷ [])) (sym (range_next bound)) (all_zipped_more R (range_with_len 0 bound) ys bound y so_far one))
 
 pub zip_weaker : {A B : Type 0} (R S : A → B → Type 0) → ((x : A) (y : B) → R x y → S x y) → (xs : List A) (ys : List B) → AllZip R xs ys → AllZip S xs ys
 zip_weaker R S weaker [] [] each = tt
@@ -186,7 +178,7 @@ flat_from f (x ∷ xs) y within =
       | inr rest ↦ let found = flat_from f xs y rest in (found.0, there x xs found.0 found.1, found.2)
     ]
 
-pub zip_map : {A B C : Type 0} (R : B → C → Type 0) (f : A → B) (xs : List A) (ys : List C) → AllZip (λ x. R (f x)) xs ys → AllZip R (map f xs) ys
+zip_map : {A B C : Type 0} (R : B → C → Type 0) (f : A → B) (xs : List A) (ys : List C) → AllZip (λ x. R (f x)) xs ys → AllZip R (map f xs) ys
 zip_map R f [] [] each = tt
 zip_map R f [] (y ∷ ys) each = absurd each
 zip_map R f (x ∷ xs) [] each = absurd each
@@ -194,3 +186,9 @@ zip_map R f (x ∷ xs) (y ∷ ys) each = (each.0, zip_map R f xs ys each.1)
 
 pub zip_all : {A B : Type 0} (R : A → B → Type 0) (xs : List A) (i : ℕ) (ys : List B) → length xs ≤ i → AllZip R (take i xs) ys → AllZip R xs ys
 zip_all {A = A} R xs i ys past each = subst (λ (some : List A). AllZip R some ys) (take_all i xs past) each
+
+-- all of them, each by what it stands for
+pub zip_named : {A B C : Type 0} (R : B → C → Type 0) (f : A → B) (xs : List A) (names : List B) (i : ℕ) (ys : List C) → map f xs ≡ names → length xs ≤ i
+    → AllZip (λ x. R (f x)) (take i xs) ys → AllZip R names ys
+zip_named {B = B} R f xs names i ys are past each =
+    subst (λ (bs : List B). AllZip R bs ys) are (zip_map R f xs ys (zip_all (λ x. R (f x)) xs i ys past each))

@@ -3,7 +3,7 @@ use Rattle.std.proofs.Common.{◌≡◌, ℕ, ◌+◌, Bool, true, false, not, �
 use Rattle.std.proofs.Common.{[], ◌∷◌, ◌++◌, map, refl, sym, ap, ◌∙◌, subst, arith}
 use Rattle.std.specs.Prelude.{◌↔◌, if◌then◌else◌}
 use Rattle.std.specs.List.{filter}
-use Rattle.std.proofs.lemmas.Bool.{and_parts, and_from, eqb-true}
+use Rattle.std.proofs.lemmas.Bool.{and_parts, and_from, eqb-true, not-true, not_from_false}
 use Rattle.ll_rights.specs.declared.net.Net.{Net}
 use Rattle.ll_rights.specs.NetRights.{NetRight, has, only, is_right, some_right, all_rights, bind_tcp}
 use Rattle.ll_rights.proofs.Sets.{net_has-only}
@@ -13,14 +13,10 @@ use Rattle.ll_rules.proofs.Booleans.{or_false, list_any-agree}
 use Rattle.ll_policy.specs.Chains.{is_among, lets, some_among, passes}
 use Rattle.ll_policy.specs.Granted.{granting_on_ports}
 use Rattle.ll_policy.proofs.Lists.{some_passes, that_passes, filtered, filter_test, kept_within}
-use Rattle.ll_policy.proofs.Exactly.{among-contains, contains-among, not_true, not_false}
-use Rattle.ll_policy.proofs.Bridge.{mapped_from, mapped_to, equal_tests, lets_or_lacks, and_assoc}
-use Rattle.ll_policy.proofs.Everywhere.{no_numbers}
+use Rattle.ll_policy.proofs.Exactly.{among-contains, contains-among, number-refl}
+use Rattle.ll_policy.proofs.Bridge.{mapped_from, mapped_to, equal_tests, lets_or_lacks, and_assoc, no_numbers}
 
 -- ---- one right on one port
-
-same_number : (n : ℕ) → (n == n) ≡ true
-same_number n = grind arith
 
 agree : (f g : NetRight → Bool) → ((right : NetRight) → f right ≡ g right) → some_right f ≡ some_right g
 unfolding some_right
@@ -51,7 +47,7 @@ module _ (port : ℕ) (right : NetRight) (layer : RulesOn ℕ) where
       (λ among.
       let rule = mapped_from number_of (filter gives layer.port_rules) port (among-contains port (granting_on_ports right layer).grants among) in
       some_passes (λ (own : ℕ × Net). port == own.0 && has own.1 right) layer.port_rules rule.0 (kept_within gives layer.port_rules rule.0 rule.1)
-      (and_from (port == rule.0.0) (has rule.0.1 right) (subst (λ (n : ℕ). (port == n) ≡ true) (sym rule.2) (same_number port))
+      (and_from (port == rule.0.0) (has rule.0.1 right) (subst (λ (n : ℕ). (port == n) ≡ true) (sym rule.2) (number-refl port))
       (filter_test gives layer.port_rules rule.0 rule.1)))
       (λ granted.
       let found = that_passes (λ (own : ℕ × Net). port == own.0 && has own.1 right) layer.port_rules granted in
@@ -78,14 +74,14 @@ refuses_none port right number (layer ∷ layers) =
     let first = lets_where_nothing_lacks port right layer in (
       λ all.
           let parts = and_parts (lets (port ∷ []) (granting_on_ports right layer)) (passes (map (granting_on_ports right) layers) (port ∷ [])) all in
-          let lacking : lacks_on_port layer port (only right) ≡ false = not_true (lacks_on_port layer port (only right)) (sym first ∙ parts.0) in
+          let lacking : lacks_on_port layer port (only right) ≡ false = not-true (lacks_on_port layer port (only right)) (sym first ∙ parts.0) in
           ap (λ (b : Bool). (if b then number ∷ [] else []) ++ numbers_from (λ own. lacks_on_port own port (only right)) (number + 1) layers) lacking
           ∙ rest.0 parts.1,
       λ none.
           let parts = no_numbers (lacks_on_port layer port (only right)) number
           (numbers_from (λ own. lacks_on_port own port (only right)) (number + 1) layers) none in
           and_from (lets (port ∷ []) (granting_on_ports right layer)) (passes (map (granting_on_ports right) layers) (port ∷ []))
-          (first ∙ not_false (lacks_on_port layer port (only right)) parts.0) (rest.1 parts.1),
+          (first ∙ not_from_false (lacks_on_port layer port (only right)) parts.0) (rest.1 parts.1),
     )
 
 pub refused_on_port : (layers : List (RulesOn ℕ)) (right : NetRight) (port : ℕ)

@@ -287,13 +287,9 @@ fn enough_of(
 ) -> Result<Vec<usize>, AllocError>
     ensures { IfOk result (TellsSingle count new.now old.now) }
 {
-    let mut enough = Vec::new(alloc);
-    for object in 0..count {
-        if is_enough(old, new, object) {
-            enough.push(object)?;
-        }
-    }
-    Ok(enough)
+    (0..count)
+        .filter(|object| is_enough(old, new, *object))
+        .collect(alloc)
 }
 
 /// The same for each of some old layers.

@@ -4,15 +4,13 @@ ghost use Rattle.std.specs.Prelude.{◌≡◌, ◌<◌, All, IfOk, map};
 ghost use Rattle.ll_policy.specs.Chains.{is_among, some_among};
 ghost use Rattle.ll_policy.specs.Places.{places_of};
 ghost use Rattle.ll_rights.specs.CodeRights.{fs_right, net_right};
-ghost use Rattle.ll_rights.specs.Rights as files;
-ghost use Rattle.ll_rights.specs.NetRights as network;
 ghost use Rattle.ll_rules.specs.Layers.{handles};
 ghost use Rattle.ll_policy.specs.Granted.{granting, granting_on_ports};
 ghost use Rattle.ll_policy.specs.Policies.{rules_of};
 ghost use Rattle.ll_policy.specs.Regions.{chains_of, spread};
 
 use crate::layer::Layer;
-use ll_rights::{Fs, FsRight, Net, NetRight, RightSet};
+use ll_rights::{FsRight, NetRight, RightSet};
 use std::alloc::{AllocError, Global};
 use std::marker::Model;
 
@@ -34,17 +32,8 @@ fn handles_of(layer: &Layer, right: FsRight) -> bool
 }
 
 /// For each of some sets, whether it has a right.
-fn marks_on_objects(alloc: Global, sets: &[Fs], right: FsRight) -> Result<Vec<bool>, AllocError>
-    ensures { IfOk result (λ on.
-        on.items ≡ map (λ set. files.has set (fs_right right)) sets.now) }
-{
-    sets.iter().map(|set| set.has(right)).collect(alloc)
-}
-
-/// For each of some sets, whether it has a right.
-fn marks_on_ports(alloc: Global, sets: &[Net], right: NetRight) -> Result<Vec<bool>, AllocError>
-    ensures { IfOk result (λ on.
-        on.items ≡ map (λ set. network.has set (net_right right)) sets.now) }
+fn marks<S: RightSet>(alloc: Global, sets: &[S], right: S::Right) -> Result<Vec<bool>, AllocError>
+    ensures { IfOk result (λ on. on.items ≡ map (λ set. S.family.has set (S.named right)) sets.now) }
 {
     sets.iter().map(|set| set.has(right)).collect(alloc)
 }
@@ -64,7 +53,7 @@ impl Granting {
         ensures { IfOk result (λ made. made ≡ granting (fs_right right) (rules_of layer.now)) }
     {
         let handles = handles_of(layer, right);
-        let on = marks_on_objects(alloc, &layer.on_objects, right)?;
+        let on = marks(alloc, &layer.on_objects, right)?;
         Ok(Granting { handles, on })
     }
 
@@ -74,7 +63,7 @@ impl Granting {
             made ≡ granting_on_ports (net_right right) (rules_of layer.now)) }
     {
         let handles = layer.network.has(right);
-        let on = marks_on_ports(alloc, &layer.on_ports, right)?;
+        let on = marks(alloc, &layer.on_ports, right)?;
         Ok(Granting { handles, on })
     }
 

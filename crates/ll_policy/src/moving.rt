@@ -6,17 +6,16 @@ ghost use Rattle.ll_rights.specs.CodeRights.{fs_right};
 ghost use Rattle.ll_rights.specs.Kinds.{make_right_of, remove_right_of};
 ghost use Rattle.ll_rights.specs.Rights as for_files;
 ghost use Rattle.ll_policy.specs.Chains as chains;
-ghost use Rattle.ll_policy.specs.Granted.{granting};
 ghost use Rattle.ll_policy.specs.Places.{is_file_in};
 ghost use Rattle.ll_policy.specs.Policies.{rules_of};
-ghost use Rattle.ll_policy.specs.Regions.{single, spread};
+ghost use Rattle.ll_policy.specs.Regions.{single};
 ghost use Rattle.ll_policy.specs.Moving as specs;
 ghost use Rattle.ll_policy.specs.FoundMoves.{all_kinds, spread_all, lets_move, passes_by, MovesNowhere, parent_in, may_be, moves_alone, beneath_alone, itself_alone, TellsMovers, TellsMovedTo, TellsMoves};
 
 use crate::deciding::{ROOT, is_file, passes};
-use crate::granting::{Granting, all_on_objects};
+use crate::granting::Granting;
 use crate::layer::Layer;
-use crate::regions::all_spread;
+use crate::regions::in_regions;
 use ll_rights::{Fs, FsRight, Kind, RightSet};
 use std::alloc::{AllocError, Global};
 use std::marker::Model;
@@ -122,19 +121,6 @@ impl Model for Moving {
       refer = a.refer.items;
       gained = map (λ layers. layers.items) a.gained.items;
     } };
-}
-
-/// What layers say of a right for files, in each region.
-fn in_regions(
-    alloc: Global,
-    parents: &[usize],
-    layers: &[Layer],
-    right: FsRight,
-) -> Result<Vec<Granting>, AllocError>
-    ensures { IfOk result (λ made. made.items
-        ≡ map (spread parents.now) (map (granting (fs_right right)) (map rules_of layers.now))) }
-{
-    all_spread(alloc, parents, &all_on_objects(alloc, layers, right)?)
 }
 
 /// The same of each right that objects of a kind may gain.

@@ -28,7 +28,7 @@ pub struct Passing {
 }
 
 /// What each layer grants on the objects, each with those that it is in.
-pub(crate) fn all_spread(
+fn all_spread(
     alloc: Global,
     parents: &[usize],
     layers: &[Granting],
@@ -42,53 +42,49 @@ pub(crate) fn all_spread(
     Ok(made)
 }
 
-/// What the layers of two policies say of a right.
-#[derive(Clone, Copy)]
-struct Sides<'a> {
-    one: &'a [Granting],
-    other: &'a [Granting],
+/// What layers say of a right for files, in each region.
+pub(crate) fn in_regions(
+    alloc: Global,
+    parents: &[usize],
+    layers: &[Layer],
+    right: FsRight,
+) -> Result<Vec<Granting>, AllocError>
+    ensures { IfOk result (λ made. made.items
+        ≡ map (spread parents.now) (map (granting (fs_right right)) (map rules_of layers.now))) }
+{
+    all_spread(alloc, parents, &all_on_objects(alloc, layers, right)?)
 }
 
-impl Sides<'_> {
-    /// Whether each layer of both policies lets a number pass.
-    #[tactic(auto, unfolding(crate::specs::Regions::passes_both))]
-    fn passes_both(&self, number: usize) -> bool
-        ensures { result ≡ passes_both self.now.one.now self.now.other.now (single number) }
-    {
-        let chain = [number];
-        passes(&chain, self.one) && passes(&chain, self.other)
-    }
+/// Of so many numbers those that pass by the layers of one policy and by those of the other.
+#[tactic(auto, unfolding(crate::specs::Regions::numbers_of, crate::specs::Regions::passes_both))]
+fn both(
+    alloc: Global,
+    count: usize,
+    one: &[Granting],
+    other: &[Granting],
+) -> Result<Vec<usize>, AllocError>
+    ensures { IfOk result (λ found. found.items
+        ≡ numbers_of single count (passes_both one.now other.now)) }
+{
+    (0..count)
+        .filter(|number| passes(&[*number], one) && passes(&[*number], other))
+        .collect(alloc)
+}
 
-    /// Whether each layer of the one policy lets a number pass, and not each of the other.
-    #[tactic(auto, unfolding(crate::specs::Regions::passes_alone))]
-    fn passes_alone(&self, number: usize) -> bool
-        ensures { result ≡ passes_alone self.now.one.now self.now.other.now (single number) }
-    {
-        let chain = [number];
-        passes(&chain, self.one) && !passes(&chain, self.other)
-    }
-
-    /// Of so many numbers those that pass under both policies.
-    #[tactic(auto, unfolding(crate::specs::Regions::numbers_of))]
-    fn both(&self, alloc: Global, count: usize) -> Result<Vec<usize>, AllocError>
-        ensures { IfOk result (λ found. found.items
-            ≡ numbers_of single count (passes_both self.now.one.now self.now.other.now)) }
-    {
-        (0..count)
-            .filter(|number| self.passes_both(*number))
-            .collect(alloc)
-    }
-
-    /// Of so many numbers those that pass under the one policy alone.
-    #[tactic(auto, unfolding(crate::specs::Regions::numbers_of))]
-    fn alone(&self, alloc: Global, count: usize) -> Result<Vec<usize>, AllocError>
-        ensures { IfOk result (λ found. found.items
-            ≡ numbers_of single count (passes_alone self.now.one.now self.now.other.now)) }
-    {
-        (0..count)
-            .filter(|number| self.passes_alone(*number))
-            .collect(alloc)
-    }
+/// Of so many numbers those that pass by the layers of one policy and not by those of the other.
+#[tactic(auto, unfolding(crate::specs::Regions::numbers_of, crate::specs::Regions::passes_alone))]
+fn alone(
+    alloc: Global,
+    count: usize,
+    one: &[Granting],
+    other: &[Granting],
+) -> Result<Vec<usize>, AllocError>
+    ensures { IfOk result (λ found. found.items
+        ≡ numbers_of single count (passes_alone one.now other.now)) }
+{
+    (0..count)
+        .filter(|number| passes(&[*number], one) && !passes(&[*number], other))
+        .collect(alloc)
 }
 
 /// Where the right passes, of so many numbers.
@@ -100,18 +96,10 @@ fn passing_of(
 ) -> Result<Passing, AllocError>
     ensures { IfOk result (TellsPassing single count old.now new.now) }
 {
-    let before = Sides {
-        one: old,
-        other: new,
-    };
-    let after = Sides {
-        one: new,
-        other: old,
-    };
     Ok(Passing {
-        both: before.both(alloc, count)?,
-        new: after.alone(alloc, count)?,
-        old: before.alone(alloc, count)?,
+        both: both(alloc, count, old, new)?,
+        new: alone(alloc, count, new, old)?,
+        old: alone(alloc, count, old, new)?,
     })
 }
 
@@ -140,8 +128,8 @@ fn regions_with(
         (map (granting (fs_right right)) (map rules_of old.now))
         (map (granting (fs_right right)) (map rules_of new.now))) }
 {
-    let old = all_spread(alloc, parents, &all_on_objects(alloc, old, right)?)?;
-    let new = all_spread(alloc, parents, &all_on_objects(alloc, new, right)?)?;
+    let old = in_regions(alloc, parents, old, right)?;
+    let new = in_regions(alloc, parents, new, right)?;
     Ok(passing_of(alloc, parents.len() + 1, &old, &new)?)
 }
 

@@ -1,12 +1,11 @@
-use Rattle.std.proofs.Common.{rules, ◌∙◌, List, map, subst, Vec, Global, Ok}
-use Rattle.std.specs.List.{AllZip}
+use Rattle.std.proofs.Common.{rules, ◌∙◌, map, Vec, Global, Ok}
 use Rattle.std.specs.Fn.{FnReturnsAtPair}
 use Rattle.ll_rights.specs.declared.fs.FsRight.{FsRight as Code}
 use Rattle.ll_rights.specs.Rights.{FsRight}
 use Rattle.ll_rights.specs.CodeRights.{fs_right}
 use Rattle.ll_policy.specs.Found.{said}
 use Rattle.ll_policy.specs.Policies.{rules_of}
-use Rattle.ll_policy.proofs.Lists.{zip_more, zip_map, zip_all}
+use Rattle.ll_policy.proofs.Lists.{zip_more, zip_named}
 use Rattle.ll_policy.proofs.comparing.found_of_each.Goals as goal
 
 pub loop-right-preserved : goal.loop-right-preserved
@@ -28,7 +27,5 @@ pub returns : goal.returns
 returns g c =
     let says = λ (right : FsRight) (told : Vec g.row.T.Denot Global). FnReturnsAtPair g.F.Fn c.args.compare
     (said c.args.asked right (map rules_of c.args.old.now)) (said c.args.asked right (map rules_of c.args.new.now)) (Ok told) in
-    subst (λ (rights : List FsRight). AllZip says rights c.loop-right.found.items) c.all-right-items.ensures
-    (zip_map says fs_right c.all-right-items.result.now c.loop-right.found.items
-    (zip_all (λ (right : Code). says (fs_right right)) c.all-right-items.result.now c.loop-right.right-index c.loop-right.found.items
-    c.loop-right-test.false c.loop-right.invariant))
+    zip_named says fs_right c.all-right-items.result.now _ c.loop-right.right-index c.loop-right.found.items
+    c.all-right-items.ensures c.loop-right-test.false c.loop-right.invariant

@@ -1,11 +1,9 @@
-use Rattle.std.proofs.Common.{List, map, subst}
-use Rattle.std.specs.List.{AllZip}
+use Rattle.std.proofs.Common.{map}
 use Rattle.ll_rights.specs.declared.fs.FsRight.{FsRight as Code}
-use Rattle.ll_rights.specs.Rights.{FsRight}
 use Rattle.ll_rights.specs.CodeRights.{fs_right}
 use Rattle.ll_policy.specs.Policies.{rules_of}
 use Rattle.ll_policy.specs.Regions.{TellsRegions}
-use Rattle.ll_policy.proofs.Lists.{zip_more, zip_map, zip_all}
+use Rattle.ll_policy.proofs.Lists.{zip_more, zip_named}
 use Rattle.ll_policy.proofs.regions.passing_on_objects.Goals as goal
 
 pub loop-right-preserved : goal.loop-right-preserved
@@ -17,8 +15,5 @@ loop-right-preserved c =
 
 pub returns : goal.returns
 returns c =
-    let tells = TellsRegions c.args.asked c.args.parents.now (map rules_of c.args.old.now) (map rules_of c.args.new.now) in
-    subst (λ (rights : List FsRight). AllZip tells rights c.loop-right.found.items) c.all-right-items.ensures
-    (zip_map tells fs_right c.all-right-items.result.now c.loop-right.found.items
-    (zip_all (λ (right : Code). tells (fs_right right)) c.all-right-items.result.now c.loop-right.right-index c.loop-right.found.items
-    c.loop-right-test.false c.loop-right.invariant))
+    zip_named (TellsRegions c.args.asked c.args.parents.now (map rules_of c.args.old.now) (map rules_of c.args.new.now)) fs_right c.all-right-items.result.now _
+    c.loop-right.right-index c.loop-right.found.items c.all-right-items.ensures c.loop-right-test.false c.loop-right.invariant
