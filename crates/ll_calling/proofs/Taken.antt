@@ -1,19 +1,14 @@
 -- A loop that takes in the policies of a file, line after line.
-use Rattle.std.proofs.Common.{◌≡◌, ℕ, Bool, true, false, ◌||◌, List, [], ◌∷◌, ◌++◌, flat_map, Ok, Err, refl, sym, ap, ◌∙◌}
-use Rattle.std.specs.Prelude.{◌≢◌}
+use Rattle.std.proofs.Common.{◌≡◌, ℕ, Bool, true, false, ◌||◌, List, [], ◌∷◌, ◌++◌, flat_map, refl, sym, ap, ◌∙◌}
 use Rattle.std.specs.List.{list_any}
 use Rattle.std.proofs.lemmas.List.{append-nil}
 use Rattle.std.proofs.lemmas.List.Folds.{list_any-append}
 use Rattle.std.proofs.lemmas.Grind.{flat_map-append}
 use Rattle.ll_rights.specs.declared.abi.Abi.{Abi}
-use Rattle.ll_lines.specs.declared.fault.Cause.{Cause}
-use Rattle.ll_lines.specs.declared.fault.Cause.TheVariants.{Memory}
 use Rattle.ll_lines.specs.Lines.{Line, filled_lines}
-use Rattle.ll_lines.specs.LineByLine.{with_line, read_lines, reading}
-use Rattle.ll_lines.specs.Readers.{Fails}
-use Rattle.ll_lines.specs.Reading.{IsBad}
-use Rattle.ll_lines.proofs.MemoryLemmas.{unless-map}
-use Rattle.ll_lines.proofs.ReadingLemmas.{read_lines_next, read_lines_end, good_from_reading, bad_from_fault, meets_fault}
+use Rattle.ll_lines.specs.LineByLine.{read_lines, reading}
+use Rattle.ll_lines.proofs.ReadingLemmas.{read_lines_end, good_from_reading}
+use Rattle.ll_values.proofs.Answering.{reads_next}
 use Rattle.ll_calling.specs.PolicyLines.{LayerSeen, policy_on, policy_format}
 use Rattle.ll_calling.specs.Taking.{IsTaken}
 use Rattle.ll_calling.specs.Texts.{AreCalls, lines_at, is_refused_at}
@@ -38,11 +33,9 @@ any_push test xs x = list_any-append test xs (x ∷ []) ∙ ap (λ b. list_any t
 pub taken_next : (abi : Abi) (bytes : List ℕ) (lines : List Line) (line : Line) (others : List Line) (text more : List ℕ) (was refused : Bool)
     → lines ≡ line ∷ others → AreTaken abi bytes lines text was → IsTaken abi line text was more refused → AreTaken abi bytes others more refused
 taken_next abi bytes lines line others text more was refused first so_far taken =
-    let reads : with_line policy_format so_far.policies line ≡ Ok (so_far.policies ++ taken.policy ∷ []) = rw taken.read refl in
     record {
       policies = so_far.policies ++ taken.policy ∷ [];
-      reads = sym (read_lines_next policy_format so_far.policies (so_far.policies ++ taken.policy ∷ []) line others reads)
-          ∙ ap (read_lines policy_format so_far.policies) (sym first) ∙ so_far.reads;
+      reads = reads_next policy_on bytes lines line others so_far.policies taken.policy first so_far.reads taken.read;
       is_text = taken.text
           ∙ rw (so_far.is_text, flat_map-append (lines_at abi) so_far.policies (taken.policy ∷ []), append-nil (lines_at abi taken.policy)) refl;
       is_refused = taken.is_refused ∙ rw so_far.is_refused (sym (any_push (is_refused_at abi) so_far.policies taken.policy));
@@ -58,12 +51,3 @@ taken_all abi bytes lines text refused none so_far =
       is_text = so_far.is_text;
       is_refused = so_far.is_refused;
     }
-
-pub taken_fault : (abi : Abi) (bytes : List ℕ) (lines : List Line) (line : Line) (others : List Line) (text : List ℕ) (refused : Bool) (cause : Cause)
-    → lines ≡ line ∷ others → AreTaken abi bytes lines text refused → Fails cause (policy_on line.bytes) → cause ≢ Memory
-    → IsBad policy_format bytes (record { line = line.number; cause = cause })
-taken_fault abi bytes lines line others text refused cause first so_far fails other =
-    let fails_here : Fails cause (with_line policy_format so_far.policies line) =
-    unless-map cause (policy_on line.bytes) (Err cause) (with_line policy_format so_far.policies line) (Err cause) (λ is. rw is refl) fails in
-    bad_from_fault policy_format bytes (record { line = line.number; cause = cause })
-    (meets_fault policy_format so_far.policies lines line others cause (reading policy_format bytes) first so_far.reads fails_here) other

@@ -3,6 +3,7 @@
 use Rattle.std.specs.Prelude.{◌≡◌, ℕ, Bool, false, List, [], ◌∷◌, ◌++◌, map, codes, flat_map, slice_get, Option, Some, None, if◌then◌else◌}
 use Rattle.std.specs.List.{list_any}
 use Rattle.std.specs.Option.{is_some}
+use Rattle.std.specs.Borrow.{Bor}
 use Rattle.json.specs.Json.{Json, string, array, Items, no_items, item}
 use Rattle.ll_rights.specs.declared.abi.Abi.{Abi}
 use Rattle.ll_rights.specs.declared.fs.Fs.{Fs}
@@ -24,7 +25,6 @@ use Rattle.ll_enforcing.specs.declared.calls.Call.TheVariants as calls
 use Rattle.ll_enforcing.specs.Calls.{calls_of}
 use Rattle.ll_calling.specs.declared.objects.Shown.{Shown}
 use Rattle.ll_calling.specs.declared.objects.Shown.TheVariants as shown
-use Rattle.ll_calling.specs.declared.objects.Member.{Member}
 use Rattle.ll_calling.specs.Groups.{group_named, group_on_ports}
 use Rattle.ll_calling.specs.PolicyLines.{RuleSeen, LayerSeen, written_in, policy_format}
 
@@ -46,8 +46,8 @@ shown_json (shown.Number n) = whole_json n
 shown_json (shown.Files set) = names_json for_files (files.has set)
 shown_json (shown.Network set) = names_json for_network (network.has set)
 
-abbrev pub named : Member → List ℕ × Json
-named member = (member.name.now, shown_json member.value)
+abbrev pub named : Bor (List ℕ) × Shown → List ℕ × Json
+named member = (member.0.now, shown_json member.1)
 
 -- ---- calls: no process is named, and the ruleset is always number 0
 

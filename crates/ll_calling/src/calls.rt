@@ -10,7 +10,7 @@ ghost use Rattle.ll_calling.specs.Texts as texts;
 ghost use Rattle.ll_calling.specs.Taking.{IsTaken};
 
 use crate::objects::Shown::{Files, Network, Number, Whole, Word};
-use crate::objects::{Member, object_line};
+use crate::objects::object_line;
 use crate::policy::{LayerRead, PolicyRead};
 use ll_enforcing::{Call, enforce};
 use ll_fitting::{FittedPathRule, FittedPortRule, RefusedRule, first_refused};
@@ -18,16 +18,6 @@ use ll_lines::lines::{FileLine, FilledLines};
 use ll_lines::{Cause, ReadFault};
 use ll_rights::{Abi, Fs, Net};
 use std::alloc::{AllocError, Global};
-
-/// A member of an object.
-macro_rules! member {
-    ($name:literal, $value:expr) => {
-        Member {
-            name: $name,
-            value: $value,
-        }
-    };
-}
 
 /// The calls for the policies of a file, as lines, and whether the kernel would refuse a rule.
 #[derive(Drop)]
@@ -56,11 +46,11 @@ fn create_line(alloc: Global, layer: usize, handled: Fs, ports: Net) -> Result<V
         ≡ line_of (texts.create_json layer handled ports)) }
 {
     let members = [
-        member!("op", Word("create")),
-        member!("rs", Whole(0)),
-        member!("fs", Files(handled)),
-        member!("net", Network(ports)),
-        member!("layer", Whole(layer)),
+        ("op", Word("create")),
+        ("rs", Whole(0)),
+        ("fs", Files(handled)),
+        ("net", Network(ports)),
+        ("layer", Whole(layer)),
     ];
     object_line(alloc, &members)
 }
@@ -75,12 +65,12 @@ fn path_line(
     ensures { IfOk result (λ line. line.items ≡ line_of (texts.path_json layer rule path.now)) }
 {
     let members = [
-        member!("op", Word("add_path")),
-        member!("rs", Whole(0)),
-        member!("path", Word(path)),
-        member!("fs", Files(rule.rights)),
-        member!("layer", Whole(layer)),
-        member!("rule", Whole(rule.rule)),
+        ("op", Word("add_path")),
+        ("rs", Whole(0)),
+        ("path", Word(path)),
+        ("fs", Files(rule.rights)),
+        ("layer", Whole(layer)),
+        ("rule", Whole(rule.rule)),
     ];
     object_line(alloc, &members)
 }
@@ -90,12 +80,12 @@ fn port_line(alloc: Global, layer: usize, rule: FittedPortRule) -> Result<Vec<u8
     ensures { IfOk result (λ line. line.items ≡ line_of (texts.port_json layer rule)) }
 {
     let members = [
-        member!("op", Word("add_port")),
-        member!("rs", Whole(0)),
-        member!("port", Number(rule.port)),
-        member!("net", Network(rule.rights)),
-        member!("layer", Whole(layer)),
-        member!("rule", Whole(rule.rule)),
+        ("op", Word("add_port")),
+        ("rs", Whole(0)),
+        ("port", Number(rule.port)),
+        ("net", Network(rule.rights)),
+        ("layer", Whole(layer)),
+        ("rule", Whole(rule.rule)),
     ];
     object_line(alloc, &members)
 }
@@ -105,9 +95,9 @@ fn ruleset_line(alloc: Global, name: &str, layer: usize) -> Result<Vec<u8>, Allo
     ensures { IfOk result (λ line. line.items ≡ line_of (texts.ruleset_json name.now layer)) }
 {
     let members = [
-        member!("op", Word(name)),
-        member!("rs", Whole(0)),
-        member!("layer", Whole(layer)),
+        ("op", Word(name)),
+        ("rs", Whole(0)),
+        ("layer", Whole(layer)),
     ];
     object_line(alloc, &members)
 }
@@ -119,7 +109,7 @@ fn call_line(alloc: Global, layers: &[LayerRead], call: Call) -> Result<Vec<u8>,
         ≡ line_of (texts.call_json (map layer_seen layers.now) call)) }
 {
     match call {
-        Call::NoNewPrivs => object_line(alloc, &[member!("op", Word("nnp"))]),
+        Call::NoNewPrivs => object_line(alloc, &[("op", Word("nnp"))]),
         Call::CreateRuleset {
             layer,
             files,
@@ -162,9 +152,9 @@ fn put_refusal(
 {
     if let Some(first) = refused {
         let members = [
-            member!("refused", Word("EINVAL")),
-            member!("layer", Whole(first.layer)),
-            member!("rule", Whole(first.rule)),
+            ("refused", Word("EINVAL")),
+            ("layer", Whole(first.layer)),
+            ("rule", Whole(first.rule)),
         ];
         let line = object_line(alloc, &members)?;
         text.extend_from_slice(&line)?;

@@ -19,13 +19,6 @@ pub(crate) enum Shown<'a> {
     Network(Net),
 }
 
-/// A member of an object.
-#[derive(Clone, Copy)]
-pub(crate) struct Member<'a> {
-    pub name: &'a str,
-    pub value: Shown<'a>,
-}
-
 /// Writes the names of those rights that a set has, and the end of their array.
 #[tactic(auto, unfolding(crate::specs::Texts::name_items))]
 fn write_names<S: RightSet>(out: &mut Writer, all: &[S::Right], set: S) -> Result<(), AllocError>
@@ -67,20 +60,23 @@ fn write_value(out: &mut Writer, value: Shown<'_>) -> Result<(), AllocError>
 }
 
 /// Writes members, and the end of their object.
-fn write_members(out: &mut Writer, members: &[Member<'_>]) -> Result<(), AllocError>
+fn write_members(out: &mut Writer, members: &[(&str, Shown<'_>)]) -> Result<(), AllocError>
     ensures tokens { OnOk result (out.new.tokens ≡ out.old.tokens
         ++ members_tokens (members_of (map named members.now))) }
     ensures before { out.new.before ≡ out.old.before }
 {
-    for member in members {
-        out.key(member.name)?;
-        write_value(out, member.value)?;
+    for (name, value) in members {
+        out.key(name)?;
+        write_value(out, *value)?;
     }
     out.end_object()
 }
 
 /// Writes an object.
-pub(crate) fn write_object(out: &mut Writer, members: &[Member<'_>]) -> Result<(), AllocError>
+pub(crate) fn write_object(
+    out: &mut Writer,
+    members: &[(&str, Shown<'_>)],
+) -> Result<(), AllocError>
     ensures tokens { OnOk result (out.new.tokens ≡ out.old.tokens
         ++ json_tokens (object_of (map named members.now))) }
     ensures before { out.new.before ≡ out.old.before }
@@ -90,7 +86,10 @@ pub(crate) fn write_object(out: &mut Writer, members: &[Member<'_>]) -> Result<(
 }
 
 /// A line with an object.
-pub(crate) fn object_line(alloc: Global, members: &[Member<'_>]) -> Result<Vec<u8>, AllocError>
+pub(crate) fn object_line(
+    alloc: Global,
+    members: &[(&str, Shown<'_>)],
+) -> Result<Vec<u8>, AllocError>
     ensures { IfOk result (λ line. line.items ≡ line_of (object_of (map named members.now))) }
 {
     let mut out = Writer::new(Vec::new(alloc));

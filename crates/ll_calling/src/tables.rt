@@ -4,7 +4,8 @@ ghost use Rattle.std.specs.Prelude.{◌≡◌, ◌++◌, IfOk, OnOk, flat_map};
 ghost use Rattle.ll_calling.specs.Texts as texts;
 
 use crate::groups::Grouped;
-use crate::objects::{Member, Shown, object_line};
+use crate::objects::Shown::{Files, Network, Number, Word};
+use crate::objects::object_line;
 use ll_rights::{Abi, Fs, Net};
 use std::alloc::{AllocError, Global};
 
@@ -14,18 +15,9 @@ fn abi_line(alloc: Global, abi: Abi) -> Result<Vec<u8>, AllocError>
     ensures { IfOk result (λ line. line.items ≡ texts.abi_line abi) }
 {
     let members = [
-        Member {
-            name: "abi",
-            value: Shown::Number(abi.number()),
-        },
-        Member {
-            name: "fs",
-            value: Shown::Files(abi.fs()),
-        },
-        Member {
-            name: "net",
-            value: Shown::Network(abi.net()),
-        },
+        ("abi", Number(abi.number())),
+        ("fs", Files(abi.fs())),
+        ("net", Network(abi.net())),
     ];
     object_line(alloc, &members)
 }
@@ -36,18 +28,9 @@ fn group_line(alloc: Global, name: &str) -> Result<Vec<u8>, AllocError>
     ensures { IfOk result (λ line. line.items ≡ texts.group_line name.now) }
 {
     let members = [
-        Member {
-            name: "group",
-            value: Shown::Word(name),
-        },
-        Member {
-            name: "fs",
-            value: Shown::Files(Fs::group(name).unwrap_or(Fs::NONE)),
-        },
-        Member {
-            name: "net",
-            value: Shown::Network(Net::group(name).unwrap_or(Net::NONE)),
-        },
+        ("group", Word(name)),
+        ("fs", Files(Fs::group(name).unwrap_or(Fs::NONE))),
+        ("net", Network(Net::group(name).unwrap_or(Net::NONE))),
     ];
     object_line(alloc, &members)
 }
@@ -57,16 +40,7 @@ fn group_line(alloc: Global, name: &str) -> Result<Vec<u8>, AllocError>
 fn file_line(alloc: Global) -> Result<Vec<u8>, AllocError>
     ensures { IfOk result (λ line. line.items ≡ texts.file_line) }
 {
-    let members = [
-        Member {
-            name: "of",
-            value: Shown::Word("file"),
-        },
-        Member {
-            name: "fs",
-            value: Shown::Files(Fs::FILE),
-        },
-    ];
+    let members = [("of", Word("file")), ("fs", Files(Fs::FILE))];
     object_line(alloc, &members)
 }
 

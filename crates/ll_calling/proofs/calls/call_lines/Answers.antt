@@ -1,6 +1,8 @@
 use Rattle.std.proofs.Common.{◌≡◌, [], rules}
 use Rattle.ll_lines.specs.LineByLine.{line_view}
-use Rattle.ll_calling.proofs.Taken.{taken_none, taken_next, taken_all, taken_fault}
+use Rattle.ll_values.proofs.Answering.{fault_met}
+use Rattle.ll_calling.specs.PolicyLines.{policy_on}
+use Rattle.ll_calling.proofs.Taken.{taken_none, taken_next, taken_all}
 use Rattle.ll_calling.proofs.calls.call_lines.Goals as goal
 
 pub loop-line-init : goal.loop-line-init
@@ -15,8 +17,8 @@ loop-line-preserved c =
 pub returns-in-Err-clause-fault : goal.returns-in-Err-clause-fault
 returns-in-Err-clause-fault c =
     rw c.fault.ensures
-    (taken_fault c.args.abi c.args.bytes.now c.loop-line.line-iterator (line_view c.in-Some.line) c.next.new.self _ _ c.in-Err.cause
-    c.in-Some.ensures.steps c.loop-line.invariant c.in-Err.ensures.fault)
+    (fault_met policy_on c.args.bytes.now c.loop-line.line-iterator (line_view c.in-Some.line) c.next.new.self _ c.in-Err.cause
+    c.in-Some.ensures.steps c.loop-line.invariant.reads c.in-Err.ensures.fault)
 
 pub returns-clause-calls : goal.returns-clause-calls
 returns-clause-calls c =
