@@ -1,9 +1,9 @@
 //! Laws on command lines, which follow from the definitions.
 
-ghost use Rattle.std.specs.Prelude.{◌≡◌, ◌++◌, ◌∷◌, ◌↔◌, List, [], Some, IsSome, codes, false, option_map, true};
+ghost use Rattle.std.specs.Prelude.{◌≡◌, ◌++◌, ◌∷◌, ◌↔◌, List, [], Some, IsSome, codes, option_map, true};
 ghost use Rattle.clap.specs.declared.error.kind.ErrorKind.TheVariants as kind;
 ghost use Rattle.ll_rights.specs.declared.abi.Abi.TheVariants.{V1, V4, V5};
-ghost use Rattle.ll_report.specs.declared.options.Format.TheVariants.{Json};
+ghost use Rattle.ll_report.specs.declared.options.{Format.TheVariants.Json, TheConstants.ALL_LINES};
 ghost use Rattle.ll_trace.specs.declared.trace.Effort.TheVariants.{Best};
 ghost use Rattle.ll_command.specs.Command.{Text, faults, newer_digit, plain_request, plainly, request_of};
 
@@ -25,42 +25,22 @@ pub fn command_lines()
     ensures refused { option_map (λ asked. asked.options.shown)
         (request_of (codes "landaudit" ∷ codes "--abi" ∷ codes "4" ∷ codes "--refused"
         ∷ codes "t" ∷ codes "r" ∷ []))
-        ≡ Some (record {
-          explanations = false;
-          refused_alone = true;
-          differing_alone = false;
-          kinds = false;
-        }) }
+        ≡ Some (record ALL_LINES { refused_alone = true }) }
     ensures explained { option_map (λ asked. asked.options.shown)
         (request_of (codes "landaudit" ∷ codes "--abi" ∷ codes "4" ∷ codes "t"
         ∷ codes "r" ∷ codes "--explain" ∷ []))
-        ≡ Some (record {
-          explanations = true;
-          refused_alone = false;
-          differing_alone = false;
-          kinds = false;
-        }) }
+        ≡ Some (record ALL_LINES { explanations = true }) }
     ensures range { option_map (λ asked. asked.options.abis)
         (request_of (codes "landaudit" ∷ codes "--abi" ∷ codes "1-5" ∷ codes "t"
         ∷ codes "r" ∷ [])) ≡ Some (record { oldest = V1; newest = V5 }) }
     ensures differing { option_map (λ asked. asked.options.shown)
         (request_of (codes "landaudit" ∷ codes "--abi" ∷ codes "1-5" ∷ codes "--differs"
         ∷ codes "t" ∷ codes "r" ∷ []))
-        ≡ Some (record {
-          explanations = false;
-          refused_alone = false;
-          differing_alone = true;
-          kinds = false;
-        }) }
+        ≡ Some (record ALL_LINES { differing_alone = true }) }
     ensures kinds { option_map (λ asked. asked.options.shown)
         (request_of (codes "landaudit" ∷ codes "--abi" ∷ codes "4" ∷ codes "--kinds" ∷ codes "t"
         ∷ codes "r" ∷ []))
-        ≡ Some (record {
-          explanations = false;
-          refused_alone = false;
-          differing_alone = false;
-          kinds = true;
-        }) }
+        ≡ Some (record ALL_LINES { kinds = true }) }
     ensures json { option_map (λ asked. asked.options.format)
         (request_of (codes "landaudit" ∷ codes "--abi" ∷ codes "4" ∷ codes "t" ∷ codes "--json"
         ∷ codes "r" ∷ [])) ≡ Some Json }

@@ -1,6 +1,7 @@
-use Rattle.std.proofs.Common.{◌≡◌, ◌∙◌, ◌∷◌, ◌||◌, [], List, Bool, false, true, ap, codes, fold, map, refl, sym}
+use Rattle.std.proofs.Common.{◌≡◌, ◌∙◌, ◌∷◌, [], List, false, ap, codes, fold, map, sym}
 use Rattle.std.specs.List.{list_any}
 use Rattle.std.proofs.lemmas.Result.{IfOk-weaker}
+use Rattle.std.proofs.lemmas.Bool.{or_parts}
 use Rattle.clap.specs.declared.builder.arg.Arg.{Arg}
 use Rattle.clap.specs.declared.builder.command.Command.{Command}
 use Rattle.clap.specs.Simple.{app_of_fields}
@@ -8,16 +9,12 @@ use Rattle.clap.specs.Words.{AddsArg, AddsInTurn, app_of, new_app, rule_of, with
 use Rattle.ll_command.specs.Command as spec
 use Rattle.ll_command.proofs.command.command.Goals as goal
 
-neither : (a b : Bool) → (a || b) ≡ false → (a ≡ false) × (b ≡ false)
-neither true b none = cc
-neither false b none = (refl, none)
-
 -- arguments that are added in turn add their rules
 added : (xs : List Arg) (old new : Command) → AddsInTurn AddsArg old xs new → list_any (λ a. a.global) xs ≡ false
     → app_of new ≡ fold with_rule (app_of old) (map rule_of xs)
 added [] old new adds local = ap app_of (sym adds)
 added (x ∷ xs) old new (middle, first, others) local =
-    let both = neither x.global (list_any (λ a. a.global) xs) local in
+    let both = or_parts x.global (list_any (λ a. a.global) xs) local in
     added xs middle new others both.1 ∙ ap (λ app. fold with_rule app (map rule_of xs)) (first.shape both.0)
 
 pub returns : goal.returns
