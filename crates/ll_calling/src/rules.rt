@@ -3,7 +3,6 @@
 ghost use Rattle.std.specs.Prelude.{◌≡◌};
 ghost use Rattle.serde_json.specs.View.{view};
 ghost use Rattle.ll_lines.specs.Readers.{Reads};
-ghost use Rattle.ll_tree.specs.TreeReading.{kind_named};
 ghost use Rattle.ll_fitting.specs.declared.written.PortRule as port_rule;
 ghost use Rattle.ll_calling.specs.PolicyLines as lines;
 ghost use Rattle.ll_calling.specs.Seen.{rule_seen};
@@ -12,7 +11,8 @@ use crate::access::access_of;
 use crate::lists::Listed;
 use ll_fitting::{Access, Parent, PathRule, PortRule};
 use ll_lines::Cause;
-use ll_rights::{Fs, Kind, RightSet};
+use ll_rights::{Fs, RightSet};
+use ll_tree::kind_of;
 use ll_values::{number_of, text_in_list, text_of};
 use serde_json::Value;
 use std::alloc::Global;
@@ -22,23 +22,6 @@ use std::alloc::Global;
 pub struct RuleRead {
     pub rule: PathRule,
     pub path: String,
-}
-
-/// The kind of a name.
-#[tactic(auto, unfolding(ll_tree::specs::TreeReading::kind_named))]
-fn kind_of(name: &str) -> Option<Kind>
-    ensures { result ≡ kind_named name.now }
-{
-    match name {
-        "dir" => Some(Kind::Dir),
-        "reg" => Some(Kind::Reg),
-        "sym" => Some(Kind::Sym),
-        "char" => Some(Kind::Char),
-        "block" => Some(Kind::Block),
-        "fifo" => Some(Kind::Fifo),
-        "sock" => Some(Kind::Sock),
-        _ => None,
-    }
 }
 
 /// What is at the path of a rule.

@@ -13,7 +13,7 @@ use ll_rights::Kind;
 
 /// The kind that a name stands for.
 #[tactic(auto, unfolding(crate::specs::TreeReading::kind_named))]
-fn kind_of(name: &str) -> Option<Kind>
+pub fn kind_of(name: &str) -> Option<Kind>
     ensures { result ≡ kind_named name.now }
 {
     match name {
