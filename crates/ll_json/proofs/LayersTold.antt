@@ -3,7 +3,6 @@ use Rattle.std.proofs.Common.{◌≡◌, ◌∙◌, ℕ, ◌<◌, Bool, true, fa
 use Rattle.std.proofs.Common.{append_assoc, arith}
 use Rattle.std.specs.Prelude.{All, ◌-◌, slice_get}
 use Rattle.std.proofs.lemmas.Bool.{ne_eqb}
-use Rattle.std.proofs.lemmas.List.Elements.{All-head, All-tail}
 use Rattle.json.specs.Token as token
 use Rattle.json.specs.Token.{Token}
 use Rattle.json.specs.Tree.{json_tokens}
@@ -11,6 +10,7 @@ use Rattle.ll_tree.specs.Trees.{Entry}
 use Rattle.ll_trace.specs.declared.op.Record.{Record}
 use Rattle.ll_reasons.specs.Objections.{Objection}
 use Rattle.ll_explanations.specs.Meanings.{IsMade, by_layer, in_front, objection_in}
+use Rattle.ll_explanations.proofs.Grouping.{Groups, fronted, grouped, later_of, same_of}
 use Rattle.ll_explanations.specs.declared.objection.LayerObjection.{LayerObjection}
 use Rattle.ll_json.specs.Layering.{ending, head_of, next_tokens, objections_from, opening}
 use Rattle.ll_json.specs.Parts.{values_tokens}
@@ -18,9 +18,6 @@ use Rattle.ll_json.specs.Why.{layer_json, objection_json}
 use Rattle.ll_json.proofs.Enclosing.{values_end}
 
 module _ (tree : List Entry) (records : List Record) (layers : List ℕ) where
-  abbrev Groups : Type 0
-  Groups = List (ℕ × List Objection)
-
   abbrev tail : List Token
   tail = token.end_array ∷ token.end_object ∷ []
 
@@ -52,6 +49,14 @@ module _ (tree : List Entry) (records : List Record) (layers : List ℕ) where
   unfolding ending
   ended layer positive = rw (ne_eqb layer 0 (λ zero. absurd (omega (arith, zero, positive)))) refl
 
+  rest_is : (layer : ℕ) (groups : Groups) → 0 < layer → rest_of layer groups ≡ each (same_of layer groups) ++ (tail ++ all_of (later_of layer groups))
+  rest_is layer [] positive = ended layer positive
+  rest_is layer (g ∷ gs) positive = go (eqb g.0 layer) where
+    go : (b : Bool) → cond b (each g.1 ++ (tail ++ all_of gs)) (ending layer ++ all_of (g ∷ gs))
+        ≡ each (cond b g.1 []) ++ (tail ++ all_of (cond b gs (g ∷ gs)))
+    go true = refl
+    go false = ap (λ t. t ++ all_of (g ∷ gs)) (ended layer positive)
+
   regrouped : (e h w b t f : List Token) → ((e ++ h) ++ w) ++ (b ++ (t ++ f)) ≡ e ++ ((h ++ ((w ++ b) ++ t)) ++ f)
   regrouped e h w b t f =
       append_assoc (e ++ h) w (b ++ (t ++ f)) ∙ append_assoc e h (w ++ (b ++ (t ++ f)))
@@ -80,46 +85,21 @@ module _ (tree : List Entry) (records : List Record) (layers : List ℕ) where
 
   -- an objection in front of groups joins the first of them, or is a group of its own
   next_written : (before : ℕ) (one : LayerObjection) (groups : Groups) → IsMade layers one →
-      next_tokens tree records before one ++ rest_of one.layer groups
-      ≡ rest_of before (in_front one.layer (objection_in tree one.objection) groups)
-  unfolding in_front
-  next_written before one [] made = ap (λ t. next_tokens tree records before one ++ t) (ended one.layer made.0) ∙ one_written before one [] [] made
-  next_written before one (g ∷ gs) made = go (eqb g.0 one.layer) where
-    o : Objection
-    o = objection_in tree one.objection
-
-    go : (b : Bool) → next_tokens tree records before one ++ cond b (each g.1 ++ (tail ++ all_of gs)) (ending one.layer ++ all_of (g ∷ gs))
-        ≡ rest_of before (cond b ((one.layer, o ∷ g.1) ∷ gs) ((one.layer, o ∷ []) ∷ g ∷ gs))
-    go true = one_written before one g.1 gs made
-    go false =
-        ap (λ t. next_tokens tree records before one ++ (t ++ all_of (g ∷ gs))) (ended one.layer made.0)
-        ∙ one_written before one [] (g ∷ gs) made
-
-  written_from : (before : ℕ) (all : List LayerObjection) → All (IsMade layers) all
-      → objections_from tree records before all ≡ rest_of before (by_layer tree all)
-  unfolding objections_from by_layer
-  written_from before [] made = refl
-  written_from before (one ∷ more) made =
-      ap (λ t. next_tokens tree records before one ++ t) (written_from one.layer more (All-tail (IsMade layers) one more made))
-      ∙ next_written before one (by_layer tree more) (All-head (IsMade layers) one more made)
+      next_tokens tree records before one ++ rest_of one.layer groups ≡ rest_of before (in_front one.layer (objection_in tree one.objection) groups)
+  next_written before one groups made =
+      ap (λ t. next_tokens tree records before one ++ t) (rest_is one.layer groups made.0)
+      ∙ one_written before one (same_of one.layer groups) (later_of one.layer groups) made
+      ∙ ap (rest_of before) (sym (fronted one.layer (objection_in tree one.objection) groups))
 
   -- no layer is before the first
-  first_begun : (layer : ℕ) (os : List Objection) (gs : Groups) → 0 < layer → rest_of 0 ((layer, os) ∷ gs) ≡ all_of ((layer, os) ∷ gs)
+  begun : (one : LayerObjection) (groups : Groups) → IsMade layers one →
+      rest_of 0 (in_front one.layer (objection_in tree one.objection) groups) ≡ all_of (in_front one.layer (objection_in tree one.objection) groups)
   unfolding ending
-  first_begun layer os gs positive = rw (ne_eqb layer 0 (λ zero. absurd (omega (arith, zero, positive)))) refl
-
-  begun : (layer : ℕ) (o : Objection) (groups : Groups) → 0 < layer → rest_of 0 (in_front layer o groups) ≡ all_of (in_front layer o groups)
-  unfolding in_front
-  begun layer o [] positive = first_begun layer (o ∷ []) [] positive
-  begun layer o (g ∷ gs) positive = go (eqb g.0 layer) where
-    go : (b : Bool) → rest_of 0 (cond b ((layer, o ∷ g.1) ∷ gs) ((layer, o ∷ []) ∷ g ∷ gs))
-        ≡ all_of (cond b ((layer, o ∷ g.1) ∷ gs) ((layer, o ∷ []) ∷ g ∷ gs))
-    go true = first_begun layer (o ∷ g.1) gs positive
-    go false = first_begun layer (o ∷ []) (g ∷ gs) positive
+  begun one groups made =
+      rw (fronted one.layer (objection_in tree one.objection) groups, ne_eqb one.layer 0 (λ zero. absurd (omega (arith, zero, made.0)))) refl
 
   pub all_written : (all : List LayerObjection) → All (IsMade layers) all → objections_from tree records 0 all ≡ all_of (by_layer tree all)
-  unfolding objections_from by_layer ending
-  all_written [] made = refl
-  all_written (one ∷ more) made =
-      written_from 0 (one ∷ more) made
-      ∙ begun one.layer (objection_in tree one.objection) (by_layer tree more) (All-head (IsMade layers) one more made).0
+  unfolding objections_from ending
+  all_written =
+      grouped tree layers (next_tokens tree records) (objections_from tree records) rest_of all_of (λ before. refl) (λ before one more. refl)
+      next_written refl begun

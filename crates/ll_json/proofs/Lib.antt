@@ -7,7 +7,6 @@ pub mod LayersTold
 pub mod NumbersTold
 pub mod Meant
 pub mod SpansSaid
-pub mod RowsMade
 pub mod Judged
 pub mod RowsTold
 pub mod Visible

@@ -8,22 +8,20 @@ ghost use Rattle.json.specs.Tree.{json_tokens};
 ghost use Rattle.ll_semantics.specs.declared.answer.Answer.TheVariants.{Refused};
 ghost use Rattle.ll_tree.specs.Trees.{Entry};
 ghost use Rattle.ll_explanations.specs.InTree.{IsExplanationIn};
-ghost use Rattle.ll_explanations.specs.Meanings.{condition_in, explanation_in};
-ghost use Rattle.ll_explanations.specs.Meant.{reason_in};
+ghost use Rattle.ll_explanations.specs.Meanings.{explanation_in};
 ghost use Rattle.ll_report.specs.Lines as spec;
 ghost use Rattle.ll_report.specs.Versions.{answered};
 ghost use Rattle.ll_json.specs.Parts.{array_of, named_tokens, values_tokens};
 ghost use Rattle.ll_json.specs.Records.{bare_layer, why_members};
 ghost use Rattle.ll_json.specs.Values.{among_tokens, answer_tokens, layers_tokens, plain_members};
 ghost use Rattle.ll_json.specs.Writing.{writing};
-ghost use Rattle.ll_json.specs.Why.{condition_json, reason_json};
 
 use crate::conditions::write_condition;
 use crate::json_text::JsonText;
 use crate::objections::write_layers;
 use crate::reasons::write_reason;
 use crate::words::{write_number, write_text};
-use ll_explanations::{Condition, Explanation, Reason};
+use ll_explanations::Explanation;
 use ll_report::{FindingAt, error_name};
 use ll_rules::{Errno, LayerSet, MOST_LAYERS};
 use ll_semantics::Answer;
@@ -90,25 +88,6 @@ fn write_layers_of(
     }
 }
 
-/// Writes a member that is a condition.
-fn write_failure(out: &mut JsonText, op: &Op, condition: &Condition)
-    ensures { out.new ≡ writing out.old
-        (token.key (codes "why") ∷ json_tokens (condition_json
-        (condition_in op.now condition.now))) }
-{
-    out.write_key("why");
-    write_condition(out, op, condition);
-}
-
-/// Writes a member that is a reason.
-fn write_mootness(out: &mut JsonText, op: &Op, reason: &Reason)
-    ensures { out.new ≡ writing out.old
-        (token.key (codes "why") ∷ json_tokens (reason_json (reason_in op.now reason.now))) }
-{
-    out.write_key("why");
-    write_reason(out, op, reason);
-}
-
 /// Writes why a call fails by no layer, or why the policy isn't asked, where this is explained.
 #[tactic(auto, unfolding(crate::specs::Writing::writing, crate::specs::Records::why_members, ll_explanations::specs::Meanings::explanation_in))]
 fn write_why(out: &mut JsonText, op: &Op, explanation: &Explanation)
@@ -117,8 +96,14 @@ fn write_why(out: &mut JsonText, op: &Op, explanation: &Explanation)
 {
     match explanation {
         Explanation::Nothing | Explanation::Objections(_) | Explanation::Mootness(None) => {}
-        Explanation::Failure(condition) => write_failure(out, op, condition),
-        Explanation::Mootness(Some(reason)) => write_mootness(out, op, reason),
+        Explanation::Failure(condition) => {
+            out.write_key("why");
+            write_condition(out, op, condition);
+        }
+        Explanation::Mootness(Some(reason)) => {
+            out.write_key("why");
+            write_reason(out, op, reason);
+        }
     }
 }
 
@@ -150,16 +135,6 @@ fn write_refused(
     write_why(out, op, explanation);
 }
 
-/// Writes how a moot record is answered, and why.
-fn write_moot(out: &mut JsonText, op: &Op, explanation: &Explanation)
-    ensures { (tree : List Entry) → out.new ≡ writing out.old
-        (token.key (codes "answer") ∷ token.string (codes "moot")
-        ∷ named_tokens (why_members (explanation_in tree op.now explanation.now))) }
-{
-    write_text(out, "answer", "moot");
-    write_why(out, op, explanation);
-}
-
 /// Writes how a record is answered, and why.
 #[tactic(auto, unfolding(crate::specs::Writing::writing, crate::specs::Values::answer_tokens))]
 pub(crate) fn write_answer_members(
@@ -175,7 +150,10 @@ pub(crate) fn write_answer_members(
 {
     match answer {
         Answer::Allowed => write_text(out, "answer", "allowed"),
-        Answer::Moot => write_moot(out, op, explanation),
+        Answer::Moot => {
+            write_text(out, "answer", "moot");
+            write_why(out, op, explanation);
+        }
         Answer::Refused(error, numbers) => {
             write_refused(out, here, op, error, numbers, explanation)
         }

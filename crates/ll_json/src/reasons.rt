@@ -72,14 +72,6 @@ fn kind_name(kind: Kind) -> &'static str
     }
 }
 
-/// Writes a member that is the name of a kind.
-fn write_kind_as(out: &mut JsonText, kind: Kind)
-    ensures { out.new ≡ writing out.old
-        (token.key (codes "kind") ∷ token.string (spec.kind_name kind) ∷ []) }
-{
-    write_text(out, "kind", kind_name(kind));
-}
-
 /// Writes of what kind the object of the first path is.
 fn write_kind(out: &mut JsonText, op: &Op, kind: Kind)
     ensures { out.new ≡ writing out.old (json_tokens (by_reason (codes "of_kind")
@@ -88,7 +80,7 @@ fn write_kind(out: &mut JsonText, op: &Op, kind: Kind)
 {
     begin_by(out, "reason", "of_kind");
     write_which(out, "path", op, Which::First);
-    write_kind_as(out, kind);
+    write_text(out, "kind", kind_name(kind));
     out.end_object();
 }
 

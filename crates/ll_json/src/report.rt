@@ -7,14 +7,14 @@ ghost use Rattle.ll_json.specs.{Reports.IsJsonReport, Rows.kind_head};
 ghost use Rattle.ll_json.specs.Judged.{AreFound};
 ghost use Rattle.ll_json.specs.Versions.{Version};
 
-use crate::rows::{push_kind_head, push_line};
+use crate::json_text::JsonText;
+use crate::rows::{push_row, write_kind};
 use crate::totals::push_last;
-use ll_explain::TextBuffer;
+use ll_explain::{TextBuffer, push_words};
 use ll_report::{
-    Audited, FindingsAt, Grouped, KindRows, Pages, RowReport, Rows, Shown, TooLong, is_left_out,
+    Audited, FindingsAt, Grouped, KindRows, Pages, RowReport, Rows, Shown, TooLong,
     refused_under_some,
 };
-use ll_trace::Located;
 use std::alloc::{AllocError, Global};
 use std::marker::Model;
 
@@ -47,32 +47,21 @@ impl<'p> Rows for JsonRows<'p> {
     ghost made_of = { λ made. made };
 
     fn count(&self) -> usize {
-        self.audited.located.trace.records().len()
+        self.audited.count()
     }
 
     fn push_row(&mut self, text: &mut TextBuffer, index: usize) -> Result<(), TooLong> {
         let Audited { located, findings } = &self.audited;
-        let Located { tree, trace, .. } = located;
-        let records = trace.records();
-        let found = &records[index];
-        let row = FindingsAt {
-            tree,
-            records,
-            findings,
-            index,
-        };
-        let out = is_left_out(self.shown, &row, &mut self.pages)?;
-        if out {
-            return Ok(());
+        let records = located.trace.records();
+        if let Some(record) = records.get(index) {
+            let row = FindingsAt {
+                tree: &located.tree,
+                records,
+                findings,
+                index,
+            };
+            push_row(text, &mut self.pages, &row, record, self.shown, self.oldest)?;
         }
-        push_line(
-            text,
-            &mut self.pages,
-            &row,
-            found,
-            self.shown.kinds,
-            self.oldest,
-        )?;
         Ok(())
     }
 
@@ -90,13 +79,17 @@ impl<'p> KindRows for JsonRows<'p> {
     ghost head = { kind_head };
 
     fn line(&self, index: usize) -> u64 {
-        self.audited.located.trace.records()[index].line
+        self.audited.line(index)
     }
 
+    #[tactic(auto, using(crate::proofs::Printed::printed, ll_explain::proofs::Buffering::adding_both))]
     fn push_head(text: &mut TextBuffer, records: u64, line: u64)
         ensures { text.new ≡ adding text.old (kind_head records line) }
     {
-        push_kind_head(text, records, line);
+        let mut out = JsonText::behind(text.take());
+        write_kind(&mut out, records, line);
+        *text = out.into_text();
+        push_words(text, ",");
     }
 }
 
@@ -116,7 +109,7 @@ pub fn json_report<'p>(
         → IsJsonReport shown audited.located.tree oldest versions audited.located.trace
         program.now report) }
 {
-    let refused = refused_under_some(&audited.findings, audited.located.trace.records().len());
+    let refused = refused_under_some(&audited.findings, audited.count());
     let rows = JsonRows {
         audited,
         shown,

@@ -7,16 +7,16 @@ ghost use Rattle.ll_explain.specs.Buffers.{adding};
 ghost use Rattle.ll_report.specs.Printed.{texts_of};
 ghost use Rattle.ll_report.specs.Calls.{paths_in, port_in};
 ghost use Rattle.ll_json.specs.Parts.{named_tokens};
-ghost use Rattle.ll_json.specs.Records.{call_members, paths_members, port_members};
-ghost use Rattle.ll_json.specs.Rows.{call_tokens, head_tokens, kind_head, kind_tokens, line_of, opening_tokens, said_of};
+ghost use Rattle.ll_json.specs.Records.{paths_members, port_members};
+ghost use Rattle.ll_json.specs.Rows.{call_tokens, head_tokens, kind_tokens, line_of, opening_tokens, row_text, said_of};
 ghost use Rattle.ll_json.specs.Writing.{writing};
 
 use crate::json_text::JsonText;
 use crate::spans::push_answers;
 use crate::words::{write_number, write_text};
 use ll_explain::{TextBuffer, push_words};
-use ll_report::{FindingsAt, Named, Pages, TooLong};
-use ll_trace::{Op, Record};
+use ll_report::{FindingsAt, Named, Pages, Shown, TooLong, is_left_out};
+use ll_trace::Record;
 
 /// Writes which record a line is about.
 fn write_head(out: &mut JsonText, found: &Record)
@@ -59,19 +59,13 @@ fn write_named(out: &mut JsonText, named: Named<'_>)
     }
 }
 
-/// Writes the members of a call.
-fn write_call_members(out: &mut JsonText, op: &Op)
-    ensures { out.new ≡ writing out.old (named_tokens (call_members op.now)) }
-{
-    write_text(out, "op", op.name());
-    write_named(out, Named::by(op));
-}
-
 /// Writes a call, to the bracket before its answers.
+#[tactic(auto, using(crate::proofs::Writing::writing_both))]
 fn write_call(out: &mut JsonText, found: &Record)
     ensures { out.new ≡ writing out.old (call_tokens found.now) }
 {
-    write_call_members(out, &found.op);
+    write_text(out, "op", found.op.name());
+    write_named(out, Named::by(&found.op));
     out.write_key("answers");
     out.begin_array();
 }
@@ -91,7 +85,7 @@ fn push_opening(text: &mut TextBuffer, kinds: bool, found: &Record)
 }
 
 /// Writes how many records are of a kind, and the line of the first.
-fn write_kind(out: &mut JsonText, records: u64, line: u64)
+pub(crate) fn write_kind(out: &mut JsonText, records: u64, line: u64)
     ensures { out.new ≡ writing out.old (kind_tokens records line) }
 {
     out.begin_object();
@@ -99,21 +93,10 @@ fn write_kind(out: &mut JsonText, records: u64, line: u64)
     write_number(out, "line", line);
 }
 
-/// Adds what is before the call on the line of a kind.
-#[tactic(auto, using(crate::proofs::Printed::printed, ll_explain::proofs::Buffering::adding_both))]
-pub(crate) fn push_kind_head(text: &mut TextBuffer, records: u64, line: u64)
-    ensures { text.new ≡ adding text.old (kind_head records line) }
-{
-    let mut out = JsonText::behind(text.take());
-    write_kind(&mut out, records, line);
-    *text = out.into_text();
-    push_words(text, ",");
-}
-
 /// Adds the line of a record, or its end from the call on where kinds are shown, with the answers of neighbouring
 /// versions, of which the oldest has this number.
 #[tactic(auto, using(ll_explain::proofs::Buffering::adding_both))]
-pub(crate) fn push_line(
+fn push_line(
     text: &mut TextBuffer,
     pages: &mut Pages,
     row: &FindingsAt<'_>,
@@ -128,5 +111,27 @@ pub(crate) fn push_line(
     push_opening(text, kinds, found);
     push_answers(text, pages, row, oldest)?;
     push_words(text, "]}\n");
+    Ok(())
+}
+
+/// Adds the row of a record, unless it is left out.
+#[tactic(auto, using(ll_explain::proofs::Buffering::adding_nothing))]
+pub(crate) fn push_row(
+    text: &mut TextBuffer,
+    pages: &mut Pages,
+    row: &FindingsAt<'_>,
+    found: &Record,
+    shown: Shown,
+    oldest: u64,
+) -> Result<(), TooLong>
+    requires { oldest + length row.now.findings.now < 2 ^ 64 }
+    ensures { OnOk result (text.new ≡ adding text.old (row_text shown oldest row.now.tree.now
+        row.now.records.now row.now.findings.now row.now.index found.now)) }
+{
+    let out = is_left_out(shown, row, pages)?;
+    if out {
+        return Ok(());
+    }
+    push_line(text, pages, row, found, shown.kinds, oldest)?;
     Ok(())
 }

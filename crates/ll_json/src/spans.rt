@@ -26,24 +26,16 @@ fn write_versions(out: &mut JsonText, first: u64, last: u64)
     out.end_array();
 }
 
-/// Adds the beginning of an answer.
-#[tactic(auto, using(crate::proofs::Printed::printed))]
-fn push_versions(text: &mut TextBuffer, first: u64, last: u64)
-    ensures { text.new ≡ adding text.old (print (versions_tokens first last)) }
-{
-    let mut out = JsonText::behind(text.take());
-    write_versions(&mut out, first, last);
-    *text = out.into_text();
-}
-
 /// Adds the beginning of an answer, behind another one or the first of all, to the comma before its members.
-#[tactic(auto, using(ll_explain::proofs::Buffering::adding_both))]
+#[tactic(auto, using(crate::proofs::Printed::printed, ll_explain::proofs::Buffering::adding_both))]
 fn push_range(text: &mut TextBuffer, behind: bool, first: u64, last: u64)
     ensures { text.new ≡ adding text.old ((if behind then codes "," else [])
         ++ (print (versions_tokens first last) ++ codes ",")) }
 {
     push_words(text, if behind { "," } else { "" });
-    push_versions(text, first, last);
+    let mut out = JsonText::behind(text.take());
+    write_versions(&mut out, first, last);
+    *text = out.into_text();
     push_words(text, ",");
 }
 

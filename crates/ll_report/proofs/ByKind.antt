@@ -1,5 +1,5 @@
 -- The text of rows by kind is that of the kinds.
-use Rattle.std.proofs.Common.{◌≡◌, ◌∙◌, ◌++◌, ℕ, Bool, true, false, cond, List, [], ◌∷◌, refl, sym, ap, ap₂, length}
+use Rattle.std.proofs.Common.{◌≡◌, ◌++◌, ℕ, Bool, true, false, cond, List, [], ◌∷◌, refl, ap, length}
 use Rattle.std.specs.Prelude.{filter, if◌then◌else◌, map}
 use Rattle.std.specs.List.{flat_map, range_with_len}
 use Rattle.ll_trace.specs.declared.op.Record.{Record}
@@ -10,7 +10,7 @@ use Rattle.ll_report.specs.Kinds.{is_first, kind_from, kind_text, kinds_text}
 use Rattle.ll_report.specs.Made.{Made, line_numbers, rows_of, text_of}
 use Rattle.ll_report.specs.Rows.{kind_head, row_text, rows_from, rows_text, said_of, told_as, totals_text}
 use Rattle.ll_report.specs.Versions.{rows_made}
-use Rattle.ll_report.proofs.Making.{length-rows, rows_are}
+use Rattle.ll_report.proofs.Making.{rows_are}
 
 -- texts of those that pass a test, where others have none
 module _ {X : Type 0} (text : X → List ℕ) (h : ℕ → X) (p : ℕ → Bool) where
@@ -23,13 +23,6 @@ module _ {X : Type 0} (text : X → List ℕ) (h : ℕ → X) (p : ℕ → Bool)
           ≡ flat_map text (map h (cond b (x ∷ filter p xs) (filter p xs)))
       go true rest = ap (λ (t : List ℕ). text (h x) ++ t) rest
       go false rest = rest
-
--- as many rows as records
-pub as_many_rows : (shown : Shown) (oldest : ℕ) (founds : List Found) (records : List Record) (made : Made) → rows_made shown oldest founds records ≡ made
-    → length made.shown ≡ length records
-as_many_rows shown oldest founds records made is =
-    sym (ap (λ (m : Made). length m.shown) is)
-    ∙ length-rows (λ index r. row_text shown oldest founds index (told_as shown.kinds r)) 0 records
 
 pub text_by_kind : (head : ℕ → ℕ → List ℕ) (made : Made) → text_of (by_kind head made) ≡ kinds_text head made.lines made.shown ++ made.last
 text_by_kind head made =

@@ -8,6 +8,8 @@ use Rattle.std.proofs.lemmas.List.{drop_more, drop_all}
 use Rattle.std.proofs.lemmas.List.Concat.{flat_map-cons}
 use Rattle.std.proofs.lemmas.Option.{slice_get-get_or, slice_get_past, unwrap_or-slice_get}
 use Rattle.ll_trace.specs.declared.op.Record.{Record}
+use Rattle.ll_explain.specs.Buffers.{Buffered, adding}
+use Rattle.ll_explain.proofs.Buffering.{adding_nothing}
 use Rattle.ll_report.specs.declared.options.Shown.{Shown}
 use Rattle.ll_report.specs.Found.{Found}
 use Rattle.ll_report.specs.Rows.{row_text, rows_from, told_of}
@@ -50,36 +52,34 @@ row_is row index (suc k) (first ∷ others) r is =
     let next : index + 1 + k ≡ index + suc k = omega arith in
     row_is row (index + 1) k others r is ∙ ap (λ n. Some (row n r)) next
 
--- the row of the record at an index
-pub row_at_index : (row : ℕ → Record → List ℕ) (index : ℕ) (records : List Record) (r : Record) (last : List ℕ) → slice_get records index ≡ Some r
-    → row_at (record { lines = line_numbers records; shown = rows_of row 0 records; last = last }) index ≡ row index r
-row_at_index row index records r last is =
-    let none : 0 + index ≡ index = omega arith in
-    ap (λ found. unwrap_or found []) (row_is row 0 index records r is) ∙ ap (λ n. row n r) none
-
 pub next_rows : (row : ℕ → Record → List ℕ) (index : ℕ) (r : Record) (others : List Record)
     → flat_map (λ x. x) (rows_of row index (r ∷ others)) ≡ row index r ++ flat_map (λ x. x) (rows_of row (index + 1) others)
 unfolding rows_of
 next_rows row index r others = flat_map-cons (λ (x : List ℕ). x) (row index r) (rows_of row (index + 1) others)
 
--- no record, no row
-pub row_past : (row : ℕ → Record → List ℕ) (index : ℕ) (records : List Record) (last : List ℕ) → length records ≤ index
-    → row_at (record { lines = line_numbers records; shown = rows_of row 0 records; last = last }) index ≡ []
-row_past row index records last past =
-    ap (λ found. unwrap_or found []) (slice_get_past (rows_of row 0 records) index (omega (arith, past, length-rows row 0 records)))
+-- what rows of records are made of
+module _ (row : ℕ → Record → List ℕ) (records : List Record) (last : List ℕ) (made : Made)
+    (is : record { lines = line_numbers records; shown = rows_of row 0 records; last = last } ≡ made) where
+  pub as_many : length made.shown ≡ length records
+  as_many = sym (ap (λ (m : Made). length m.shown) is) ∙ length-rows row 0 records
 
--- the row that is found by looking for its record
-pub found_row : (row : ℕ → Record → List ℕ) (index : ℕ) (records found : List Record) (last : List ℕ) (r : Record) → found ≡ records
-    → true ≡ nat_lt index (length found) → r ≡ get_or found index r
-    → row_at (record { lines = line_numbers records; shown = rows_of row 0 records; last = last }) index ≡ row index r
-found_row row index records found last r are below is =
-    row_at_index row index records r last
-    (ap (λ rs. slice_get rs index) (sym are) ∙ slice_get-get_or found index r (ltb-true index (length found) (sym below)) ∙ ap (λ x. Some x) (sym is))
+  -- a row is added where its record is found by its index, and nothing where there is none
+  module _ (index : ℕ) (found : List Record) (are : found ≡ records) (text : Buffered) where
+    pub row_added : (after : Buffered) (r : Record) → true ≡ nat_lt index (length found) → r ≡ get_or found index r → after ≡ adding text (row index r)
+        → after ≡ adding text (row_at made index)
+    row_added after r below here added =
+        let there : slice_get found index ≡ Some r =
+        slice_get-get_or found index r (ltb-true index (length found) (sym below)) ∙ ap (λ x. Some x) (sym here) in
+        let same : 0 + index ≡ index = omega arith in
+        added
+        ∙ ap (λ n. adding text (row n r)) (sym same)
+        ∙ ap (λ x. adding text (unwrap_or x [])) (sym (row_is row 0 index records r (ap (λ rs. slice_get rs index) (sym are) ∙ there)))
+        ∙ ap (λ (m : Made). adding text (row_at m index)) is
 
-pub no_row : (row : ℕ → Record → List ℕ) (index : ℕ) (records found : List Record) (last : List ℕ) → found ≡ records
-    → false ≡ nat_lt index (length found) → row_at (record { lines = line_numbers records; shown = rows_of row 0 records; last = last }) index ≡ []
-no_row row index records found last are past =
-    row_past row index records last (omega (arith, ltb-false index (length found) (sym past), ap length are))
+    pub nothing_added : false ≡ nat_lt index (length found) → text ≡ adding text (row_at made index)
+    nothing_added past =
+        let behind : length made.shown ≤ index = omega (arith, as_many, ltb-false index (length found) (sym past), ap length are) in
+        adding_nothing text ∙ ap (λ x. adding text (unwrap_or x [])) (sym (slice_get_past made.shown index behind))
 
 -- the report is made of its rows
 pub rows_are : (shown : Shown) (oldest : ℕ) (founds : List Found) (index : ℕ) (records : List Record)

@@ -1,10 +1,10 @@
 -- Texts that are compared page after page.
-use Rattle.std.proofs.Common.{◌≡◌, ◌∙◌, ℕ, ◌+◌, ◌<◌, ◌≤◌, true, false, List, [], ◌++◌, length, take, drop, sym, ap, ap₂, arith, inl, inr}
+use Rattle.std.proofs.Common.{◌≡◌, ◌∙◌, ℕ, ◌+◌, ◌<◌, ◌≤◌, true, List, [], ◌++◌, length, take, drop, sym, ap, ap₂, arith, inl, inr}
 use Rattle.std.proofs.Common.{take-append-drop}
 use Rattle.std.specs.Prelude.{bytes_eq}
 use Rattle.std.proofs.Math.Nat.{le_of_lt}
 use Rattle.std.proofs.Math.Seq.{take-add}
-use Rattle.std.proofs.lemmas.Bool.{cases_Bool, cases_lt, false≢true}
+use Rattle.std.proofs.lemmas.Bool.{cases_lt}
 use Rattle.std.proofs.lemmas.List.{length-take-le, take_all}
 use Rattle.std.proofs.lemmas.Slice.Eq.{bytes_eq-Decides}
 use Rattle.ll_explain.specs.Buffers.{Buffered, adding, from_byte, most_counted}
@@ -20,16 +20,6 @@ put room skip text empty after low is_empty is =
     )
 
 module _ (room skip : ℕ) (a b page other : List ℕ) (here : page ≡ take room (drop skip a)) (there : other ≡ take room (drop skip b)) where
-  -- another page, another text
-  pub differs : bytes_eq page other ≡ false → false ≡ bytes_eq a b
-  differs apart = elim (cases_Bool (bytes_eq a b)) [
-    | inl same ↦
-        let texts : a ≡ b = (bytes_eq-Decides a b).0 same in
-        let pages : page ≡ other = here ∙ ap (λ t. take room (drop skip t)) texts ∙ sym there in
-        absurd (false≢true (sym apart ∙ (bytes_eq-Decides page other).1 pages))
-    | inr apart ↦ sym apart
-  ]
-
   pub same_page : bytes_eq page other ≡ true → take room (drop skip a) ≡ take room (drop skip b)
   same_page same = sym here ∙ (bytes_eq-Decides page other).0 same ∙ there
 

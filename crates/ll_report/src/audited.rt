@@ -1,7 +1,9 @@
 //! What an audit found, with the tree and the trace.
 
+ghost use Rattle.std.specs.Prelude.{◌≡◌, ◌<◌, get_or, length};
 ghost use Rattle.ll_findings.specs.InTree.{AreFindingsIn};
 ghost use Rattle.ll_report.specs.InTreeOnce.{AreFindingsIn-once};
+ghost use Rattle.ll_report.specs.Made.{line_numbers};
 
 use ll_findings::Findings;
 use ll_trace::Located;
@@ -13,4 +15,21 @@ pub struct Audited {
     pub located: Located,
     pub findings: Findings,
     pub ghost inside: { AreFindingsIn located.tree findings } by { AreFindingsIn-once located.tree findings },
+}
+
+impl Audited {
+    /// How many records there are.
+    pub fn count(&self) -> usize
+        ensures { result ≡ length self.now.located.trace }
+    {
+        self.located.trace.records().len()
+    }
+
+    /// The line of the record at an index.
+    pub fn line(&self, index: usize) -> u64
+        requires { index < length self.now.located.trace }
+        ensures { result ≡ get_or (line_numbers self.now.located.trace) index 0 }
+    {
+        self.located.trace.records()[index].line
+    }
 }

@@ -76,7 +76,7 @@ impl Rows for VersionRows {
     ghost made_of = { λ made. made };
 
     fn count(&self) -> usize {
-        self.audited.located.trace.records().len()
+        self.audited.count()
     }
 
     fn push_row(&mut self, text: &mut TextBuffer, index: usize) -> Result<(), TooLong> {
@@ -108,7 +108,7 @@ impl KindRows for VersionRows {
     ghost head = { kind_head };
 
     fn line(&self, index: usize) -> u64 {
-        self.audited.located.trace.records()[index].line
+        self.audited.line(index)
     }
 
     fn push_head(text: &mut TextBuffer, records: u64, line: u64) {
@@ -135,7 +135,7 @@ pub fn report_over(
         shown.explanations audited.located.tree audited.located.trace audited.findings)
         audited.located.trace) }
 {
-    let refused = refused_under_some(&audited.findings, audited.located.trace.records().len());
+    let refused = refused_under_some(&audited.findings, audited.count());
     let pages = Pages::new(alloc)?;
     let rows = VersionRows {
         audited,

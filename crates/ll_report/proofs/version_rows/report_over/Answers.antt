@@ -1,4 +1,4 @@
-use Rattle.std.proofs.Common.{◌∙◌, ◌++◌, List, ℕ, length, ap, count_by}
+use Rattle.std.proofs.Common.{◌∙◌, List, ℕ, length, ap, count_by}
 use Rattle.std.specs.List.{range_with_len}
 use Rattle.ll_trace.specs.declared.op.Record.{Record}
 use Rattle.ll_report.specs.Found.{Found}
@@ -22,5 +22,5 @@ returns-clause-refused c =
     let records : List Record = c.args.audited.located.trace in
     ap (λ (t : Told). t.refused) c.in_ok-report.ensures
     ∙ c.refused_under_some-refused.ensures
-    ∙ ap (λ (rs : List Record). count_by (some_refuses c.args.audited.findings) (range_with_len 0 (length rs))) c.records.ensures.value
+    ∙ ap (λ (n : ℕ). count_by (some_refuses c.args.audited.findings) (range_with_len 0 n)) c.count.ensures
     ∙ same_refused c.args.shown.explanations c.args.audited.located.tree records c.args.audited.findings (length records)

@@ -1,47 +1,18 @@
-use Rattle.std.proofs.Common.{◌≡◌, ◌∙◌, ◌<◌, ◌≤◌, List, ℕ, ap, arith, get_or, length, subst, sym}
-use Rattle.std.proofs.lemmas.List.{get_or-map}
-use Rattle.ll_trace.specs.declared.op.Record.{Record}
-use Rattle.ll_trace.specs.declared.reader.TheConstants.{MOST_RECORDS}
+use Rattle.std.proofs.Common.{◌∙◌, ◌<◌, ℕ, ap, get_or, subst}
 use Rattle.ll_report.specs.Made.{Made}
+use Rattle.ll_report.specs.Rows.{row_text, told_as}
 use Rattle.ll_report.specs.Versions.{founds_in}
-use Rattle.ll_report.proofs.ByKind.{as_many_rows}
+use Rattle.ll_report.proofs.Making.{as_many}
 use Rattle.ll_report.proofs.version_rows.VersionRowsKindRows.line.Goals as goal
 
-pub bounds-records-index : goal.bounds-records-index
-bounds-records-index c =
+pub line-requires : goal.line-requires
+line-requires c =
     let rows = c.self.inside in
-    let records : List Record = rows.audited.located.trace in
+    let all = rows.audited in
+    let founds = founds_in rows.shown.explanations all.located.tree all.located.trace all.findings in
     subst (λ (n : ℕ). c.args.index < n)
-    (as_many_rows rows.shown rows.oldest (founds_in rows.shown.explanations rows.audited.located.tree records rows.audited.findings) records
-    c.args.self.now c.self.view_is
-    ∙ ap (λ (rs : List Record). length rs) (sym c.records.ensures.value)) c.requires
-
-pub bounds-records-index-2 : goal.bounds-records-index-2
-bounds-records-index-2 c =
-    let rows = c.self.inside in
-    let records : List Record = rows.audited.located.trace in
-    subst (λ (n : ℕ). c.args.index < n)
-    (as_many_rows rows.shown rows.oldest (founds_in rows.shown.explanations rows.audited.located.tree records rows.audited.findings) records
-    c.args.self.now c.self.view_is
-    ∙ ap (λ (rs : List Record). length rs) (sym c.records.ensures.value)) c.requires
-
-pub offset_bounds-records-index : goal.offset_bounds-records-index
-offset_bounds-records-index c =
-    let rows = c.self.inside in
-    let records : List Record = rows.audited.located.trace in
-    let few : length records ≤ MOST_RECORDS = c.records.ensures.few in
-    let many : length c.args.self.now.shown ≡ length records =
-    as_many_rows rows.shown rows.oldest (founds_in rows.shown.explanations rows.audited.located.tree records rows.audited.findings) records
-    c.args.self.now c.self.view_is in
-    omega (arith, few, many, c.requires)
+    (as_many (λ k r. row_text rows.shown rows.oldest founds k (told_as rows.shown.kinds r)) all.located.trace _ c.args.self.now c.self.view_is)
+    c.requires
 
 pub returns : goal.returns
-returns c =
-    let rows = c.self.inside in
-    let records : List Record = rows.audited.located.trace in
-    let many : length c.args.self.now.shown ≡ length records =
-    as_many_rows rows.shown rows.oldest (founds_in rows.shown.explanations rows.audited.located.tree records rows.audited.findings) records
-    c.args.self.now c.self.view_is in
-    ap (λ (rs : List Record). (get_or rs c.args.index c.index-records-index.result).line) c.records.ensures.value
-    ∙ sym (get_or-map (λ (r : Record). r.line) records c.args.index c.index-records-index.result 0 (omega (arith, many, c.requires)))
-    ∙ ap (λ (m : Made). get_or m.lines c.args.index 0) c.self.view_is
+returns c = c.line.ensures ∙ ap (λ (made : Made). get_or made.lines c.args.index 0) c.self.view_is
