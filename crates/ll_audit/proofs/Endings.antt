@@ -14,6 +14,7 @@ use Rattle.ll_audit.specs.FaultLines.{failure_status}
 use Rattle.ll_audit.specs.Inputs.{Files}
 use Rattle.ll_audit.specs.Fronts.{EndsWithoutRun, HasFailure, HasWrongWords, IsOutcomeOf, Reports, StaysQuiet, TellsWhy, WritesNothing, WritesReport}
 use Rattle.ll_audit.specs.Outcomes.{EndsWith, Stream}
+use Rattle.ll_audit.specs.ShownReports.{told_in}
 use Rattle.ll_command.proofs.CommandLine.{asks_for_no_run}
 
 -- a failure's status is 3 or 4
@@ -40,83 +41,50 @@ by_test false = inr refl
 reporting : (refused status : ℕ) → status ≡ report_status refused → (status ≡ 0) ⊎ (status ≡ 1)
 reporting refused status is = subst (λ (n : ℕ). (n ≡ 0) ⊎ (n ≡ 1)) (sym is) (by_test (eqb refused 0))
 
--- statuses that are not one another
-low_high : (status : ℕ) → (status ≡ 0) ⊎ (status ≡ 1) → (status ≡ 3) ⊎ (status ≡ 4) → ⊥
-low_high status (inl a) (inl b) = omega (arith, a, b)
-low_high status (inl a) (inr b) = omega (arith, a, b)
-low_high status (inr a) (inl b) = omega (arith, a, b)
-low_high status (inr a) (inr b) = omega (arith, a, b)
-
-low_wrong : (status : ℕ) → (status ≡ 0) ⊎ (status ≡ 1) → (status ≡ 2) ⊎ (status ≡ 3) → ⊥
-low_wrong status (inl a) (inl b) = omega (arith, a, b)
-low_wrong status (inl a) (inr b) = omega (arith, a, b)
-low_wrong status (inr a) (inl b) = omega (arith, a, b)
-low_wrong status (inr a) (inr b) = omega (arith, a, b)
-
-low_two : (status : ℕ) → (status ≡ 0) ⊎ (status ≡ 1) → status ≡ 2 → ⊥
-low_two status (inl a) b = omega (arith, a, b)
-low_two status (inr a) b = omega (arith, a, b)
-
-two_high : (status : ℕ) → status ≡ 2 → (status ≡ 3) ⊎ (status ≡ 4) → ⊥
-two_high status a (inl b) = omega (arith, a, b)
-two_high status a (inr b) = omega (arith, a, b)
-
-low_bounded : (status : ℕ) → (status ≡ 0) ⊎ (status ≡ 1) → status ≤ 4
-low_bounded status (inl a) = omega (arith, a)
-low_bounded status (inr a) = omega (arith, a)
-
-high_bounded : (status : ℕ) → (status ≡ 3) ⊎ (status ≡ 4) → status ≤ 4
-high_bounded status (inl a) = omega (arith, a)
-high_bounded status (inr a) = omega (arith, a)
-
-four_wrong : (status : ℕ) → status ≡ 4 → (status ≡ 2) ⊎ (status ≡ 3) → ⊥
-four_wrong status a (inl b) = omega (arith, a, b)
-four_wrong status a (inr b) = omega (arith, a, b)
-
 abbrev pub stream : {Output : Type 0} → (Output → Option (List ℕ)) → Output → Output → Stream Output
 stream contents old new = record { contents = contents; old = old; new = new }
 
 module _ {Output Errors : Type 0} (out : Stream Output) (err : Stream Errors) (ending : Ending) where
   pub bounded : (one : Outcome) → EndsWith out err one ending → ending.status ≤ 4
-  bounded (outcome.Report report) (inl (why, _)) = high_bounded ending.status (inr why.0)
-  bounded (outcome.Report report) (inr written) = low_bounded ending.status (reporting report.refused ending.status written.0)
-  bounded (outcome.Text error) (inl why) = high_bounded ending.status (inr why.0)
+  bounded (outcome.Report report) (inl (why, _)) = omega (arith, why.0)
+  bounded (outcome.Report report) (inr written) = omega (arith, reporting (told_in report).refused ending.status written.0)
+  bounded (outcome.Text error) (inl why) = omega (arith, why.0)
   bounded (outcome.Text error) (inr written) = omega (arith, written.0)
   bounded (outcome.Usage error) ends = omega (arith, ends.0)
   bounded (outcome.Misuse misuse) ends = omega (arith, ends.0)
-  bounded (outcome.Failure one) ends = high_bounded ending.status (failing one ending.status ends.0.0)
+  bounded (outcome.Failure one) ends = omega (arith, failing one ending.status ends.0.0)
 
   pub stays_quiet : (one : Outcome) → EndsWith out err one ending → StaysQuiet ending.status err.old err.new
-  stays_quiet (outcome.Report report) (inl (why, _)) low = absurd (low_high ending.status low (inr why.0))
+  stays_quiet (outcome.Report report) (inl (why, _)) low = absurd (omega (arith, low, why.0))
   stays_quiet (outcome.Report report) (inr written) low = written.2
-  stays_quiet (outcome.Text error) (inl why) low = absurd (low_high ending.status low (inr why.0))
+  stays_quiet (outcome.Text error) (inl why) low = absurd (omega (arith, low, why.0))
   stays_quiet (outcome.Text error) (inr written) low = written.1
-  stays_quiet (outcome.Usage error) ends low = absurd (low_two ending.status low ends.0)
-  stays_quiet (outcome.Misuse misuse) ends low = absurd (low_two ending.status low ends.0)
-  stays_quiet (outcome.Failure one) ends low = absurd (low_high ending.status low (failing one ending.status ends.0.0))
+  stays_quiet (outcome.Usage error) ends low = absurd (omega (arith, low, ends.0))
+  stays_quiet (outcome.Misuse misuse) ends low = absurd (omega (arith, low, ends.0))
+  stays_quiet (outcome.Failure one) ends low = absurd (omega (arith, low, failing one ending.status ends.0.0))
 
 module _ {Output Errors : Type 0} (out : Stream Output) (err : Stream Errors) (words : List Text) (files : Option Files) (before after : ℕ)
     (ending : Ending) where
   pub writes_report : (one : Outcome) → IsOutcomeOf words files before after one → EndsWith out err one ending
       → WritesReport words files ending.status (out.contents out.old) (out.contents out.new)
-  writes_report (outcome.Report report) has (inl (why, _)) low request asked = absurd (low_high ending.status low (inr why.0))
+  writes_report (outcome.Report report) has (inl (why, _)) low request asked = absurd (omega (arith, low, why.0))
   writes_report (outcome.Report report) has (inr written) low request asked =
       let same : has.request ≡ request = same_Some has.request request (sym has.asked ∙ asked) in
-      (report, subst (λ (r : Request). Reports files r report) same has.reports, written.1, written.0)
+      (told_in report, subst (λ (r : Request). Reports files r (told_in report)) same has.reports, written.1, written.0)
   writes_report (outcome.Text error) help ends low request asked = absurd (none-some request (sym (asks_for_no_run words help) ∙ asked))
-  writes_report (outcome.Usage error) wrong ends low request asked = absurd (low_two ending.status low ends.0)
-  writes_report (outcome.Misuse misuse) wrong ends low request asked = absurd (low_two ending.status low ends.0)
-  writes_report (outcome.Failure one) has ends low request asked = absurd (low_high ending.status low (failing one ending.status ends.0.0))
+  writes_report (outcome.Usage error) wrong ends low request asked = absurd (omega (arith, low, ends.0))
+  writes_report (outcome.Misuse misuse) wrong ends low request asked = absurd (omega (arith, low, ends.0))
+  writes_report (outcome.Failure one) has ends low request asked = absurd (omega (arith, low, failing one ending.status ends.0.0))
 
   pub wrong_words : (one : Outcome) → IsOutcomeOf words files before after one → EndsWith out err one ending
       → HasWrongWords words ending.status
-  wrong_words (outcome.Report report) has (inl (why, _)) two = absurd (two_high ending.status two (inr why.0))
-  wrong_words (outcome.Report report) has (inr written) two = absurd (low_two ending.status (reporting report.refused ending.status written.0) two)
-  wrong_words (outcome.Text error) help (inl why) two = absurd (two_high ending.status two (inr why.0))
-  wrong_words (outcome.Text error) help (inr written) two = absurd (low_two ending.status (inl written.0) two)
+  wrong_words (outcome.Report report) has (inl (why, _)) two = absurd (omega (arith, two, why.0))
+  wrong_words (outcome.Report report) has (inr written) two = absurd (omega (arith, reporting (told_in report).refused ending.status written.0, two))
+  wrong_words (outcome.Text error) help (inl why) two = absurd (omega (arith, two, why.0))
+  wrong_words (outcome.Text error) help (inr written) two = absurd (omega (arith, written.0, two))
   wrong_words (outcome.Usage error) wrong ends two = wrong
   wrong_words (outcome.Misuse misuse) wrong ends two = wrong
-  wrong_words (outcome.Failure one) has ends two = absurd (two_high ending.status two (failing one ending.status ends.0.0))
+  wrong_words (outcome.Failure one) has ends two = absurd (omega (arith, two, failing one ending.status ends.0.0))
 
   no_run_failing : (one : Failure) → HasFailure words files before after one → ending.status ≡ failure_status one → request_of words ≡ None → ending.status ≡ 4
   no_run_failing one (inl memory) is none = is ∙ ap (λ (f : Failure). failure_status f) memory
@@ -134,23 +102,23 @@ module _ {Output Errors : Type 0} (out : Stream Output) (err : Stream Errors) (w
   pub writes_nothing : (one : Outcome) → IsOutcomeOf words files before after one → EndsWith out err one ending
       → WritesNothing out words files ending.status
   writes_nothing (outcome.Report report) has (inl (why, beginning)) =
-      (λ wrong. absurd (four_wrong ending.status why.0 wrong), λ _. inr (inr (report, has, beginning)))
+      (λ wrong. absurd (omega (arith, why.0, wrong)), λ _. inr (inr (told_in report, has, beginning)))
   writes_nothing (outcome.Report report) has (inr written) = (
-    λ wrong. absurd (low_wrong ending.status (reporting report.refused ending.status written.0) wrong),
-    λ four. absurd (low_high ending.status (reporting report.refused ending.status written.0) (inr four)),
+    λ wrong. absurd (omega (arith, reporting (told_in report).refused ending.status written.0, wrong)),
+    λ four. absurd (omega (arith, reporting (told_in report).refused ending.status written.0, four)),
   )
-  writes_nothing (outcome.Text error) help (inl why) = (λ wrong. absurd (four_wrong ending.status why.0 wrong), λ _. inr (inl help))
-  writes_nothing (outcome.Text error) help (inr written) = (λ wrong. absurd (low_wrong ending.status (inl written.0) wrong), λ _. inr (inl help))
+  writes_nothing (outcome.Text error) help (inl why) = (λ wrong. absurd (omega (arith, why.0, wrong)), λ _. inr (inl help))
+  writes_nothing (outcome.Text error) help (inr written) = (λ wrong. absurd (omega (arith, written.0, wrong)), λ _. inr (inl help))
   writes_nothing (outcome.Usage error) wrong ends = (λ _. ends.1, λ _. inl ends.1)
   writes_nothing (outcome.Misuse misuse) wrong ends = (λ _. ends.1, λ _. inl ends.1)
   writes_nothing (outcome.Failure one) has ends = (λ _. ends.1, λ _. inl ends.1)
 
   pub tells_why : (one : Outcome) → IsOutcomeOf words files before after one → EndsWith out err one ending
       → TellsWhy words files before after ending (err.contents err.old) (err.contents err.new)
-  tells_why (outcome.Report report) has (inl (why, _)) high = (failure.Unwritten, inr (refl, inr (report, has)), why)
-  tells_why (outcome.Report report) has (inr written) high = absurd (low_high ending.status (reporting report.refused ending.status written.0) high)
+  tells_why (outcome.Report report) has (inl (why, _)) high = (failure.Unwritten, inr (refl, inr (told_in report, has)), why)
+  tells_why (outcome.Report report) has (inr written) high = absurd (omega (arith, reporting (told_in report).refused ending.status written.0, high))
   tells_why (outcome.Text error) help (inl why) high = (failure.Unwritten, inr (refl, inl help), why)
-  tells_why (outcome.Text error) help (inr written) high = absurd (low_high ending.status (inl written.0) high)
-  tells_why (outcome.Usage error) wrong ends high = absurd (two_high ending.status ends.0 high)
-  tells_why (outcome.Misuse misuse) wrong ends high = absurd (two_high ending.status ends.0 high)
+  tells_why (outcome.Text error) help (inr written) high = absurd (omega (arith, written.0, high))
+  tells_why (outcome.Usage error) wrong ends high = absurd (omega (arith, ends.0, high))
+  tells_why (outcome.Misuse misuse) wrong ends high = absurd (omega (arith, ends.0, high))
   tells_why (outcome.Failure one) has ends high = (one, inl has, ends.0)

@@ -7,7 +7,6 @@ use Rattle.ll_rights.specs.Abis.{all_versions}
 use Rattle.ll_trace.specs.declared.located.Located.{Located}
 use Rattle.ll_report.specs.declared.options.Options.{Options}
 use Rattle.ll_audit.specs.declared.ranging.Progress.{Progress}
-use Rattle.ll_audit.specs.declared.ranging.Progress.TheVariants as progress
 use Rattle.ll_findings.specs.Findings.{FindingValue}
 use Rattle.ll_findings.proofs.TakenRecords.{all_taken}
 use Rattle.ll_json.specs.Judged.{AreFound}
@@ -53,10 +52,6 @@ module _ (options : Options) (located : Located) where
   -- what an audit comes to that has gone over the versions among some
   abbrev pub IsReached : List Abi → Progress → Type 0
   IsReached done reached = (findings : List FindingValue) → ComesTo options reached findings → Found (filter (is_in options.abis) done) findings
-
-  -- before the newest version
-  pub none_yet : IsReached [] progress.Begun
-  none_yet = λ findings none. subst (Found []) (sym none) tt
 
   -- the version below an index
   pub next_down : (all : List Abi) (index : ℕ) (other : Abi) (before next : Progress) → 0 < index → index ≤ length all → IsReached (drop index all) before

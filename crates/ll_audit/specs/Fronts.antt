@@ -15,7 +15,7 @@ use Rattle.ll_audit.specs.declared.outcome.Ending.{Ending}
 use Rattle.ll_audit.specs.declared.outcome.Outcome.{Outcome}
 use Rattle.ll_audit.specs.declared.outcome.Outcome.TheVariants as outcome
 use Rattle.ll_audit.specs.Audits.{ReadsAsTrace, ReadsAsTree}
-use Rattle.ll_audit.specs.ShownReports.{IsReportWith}
+use Rattle.ll_audit.specs.ShownReports.{IsReportWith, told_in}
 use Rattle.ll_command.specs.Command.{AreWrong, AskForText, Request, Text, request_of}
 use Rattle.ll_audit.specs.FaultLines.{failure_line, failure_status}
 use Rattle.ll_audit.specs.Inputs.{AreBytesOf, Files, HasFile, HasNoFile}
@@ -74,7 +74,7 @@ HasFailure words files before after one =
 
 -- what an outcome says of the words and of the files
 abbrev pub IsOutcomeOf : List Text → Option Files → ℕ → ℕ → Outcome → Type 0
-IsOutcomeOf words files before after (outcome.Report report) = HasReport words files report
+IsOutcomeOf words files before after (outcome.Report report) = HasReport words files (told_in report)
 IsOutcomeOf words files before after (outcome.Text error) = AskForText words
 IsOutcomeOf words files before after (outcome.Usage error) = AreWrong words
 IsOutcomeOf words files before after (outcome.Misuse why) = AreWrong words

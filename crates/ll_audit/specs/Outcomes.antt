@@ -11,6 +11,7 @@ use Rattle.ll_audit.specs.declared.lines.Failure.{Failure}
 use Rattle.ll_audit.specs.declared.lines.Failure.TheVariants.{Unwritten}
 use Rattle.ll_audit.specs.declared.outcome.Ending.{Ending}
 use Rattle.ll_audit.specs.FaultLines.{failure_line, failure_status}
+use Rattle.ll_audit.specs.ShownReports.{told_in}
 
 -- A failure has its status, and its line was appended to the lines on standard error, if it could be told, and else a
 -- beginning of it that isn't the line.
@@ -30,8 +31,8 @@ pub record Stream (Output : Type 0) : Type 0 where
 abbrev pub EndsWith : {Output Errors : Type 0} → Stream Output → Stream Errors → Outcome → Ending → Type 0
 EndsWith out err (outcome.Report report) ending =
     (Complains Unwritten ending (err.contents err.old) (err.contents err.new)
-    × AppendsBeginning (out.contents out.old) (out.contents out.new) report.text)
-    ⊎ ((ending.status ≡ report_status report.refused) × Appends (out.contents out.old) (out.contents out.new) report.text
+    × AppendsBeginning (out.contents out.old) (out.contents out.new) (told_in report).text)
+    ⊎ ((ending.status ≡ report_status (told_in report).refused) × Appends (out.contents out.old) (out.contents out.new) (told_in report).text
     × (err.new ≡ err.old))
 EndsWith out err (outcome.Text error) ending =
     Complains Unwritten ending (err.contents err.old) (err.contents err.new) ⊎ ((ending.status ≡ 0) × (err.new ≡ err.old))

@@ -22,8 +22,8 @@ use Rattle.ll_report.specs.declared.options.Options.{Options}
 use Rattle.ll_report.specs.declared.options.TheConstants.{ALL_LINES}
 use Rattle.ll_rights.specs.AbiRanges.{versions_in}
 use Rattle.ll_audit.specs.Audits.{BothRead}
-use Rattle.ll_audit.specs.declared.report_text.Form.{Form}
-use Rattle.ll_audit.specs.declared.report_text.Form.TheVariants as form
+use Rattle.ll_audit.specs.declared.report_text.ReportText.{ReportText}
+use Rattle.ll_audit.specs.declared.report_text.ReportText.TheVariants as form
 
 -- what is found of the records under a version
 abbrev pub found_at : Options → List Entry → List Record → Abi → Found
@@ -78,6 +78,6 @@ plain_options abi = record { abis = record { oldest = abi; newest = abi }; effor
 -- ---- what a report that is ready to be written tells
 
 -- in each of its forms
-abbrev pub told_in : Form → Told
+abbrev pub told_in : ReportText → Told
 told_in (form.Text report) = report
 told_in (form.Json report) = report

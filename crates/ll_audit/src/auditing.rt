@@ -6,7 +6,7 @@ ghost use Rattle.ll_tree.specs.TreeReading.{IsTreeOf};
 ghost use Rattle.ll_trace.specs.Records.{IsTrace};
 ghost use Rattle.ll_report.specs.Shown.{told_by};
 ghost use Rattle.ll_audit.specs.Audits.{IsWorkerCount, IsFaultOf, IsReport};
-ghost use Rattle.ll_audit.specs.ShownReports.{IsReportBy, IsReportWith};
+ghost use Rattle.ll_audit.specs.ShownReports.{IsReportBy, IsReportWith, told_in};
 ghost use Rattle.ll_audit.specs.Inputs.{trace_bytes, tree_bytes};
 ghost use Rattle.ll_audit.specs.Causes.{IsTraceFault, IsTreeFault, IsOutOfMemoryOrThreads};
 
@@ -14,7 +14,7 @@ use crate::cut::{Cut, cuts_of};
 use crate::fault::Fault;
 use crate::inputs::Inputs;
 use crate::ranging::{Audit, audit_all};
-use crate::report_text::{Form, ReportText};
+use crate::report_text::ReportText;
 use crate::workers::Workers;
 use ll_command::VERSION;
 use ll_json::json_report;
@@ -114,8 +114,8 @@ pub(crate) fn audit_inputs<R: Threads + Wait + Sync, G: Gate + Sync>(
     options: &Options,
     cut: Cut,
 ) -> Result<ReportText, Fault>
-    ensures report { IfOk result
-        (IsReportWith options.now (tree_bytes inputs.entry) (trace_bytes inputs.entry)) }
+    ensures report { IfOk result (λ report. IsReportWith options.now
+        (tree_bytes inputs.entry) (trace_bytes inputs.entry) (told_in report)) }
     ensures count { IfOk result (λ _. IsWorkerCount workers.now.count) }
     ensures fault { IfErr result
         (IsFaultOf workers.now.count (tree_bytes inputs.entry) (trace_bytes inputs.entry)) }
@@ -188,7 +188,8 @@ fn report_by<R: Threads + Wait + Sync, G: Gate + Sync>(
     cut: Cut,
 ) -> Result<ReportText, Fault>
     requires { IsWorkerCount workers.now.count }
-    ensures report { IfOk result (IsReportBy options.now tree trace) }
+    ensures report { IfOk result
+        (λ report. IsReportBy options.now tree trace (told_in report)) }
     ensures fault { IfErr result IsOutOfMemoryOrThreads }
 {
     let cuts = cuts_of(workers.alloc, &trace, cut)?;
@@ -207,7 +208,8 @@ fn report_in_form<R: Threads + Wait + Sync, G: Gate + Sync>(
     trace: Trace,
 ) -> Result<ReportText, Fault>
     requires { IsWorkerCount audit.now.workers.now.count }
-    ensures report { IfOk result (IsReportBy audit.now.options.now tree trace) }
+    ensures report { IfOk result
+        (λ report. IsReportBy audit.now.options.now tree trace (told_in report)) }
     ensures fault { IfErr result IsOutOfMemoryOrThreads }
 {
     let all = audit_all(audit, tree, trace)?;
@@ -216,11 +218,11 @@ fn report_in_form<R: Threads + Wait + Sync, G: Gate + Sync>(
     match options.format {
         Format::Text => {
             let report = report_over(alloc, all, options.shown, oldest)?;
-            Ok(ReportText::new(Form::Text(report)))
+            Ok(ReportText::Text(report))
         }
         Format::Json => {
             let report = json_report(alloc, all, options.shown, oldest, VERSION)?;
-            Ok(ReportText::new(Form::Json(report)))
+            Ok(ReportText::Json(report))
         }
     }
 }

@@ -1,6 +1,6 @@
 //! The bytes of the two files of a run.
 
-ghost use Rattle.std.specs.Prelude.{◌≡◌, ◌≢◌, ◌⊎◌, ◌+◌, ◌-◌, ◌^◌, ◌<◌, ◌≤◌, IfOk, IfErr};
+ghost use Rattle.std.specs.Prelude.{◌≡◌, ◌≢◌, ◌⊎◌, ◌+◌, ◌-◌, ◌^◌, ◌<◌, IfOk, IfErr};
 ghost use Rattle.ll_lines.specs.declared.fault.Cause.TheVariants.{Memory as NoMemoryLeft};
 ghost use Rattle.ll_lines.specs.Reading.{IsBad};
 ghost use Rattle.ll_trace.specs.{Entries.trace_file, Records.IsTrace};
@@ -60,59 +60,16 @@ impl Inputs<'_> {
     }
 }
 
-/// Why a run has no bytes of the file of a name.
-fn failure_of(fault: SourceFault, name: &str) -> Failure<'_>
-    ensures unread { fault ≡ SourceFault.Unread → result ≡ Failure.Unread name.entry }
-    ensures memory { fault ≡ SourceFault.Memory → result ≡ Failure.Audit Memory }
-{
-    match fault {
-        SourceFault::Unread => Failure::Unread(name),
-        SourceFault::Memory => Failure::Audit(Fault::Memory),
-    }
-}
-
-/// The bytes of the file of a name.
-fn bytes_of<'a, S: Source>(
-    alloc: Global,
-    source: &mut S,
-    name: &'a str,
-) -> Result<Vec<u8>, Failure<'a>>
-    requires { S.failed source.old < 2 ^ 64 - 1 }
-    ensures bytes { IfOk result
-        (λ bytes. AreBytesOf (S.files source.old) name.entry.now bytes.items) }
+/// What a source gives of the file of a name, or why a run has nothing of it.
+fn named<T>(read: Result<T, SourceFault>, name: &str) -> Result<T, Failure<'_>>
+    ensures read { IfOk result (λ given. read ≡ Ok given) }
     ensures failure { IfErr result (λ failure. (failure ≡ Failure.Audit Memory)
-        ⊎ ((failure ≡ Failure.Unread name.entry)
-        × HasNoFile (S.files source.old) name.entry.now
-        × (S.failed source.new ≡ S.failed source.old + 1))) }
-    ensures kept { S.failed source.old ≤ S.failed source.new }
-    ensures at_most_one { S.failed source.new ≤ S.failed source.old + 1 }
-    ensures same_files { S.files source.new ≡ S.files source.old }
+        ⊎ ((failure ≡ Failure.Unread name.entry) × (read ≡ Err SourceFault.Unread))) }
 {
-    match source.bytes_of(alloc, name) {
-        Ok(bytes) => Ok(bytes),
-        Err(fault) => Err(failure_of(fault, name)),
-    }
-}
-
-/// The bytes of the file of a name, in blocks.
-fn blocks_of<'a, S: Source>(
-    alloc: Global,
-    source: &mut S,
-    name: &'a str,
-) -> Result<LineBlocks, Failure<'a>>
-    requires { S.failed source.old < 2 ^ 64 - 1 }
-    ensures bytes { IfOk result
-        (λ blocks. AreBytesOf (S.files source.old) name.entry.now blocks) }
-    ensures failure { IfErr result (λ failure. (failure ≡ Failure.Audit Memory)
-        ⊎ ((failure ≡ Failure.Unread name.entry)
-        × HasNoFile (S.files source.old) name.entry.now
-        × (S.failed source.new ≡ S.failed source.old + 1))) }
-    ensures kept { S.failed source.old ≤ S.failed source.new }
-    ensures same_files { S.files source.new ≡ S.files source.old }
-{
-    match source.blocks_of(alloc, name) {
-        Ok(blocks) => Ok(blocks),
-        Err(fault) => Err(failure_of(fault, name)),
+    match read {
+        Ok(given) => Ok(given),
+        Err(SourceFault::Unread) => Err(Failure::Unread(name)),
+        Err(SourceFault::Memory) => Err(Failure::Audit(Fault::Memory)),
     }
 }
 
@@ -135,7 +92,7 @@ pub(crate) fn inputs_of<'a, S: Source>(
         × (S.failed source.old < S.failed source.new))) }
     ensures same_files { S.files source.new ≡ S.files source.old }
 {
-    let tree = bytes_of(alloc, source, run.tree)?;
-    let trace = blocks_of(alloc, source, run.trace)?;
+    let tree = named(source.bytes_of(alloc, run.tree), run.tree)?;
+    let trace = named(source.blocks_of(alloc, run.trace), run.trace)?;
     Ok(Inputs::Read { tree, trace })
 }

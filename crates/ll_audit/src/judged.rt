@@ -105,9 +105,14 @@ impl<'l> Judged<'l> {
         ensures newer { IfOk result (λ one. one.newer ≡ newer) }
         ensures fault { IfErr result IsOutOfMemoryOrThreads }
     {
-        let settled = Settled::of(audit.workers.alloc, located, audit.kernel(abi))?;
-        let case = Case::of(located, &settled);
-        let answers = audit.workers.answers(&case, audit.cuts)?;
+        let Workers {
+            rt,
+            alloc,
+            count,
+            gate,
+        } = audit.workers;
+        let settled = Settled::of(*alloc, located, audit.kernel(abi))?;
+        let answers = answers_by(*rt, *alloc, *count, *gate, located, &settled, audit.cuts)?;
         Ok(Judged {
             located,
             settled,

@@ -3,7 +3,7 @@
 ghost use Rattle.std.specs.Prelude.{◌≡◌, ◌+◌, ◌^◌, ◌<◌, ◌≤◌, IfOk, IfErr, map, string_bytes};
 ghost use Rattle.ll_command.specs.Command.{request_by};
 ghost use Rattle.ll_audit.specs.Fronts.{EndsWithoutRun, HasReason, HasWrongWords, IsFailureOf, IsOutcomeOf, Reports, StaysQuiet, TellsWhy, WritesNothing, WritesReport};
-ghost use Rattle.ll_audit.specs.Audits.{IsWorkerCount};
+ghost use Rattle.ll_audit.specs.{Audits.IsWorkerCount, ShownReports.told_in};
 
 use crate::auditing::audit_inputs;
 use crate::cut::Cut;
@@ -113,7 +113,8 @@ fn report_of<'a, R: Threads + Wait + Sync, S: Source, G: Gate + Sync>(
 ) -> Result<ReportText, Failure<'a>>
     requires failures { S.failed source.old + 2 < 2 ^ 64 }
     requires count { IsWorkerCount run.now.workers }
-    ensures report { IfOk result (Reports (S.files source.old) (request_by run.now)) }
+    ensures report { IfOk result
+        (λ report. Reports (S.files source.old) (request_by run.now) (told_in report)) }
     ensures failure { IfErr result (IsFailureOf (S.files source.old) (request_by run.now)
         (S.failed source.old) (S.failed source.new)) }
 {

@@ -143,7 +143,13 @@ pub(crate) fn audit_all<R: Threads + Wait + Sync, G: Gate + Sync>(
         + length all.findings < 2 ^ 64) }
     ensures fault { IfErr result IsOutOfMemoryOrThreads }
 {
-    let located = audit.workers.located(tree, trace)?;
+    let Workers {
+        rt,
+        alloc,
+        count,
+        ..
+    } = audit.workers;
+    let located = Located::of_by(*rt, *alloc, tree, trace, *count as usize)?;
     let findings = found_in(audit, &located)?;
     Ok(Audited { located, findings })
 }

@@ -51,10 +51,8 @@ pub trait Source {
         ensures at_most_one { failed self.new ≤ failed self.old + 1 }
         ensures same_files { files self.new ≡ files self.old }
     {
-        match self.bytes_of(alloc, name) {
-            Ok(bytes) => Ok(LineBlocks::whole(alloc, bytes)),
-            Err(fault) => Err(fault),
-        }
+        let bytes = self.bytes_of(alloc, name)?;
+        Ok(LineBlocks::whole(alloc, bytes))
     }
 
     /// How many files could not be read so far.

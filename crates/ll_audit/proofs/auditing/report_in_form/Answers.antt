@@ -10,7 +10,7 @@ use Rattle.ll_report.specs.declared.options.Format.{Format}
 use Rattle.ll_command.specs.declared.command.TheConstants.{VERSION}
 use Rattle.ll_json.specs.Judged.{AreFound}
 use Rattle.ll_json.specs.Reports.{IsJsonReport}
-use Rattle.ll_audit.specs.ShownReports.{IsReportBy, IsReportIn, findings, versions_by}
+use Rattle.ll_audit.specs.ShownReports.{IsReportIn, findings, versions_by}
 use Rattle.ll_audit.proofs.FoundByVersion.{found_each, same_founds}
 use Rattle.ll_audit.proofs.auditing.report_in_form.Goals as goal
 
@@ -31,8 +31,7 @@ returns-in_ok-report-in-Text-clause-report g c =
     ∙ ap (λ (records : List Record). founds_in options.shown.explanations c.args.tree records c.in_ok-all.all.findings) c.in_ok-all.ensures.trace
     ∙ same_founds options.shown c.args.tree c.args.trace (versions_by options c.args.trace) c.in_ok-all.all.findings c.in_ok-all.ensures.findings
     ∙ found_each options c.args.tree c.args.trace in
-    subst (IsReportBy options c.args.tree c.args.trace) (sym c.new.ensures)
-    (subst (λ (format : Format). IsReportIn format options c.args.tree c.args.trace c.in_ok-report-in-Text.report) (sym c.in-Text.is)
+    subst (λ (format : Format). IsReportIn format options c.args.tree c.args.trace c.in_ok-report-in-Text.report) (sym c.in-Text.is)
     (record {
       text = c.in_ok-report-in-Text.ensures.text ∙ ap (λ (n : ℕ). rows_text options.shown n founds located.trace) oldest
           ∙ ap (λ (founds : List Found). rows_text options.shown (number_of options.abis.oldest) founds located.trace) same
@@ -40,7 +39,7 @@ returns-in_ok-report-in-Text-clause-report g c =
       refused = c.in_ok-report-in-Text.ensures.refused
           ∙ ap (λ (founds : List Found). refused_under_some founds located.trace) same
           ∙ ap (refused_under_some (findings options c.args.tree c.args.trace)) c.in_ok-all.ensures.trace;
-    }))
+    })
 
 pub returns-in_ok-report-in-Json-clause-report : goal.returns-in_ok-report-in-Json-clause-report
 returns-in_ok-report-in-Json-clause-report g c =
@@ -53,11 +52,10 @@ returns-in_ok-report-in-Json-clause-report g c =
     subst (λ (entries : List Entry). AreFound options.shown.explanations entries all.located.trace versions all.findings) (sym c.in_ok-all.ensures.tree)
     (subst (λ (records : List Record). AreFound options.shown.explanations c.args.tree records versions all.findings) (sym c.in_ok-all.ensures.trace)
     c.in_ok-all.ensures.findings) in
-    subst (IsReportBy options c.args.tree c.args.trace) (sym c.new-in-Json.ensures)
-    (subst (λ (format : Format). IsReportIn format options c.args.tree c.args.trace report) (sym c.in-Json.is)
+    subst (λ (format : Format). IsReportIn format options c.args.tree c.args.trace report) (sym c.in-Json.is)
     (subst (λ (records : List Record). IsJsonReport options.shown c.args.tree (number_of options.abis.oldest) versions records VERSION.now report)
     c.in_ok-all.ensures.trace
     (subst (λ (entries : List Entry). IsJsonReport options.shown entries (number_of options.abis.oldest) versions all.located.trace VERSION.now report)
     c.in_ok-all.ensures.tree
     (subst (λ (n : ℕ). IsJsonReport options.shown all.located.tree n versions all.located.trace VERSION.now report) oldest
-    (c.in_ok-report-in-Json.ensures versions found)))))
+    (c.in_ok-report-in-Json.ensures versions found))))
