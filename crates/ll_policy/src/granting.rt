@@ -33,7 +33,8 @@ fn handles_of(layer: &Layer, right: FsRight) -> bool
 
 /// For each of some sets, whether it has a right.
 fn marks<S: RightSet>(alloc: Global, sets: &[S], right: S::Right) -> Result<Vec<bool>, AllocError>
-    ensures { IfOk result (λ on. on.items ≡ map (λ set. S.family.has set (S.named right)) sets.now) }
+    ensures { IfOk result (λ on.
+        on.items ≡ map (λ set. S.family.has set (S.named right)) sets.now) }
 {
     sets.iter().map(|set| set.has(right)).collect(alloc)
 }

@@ -300,9 +300,3 @@ module _ (cv : CaseValue) where
           ap (λ (xs : List Progress). sum_by (forking cv.records w) xs) none,
           sum_by-cons w first.0 (kids cv.records (numbers done.processes.items)),
         ))
-
-    pub first_there : slice_get done.processes.items 0 ≡ Some first
-    first_there = elim all.in_front [
-      | inl there ↦ there
-      | inr waits ↦ absurd (omega (arith, waits, ap (λ (xs : List Progress). sum_by (is_first first) xs) none))
-    ]
