@@ -129,6 +129,16 @@ class Checking(unittest.TestCase):
                  '    - "layer 1: path_beneath 1 on @/open grants read_file"', "  ..."]),
         )
 
+    def test_a_layer_without_a_right_for_files_refuses_moves(self) -> None:
+        """As Linux 6.18 answers under policies for an ABI; ABI 5 stands for those that have scopes."""
+        files = '[[layer]]\nhandled_access_fs = ["all"]\n[[layer.path_beneath]]\nallowed_access = ["all"]\nparent = "@"\n'
+        ports, move = 'handled_access_net = ["bind_tcp"]\n', 'call = "rename"\nfrom = "@/open/file"\nto = "@/closed/f"\n'
+        device = f'{ports}handled_access_fs = ["ioctl_dev"]\n'
+        for layer, passes, fails in ((ports, "2-3", "4-5"), (device, "2-3", "4-5"), ('scoped = ["signal"]\n', "2-4", "5")):
+            cases = f'[[allowed]]\n{move}abi = "{passes}"\n[[refused]]\n{move}abi = "{fails}"\n'
+            with self.subTest(layer):
+                self.assertEqual(self.checked(cases, f"{files}[[layer]]\n{layer}")[0], 0)
+
     def test_a_parent_that_is_a_link_is_what_it_leads_to(self) -> None:
         status, lines = self.point('[[allowed]]\ncall = "open w"\npath = "@/work/file"\n')
         self.assertEqual((status, lines[3:5]), (0, ['  "rules":', '    - "layer 1: path_beneath 2 on @/work grants write_file"']))

@@ -7,7 +7,7 @@ from pathlib import Path
 
 from landaudit_record.common.numbered import Numbered
 from landaudit_record.common.rights import FS, NET
-from landaudit_record.policy.fitting import FittedPathRule, fit, in_force
+from landaudit_record.policy.fitting import FittedPathRule, fit, in_force, stands_for
 from landaudit_record.policy.policies import Access, Layer, PathRule, Policy, PortRule
 
 ALL_FS = Access(grouped=FS.groups["all"])
@@ -51,8 +51,18 @@ class Fitting(unittest.TestCase):
             with self.subTest(abi=abi, layers=len(layers)):
                 found, _ = fit(Policy(Path("P.toml"), layers), abi)
                 self.assertEqual([layer.handled_fs for layer in found], handled)
+        found, _ = fit(Policy(Path("P.toml"), (files, scopes)), 5, scopes=False)
+        self.assertEqual([layer.number for layer in found], [1])
         made, _ = in_force(Policy(Path("P.toml"), (files, ports)), 5)
         self.assertEqual([layer.handled_fs for layer in made], [["read_file", "refer"], []])
+
+    def test_what_a_newer_abi_stands_for(self) -> None:
+        files = Layer(1, ALL_FS, Access(), (), ())
+        device, ports = (Layer(2, Access(outright=frozenset(fs)), ALL_NET, (), ()) for fs in (["ioctl_dev"], []))
+        for layers, apart in (((files,), []), ((files, ports), [3]), ((files, device), [3, 4]), ((device,), [3])):
+            tried = Policy(Path("P.toml"), layers)
+            found = [abi for abi in range(1, 5) if not stands_for(tried, abi + 1, abi)]
+            self.assertEqual(found, apart)
 
     def test_a_right_that_is_named_is_dropped_with_a_note(self) -> None:
         named = Access(outright=frozenset({"read_file", "truncate"}))

@@ -219,10 +219,11 @@ class Mixed(unittest.TestCase):
             write_lines(folder / "trace.jsonl", [*TRACE, *records])
             recording = Finished(folder, (Part(folder),), Counter(), Counter(), ended=True)
             if policy is None:
-                return mixing.moves(recording, None, abi)
+                return mixing.moves(recording, None, alone(abi))
             (folder / "p.toml").write_text(f"[[layer]]\n{policy}\n", encoding="utf-8")
             write_lines(folder / "tree.jsonl", [{"path": "/p", "kind": "reg"}])
-            return mixing.moves(recording, auditor.tried(recording, policies.read(folder / "p.toml"), None), abi)
+            tried = auditor.tried(recording, policies.read(folder / "p.toml"), None)
+            return mixing.moves(recording, tried, alone(abi))
 
     def test_layers_of_both_kinds_by_the_program_or_with_the_policy(self) -> None:
         ports, files = 'handled_access_net = ["bind_tcp"]', 'handled_access_fs = ["read_file"]'
@@ -237,6 +238,18 @@ class Mixed(unittest.TestCase):
         within = {**self.MOVED, "to": "/a/g"}
         self.assertEqual(self.moves(self.FILES, self.PORTS, within), 0)
         self.assertEqual(self.moves(self.FILES, self.PORTS, self.MOVED, abi=3), 0)
+
+    def test_a_layer_of_which_an_older_abi_has_no_right_for_files(self) -> None:
+        device = {**self.PORTS, "fs": ["ioctl_dev"]}
+        policy = 'handled_access_fs = ["ioctl_dev"]\nhandled_access_net = ["bind_tcp"]'
+        for abi, counted in ((3, 0), (4, 1), (5, 0)):
+            with self.subTest(abi=abi):
+                self.assertEqual(self.moves(self.FILES, device, self.MOVED, abi=abi), counted)
+                self.assertEqual(self.moves(self.FILES, self.MOVED, policy=policy, abi=abi), counted)
+
+    def test_scopes_alone(self) -> None:
+        for abi, counted in ((5, 0), (6, 1)):
+            self.assertEqual(self.moves(self.FILES, self.MOVED, policy='scoped = ["signal"]', abi=abi), counted)
 
     def test_an_audit_says_so(self) -> None:
         (said,) = Finished(Path("rec"), (), Counter(), Counter(), ended=True, mixed=2).missing

@@ -16,7 +16,7 @@ from ..common import apart, jsonl, trees
 from ..common.finished import Finished, Part
 from ..common.jsonl import Record
 from ..common.progress import Progress
-from ..common.rights import FILE_RIGHTS, FS, alone
+from ..common.rights import FILE_RIGHTS, FS, steps
 from ..common.trees import ROOT, Tree, upwards
 from ..common.wording import span
 from ..engine import landaudit
@@ -63,23 +63,18 @@ class TriedPolicy:
 
     def steps(self, abis: range, *, best_effort: bool) -> list[range]:
         """The ABIs of a range in steps, the oldest first: each step is judged with the traces of its newest ABI."""
-        found = [alone(abis[-1])]
-        for abi in reversed(abis[:-1]):
-            if self._are_judged_together(abi, found[0][-1], best_effort=best_effort):
-                found[0] = range(abi, found[0].stop)
-            else:
-                found.insert(0, alone(abi))
-        return found
+        return steps(abis, partial(self._are_judged_together, best_effort=best_effort))
 
     def _are_judged_together(self, older: int, newer: int, *, best_effort: bool) -> bool:
-        """Whether the calls for a newer ABI stand for those for an older one.
+        """Whether the calls for a newer ABI stand for those for an older one."""
+        if best_effort:
+            return fitting.stands_for(self.policy, newer, older, scopes=self._scopes)
+        return self.inserted(self.policy, older) == self.inserted(self.policy, newer)
 
-        At best effort they are answered as these (a law of `ll_enforcing`), but may make a layer that handles nothing.
-        """
-        if not best_effort:
-            return self.inserted(self.policy, older) == self.inserted(self.policy, newer)
-        layers, others = (fitting.fit(self.policy, abi)[0] for abi in (older, newer))
-        return [layer.number for layer in layers] == [layer.number for layer in others]
+    @property
+    def _scopes(self) -> bool:
+        """Whether one of the ABIs has scopes, and the policy too."""
+        return bool(self.recording.scoped)
 
     def write(self, policy: Policy, abi: int, number: int, into: Part) -> Iterator[Files]:
         """Writes a part with a policy at an ABI, and yields the tree and the trace to judge.
@@ -103,7 +98,7 @@ class TriedPolicy:
 
     def inserted(self, policy: Policy, abi: int) -> list[Record]:
         """The policy's records at an ABI."""
-        layers, _ = fitting.fit(policy, abi)
+        layers, _ = fitting.fit(policy, abi, scopes=self._scopes)
         return applying.records(policy, layers, self.tree, max(places.rs for places in self.places))
 
 

@@ -13,23 +13,35 @@ from ..common.finished import Finished
 from ..common.jsonl import Record
 from ..common.operations import MOVES
 from ..common.resolving import directory_of
-from ..common.rights import ABI_OF_PORTS
+from ..common.rights import ABI_OF_PORTS, FS, NET
 from ..common.trace_lines import heads, told
+from ..policy import fitting
+from ..policy.applying import Handled
 from .auditor import TriedPolicy
 
 
-def moves(recording: Finished, tried: TriedPolicy | None, abi: int) -> int:
-    """How many calls move to another directory, if the layers of programs and of the policy are of both kinds."""
-    if abi < ABI_OF_PORTS:
-        return 0
+def moves(recording: Finished, tried: TriedPolicy | None, abis: range) -> int:
+    """How many calls move to another directory, if the layers of programs and of the policy are of both kinds at one of
+    some ABIs.
+    """
     if tried is None:
-        layers = {bool(it.get("fs")) for it in _told(recording, {"create"}) if it.get("fs") or it.get("net")}
-    elif layers := set[bool]().union(*(places.own for places in tried.places)):
-        layers.add(any(layer.handled_access_fs.rights for layer in tried.policy.layers))
-    if len(layers) < 2:
+        own = {Handled.of(record) for record in _told(recording, {"create"})}
+    else:
+        own = set[Handled]().union(*(places.own for places in tried.places))
+    if not any(_are_mixed(own, tried, abi) for abi in abis if abi >= ABI_OF_PORTS):
         return 0
     return sum(record.get("stands_for", 1) for record in _told(recording, MOVES)
                if directory_of(record["from"]) != directory_of(record["to"]) and "again" not in record)
+
+
+def _are_mixed(own: Set[Handled], tried: TriedPolicy | None, abi: int) -> bool:
+    """Whether some layers at an ABI handle rights for files and others none, beside those of the policy alone."""
+    fs, net = FS.known(abi), NET.known(abi)
+    kinds = {bool(one.fs & fs) for one in own if one.fs & fs or one.net & net}
+    if not kinds:
+        return False
+    layers = fitting.in_force(tried.policy, abi)[0] if tried is not None else []
+    return len(kinds | ({any(layer.handled_fs for layer in layers)} if layers else set())) > 1
 
 
 def _told(recording: Finished, ops: Set[str]) -> Iterator[Record]:

@@ -13,7 +13,7 @@ from ..common.finished import Finished
 from ..common.options import note
 from ..common.problems import NOT_ALL_JUDGED, USAGE, Problem
 from ..common.progress import Progress
-from ..common.rights import ABI_OF_SCOPES, LATEST_ABI
+from ..common.rights import ABI_OF_SCOPES, LATEST_ABI, OLDEST_ABI
 from ..common.trees import Tree
 from ..engine.reading import Walk
 from ..policy.policies import Policy
@@ -23,6 +23,7 @@ from .summary import Summary
 from .warnings import RuleUnused
 
 Result = TypeVar("Result")
+ALL_KNOWN = range(OLDEST_ABI, LATEST_ABI + 1)
 
 
 @dataclass(frozen=True)
@@ -45,7 +46,7 @@ class Member:
 
 
 def opened(
-    names: Sequence[str], policy: Policy | None = None, program: str | None = None, abi: int = LATEST_ABI
+    names: Sequence[str], policy: Policy | None = None, program: str | None = None, abis: range = ALL_KNOWN
 ) -> list[Member]:
     """The recordings in some folders and distilled files, each with the policy; one that is named twice is a Problem.
 
@@ -57,11 +58,11 @@ def opened(
         if first is not name:
             raise Problem(f"{name} is named twice: name each recording once", USAGE)
     members = []
-    scoped = policy.scoped if policy and abi >= ABI_OF_SCOPES else ()
+    scoped = policy.scoped if policy and abis[-1] >= ABI_OF_SCOPES else ()
     for name, found in (one for name in names for one in expanding.opened(name)):
         recording = replace(found, scoped=scoped)
         tried = None if policy is None else auditor.tried(recording, policy, program)
-        mixed = mixing.moves(found, tried, abi)
+        mixed = mixing.moves(found, tried, abis)
         members.append(Member(name, replace(recording if tried is None else tried.recording, mixed=mixed), tried))
     return members
 

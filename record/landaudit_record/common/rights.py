@@ -2,7 +2,7 @@
 
 from __future__ import annotations
 
-from collections.abc import Iterable, Mapping
+from collections.abc import Callable, Iterable, Mapping
 from dataclasses import dataclass
 from typing import NamedTuple
 
@@ -43,6 +43,17 @@ SCOPES = ("abstract_unix_socket", "signal")
 def alone(abi: int) -> range:
     """The range that is one ABI."""
     return range(abi, abi + 1)
+
+
+def steps(abis: range, are_alike: Callable[[int, int], bool]) -> list[range]:
+    """The ABIs of a range in steps, the oldest first: in a step, each is alike to the newest."""
+    found = [alone(abis[-1])]
+    for abi in reversed(abis[:-1]):
+        if are_alike(abi, found[0][-1]):
+            found[0] = range(abi, found[0].stop)
+        else:
+            found.insert(0, alone(abi))
+    return found
 
 
 def judged_as(abi: int) -> int:

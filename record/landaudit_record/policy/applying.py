@@ -14,13 +14,14 @@ from dataclasses import dataclass, field
 from functools import partial
 from itertools import islice, takewhile
 from pathlib import Path
-from typing import Any, BinaryIO
+from typing import Any, BinaryIO, NamedTuple
 
 from ..common import apart, jsonl
 from ..common.jsonl import Record
 from ..common.operations import OPERATIONS
 from ..common.problems import Problem
 from ..common.resolving import NOWHERE, LinkLoop, Walked
+from ..common.rights import Rights
 from ..common.trace_lines import AGAIN, HEAD, STANDS_FOR, heads
 from ..common.trees import Tree, upwards
 from ..common.wording import some_of
@@ -37,14 +38,25 @@ MOST_LINES_OF_A_CALL = 1_000
 _TELL_NOTHING = heads(OPERATIONS.keys() - {"start", "exec", "exit", "create"})
 
 
+class Handled(NamedTuple):
+    """The rights that a recorded ruleset handles: for files, and for the network."""
+
+    fs: Rights
+    net: Rights
+
+    @classmethod
+    def of(cls, record: Record) -> Handled:
+        """Those of a `create`."""
+        return cls(frozenset(record.get("fs", ())), frozenset(record.get("net", ())))
+
+
 @dataclass(frozen=True)
 class Plan:
     """Where a policy goes in a trace.
 
     `before` has the lines before which it goes, each with the process; `behind` has the lines after which it goes,
     since they repeat for a process what it had when it ran a program. `rs` is a ruleset number that the trace never
-    uses, `lines` the number of its lines, and `programs` the programs that it runs. `own` says of the rulesets that it
-    makes whether they handle rights for files.
+    uses, `lines` the number of its lines, and `programs` the programs that it runs. `own` has what its rulesets handle.
     """
 
     before: dict[int, int]
@@ -52,7 +64,7 @@ class Plan:
     lines: int
     behind: dict[int, list[int]] = field(default_factory=dict)
     programs: frozenset[str] = frozenset()
-    own: frozenset[bool] = frozenset()
+    own: frozenset[Handled] = frozenset()
 
     @property
     def times(self) -> int:
@@ -84,7 +96,7 @@ class _Planning:
         self._before: dict[int, int] = {}
         self._behind: dict[int, list[int]] = {}
         self._rs = 0
-        self._own: set[bool] = set()
+        self._own: set[Handled] = set()
 
     def found(self) -> Plan:
         """Where the policy goes."""
@@ -107,8 +119,8 @@ class _Planning:
         if "rs" in record:
             self._rs = max(self._rs, _number(self._trace, number, record, "rs"))
         about = record.get("child", pid)
-        if record.get("op") == "create" and (record.get("fs") or record.get("net")):
-            self._own.add(bool(record.get("fs")))
+        if record.get("op") == "create":
+            self._own.add(Handled.of(record))
         if (record.get("op") == "start" and "again" not in record) or "starting" in record:
             self._starting.add(about)
         elif record.get("op") == "exit":

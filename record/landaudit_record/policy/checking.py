@@ -7,9 +7,9 @@ from dataclasses import dataclass
 from pathlib import Path
 
 from ..common.problems import Problem
-from ..common.rights import NEWEST_ABI
+from ..common.rights import steps
 from ..engine.answers import MOOT, Answer
-from . import asking, cases, deciding, granting, parents
+from . import asking, cases, deciding, fitting, granting, parents
 from .cases import Case, Cases
 from .deciding import Decision
 from .granting import Grant
@@ -70,13 +70,16 @@ def _outcomes(landaudit: Path, policy: Policy, given: Cases) -> Iterator[Checked
     """Each case with its answers."""
     if not given.cases:
         return
-    own = asking.under(policy, NEWEST_ABI, given.tree)
-    trial = asking.trial(own, ((case, case.question) for case in given.cases))
-    with asking.asker(landaudit, cases.ALL_ABIS, given.tree) as asker:
-        found = list(asker.answers([trial]))
+    found: list[dict[int, Answer]] = [{} for _ in given.cases]
+    for step in steps(cases.ALL_ABIS, lambda older, newer: fitting.stands_for(policy, newer, older)):
+        own = asking.under(policy, step[-1], given.tree)
+        trial = asking.trial(own, enumerate(case.question for case in given.cases))
+        with asking.asker(landaudit, step, given.tree) as asker:
+            for number, by_abi in asker.answers([trial]):
+                found[number].update((abi, asking.decided(answers)) for abi, answers in by_abi.items())
     grants = granting.grants(landaudit, policy, given.tree, [case.question for case in given.cases])
-    for (case, by_abi), granted in zip(found, grants):
-        answers = {abi: asking.decided(by_abi[abi]) for abi in case.abis}
+    for case, by_abi, granted in zip(given.cases, found, grants):
+        answers = {abi: by_abi[abi] for abi in case.abis}
         for answer in answers.values():
             if answer.verdict == MOOT:
                 raise Problem(f"{given.path}: {case.text}: Landlock is not asked: {answer.reason}")

@@ -56,20 +56,30 @@ class FittedLayer:
     scoped: tuple[str, ...] = ()
 
 
-def fit(policy: Policy, abi: int) -> tuple[tuple[FittedLayer, ...], list[str]]:
+def fit(policy: Policy, abi: int, *, scopes: bool = True) -> tuple[tuple[FittedLayer, ...], list[str]]:
     """A policy's layers as an ABI judges them, and a note for each right that was dropped although the policy names it.
 
     If a layer handles rights for files, the kernel takes `refer` for handled by all layers, also by those of ports or
-    scopes alone (`landlock_get_fs_access_mask`). Scopes count at the newest ABI that is judged, which stands for later
-    ones.
+    scopes alone (`landlock_get_fs_access_mask`). With `scopes`, the newest ABI that is judged stands for later ones,
+    which have scopes.
     """
     layers, notes = _dropped(policy, abi)
     if not any(layer.handled_fs for layer in layers):
         return layers, notes
     known = {layer.number: layer for layer in layers}
     fitted = (known.get(layer.number, _bare(layer)) for layer in policy.layers
-              if layer.number in known or (layer.scoped and abi >= NEWEST_ABI))
+              if layer.number in known or (layer.scoped and scopes and abi >= NEWEST_ABI))
     return tuple(it if it.handled_fs else replace(it, handled_fs=[REFER]) for it in fitted), notes
+
+
+def stands_for(policy: Policy, newer: int, older: int, *, scopes: bool = True) -> bool:
+    """Whether a policy at a newer ABI is, at best effort, what it is at an older one (a law of `ll_enforcing`).
+
+    It is not if it has a layer more, or one to which `refer` was given at one of the two.
+    """
+    here, there = (fit(policy, abi, scopes=scopes)[0] for abi in (older, newer))
+    left = [(layer.number, FS.known(older).intersection(layer.handled_fs)) for layer in there]
+    return [(layer.number, frozenset(layer.handled_fs)) for layer in here] == left
 
 
 def _dropped(policy: Policy, abi: int) -> tuple[tuple[FittedLayer, ...], list[str]]:

@@ -90,7 +90,7 @@ def run(arguments: argparse.Namespace) -> int:
     given.check_used()
     if policy is not None and policy.scoped and arguments.abis is options.ALL:
         arguments.abis = range(OLDEST_ABI, LATEST_ABI + 1)
-    members = together.opened(arguments.recordings, policy, arguments.program, arguments.abis[-1])
+    members = together.opened(arguments.recordings, policy, arguments.program, arguments.abis)
     if policy is None and not arguments.as_recorded:
         _check_layers(members)
     notes = together.policy_notes(members, arguments.abis, here=arguments.format == TEXT)
