@@ -17,6 +17,7 @@ from landaudit_record.common.problems import Problem
 from landaudit_record.common.reach import ABSTRACT, PTRACE, SIGNAL, ProcessLayer, refusing
 from landaudit_record.common.rights import ABIS
 from landaudit_record.policy import policies
+from landaudit_record.recorder.ports import Ports
 
 from .calling import called
 from .recorded import write_lines
@@ -382,3 +383,18 @@ class Told(unittest.TestCase):
         self.assertEqual(list(self.recording(untraced=(READING_LINKS,)).notes), [readlink])
         looks = "calls that only look (stat, readlink) into other processes are not recorded: record it again"
         self.assertEqual(list(self.recording(untraced=(LOOKING, READING_LINKS, SIGNALS)).notes), [looks])
+
+
+class PortRules(WrittenLogs):
+    """What a policy says beside rights for files, for a strace that prints only an ellipsis for it."""
+
+    def ports(self) -> Ports:
+        return Ports([[], ["bind_tcp"]], scoped=[[], []])
+
+    def test_each_ruleset_is_the_next_layer(self) -> None:
+        """Also one whose structure has nothing else."""
+        made = self.convert(
+            "landlock_create_ruleset({handled_access_fs=0x4}, 8, 0) = 3<anon_inode:[landlock-ruleset]>",
+            "landlock_create_ruleset({handled_access_fs=0, ...}, 16, 0) = 4<anon_inode:[landlock-ruleset]>",
+        )
+        self.assertEqual([record.get("net") for record in made if record["op"] == "create"], [None, ["bind_tcp"]])

@@ -69,7 +69,11 @@ class WrittenLogs(unittest.TestCase):
         jsonl.write(self.out / recordings.OBJECTS, self.disk)
         whole = [FIRST, *(line if line[:1].isdigit() else f"10  {line}" for line in lines)]
         (self.out / "strace.txt").write_text("".join(line + "\n" for line in whole), encoding="ascii")
-        return converting.convert(self.out, Ports())
+        return converting.convert(self.out, self.ports())
+
+    def ports(self) -> Ports:
+        """What a policy says about ports."""
+        return Ports()
 
     def unsaid(self) -> list[tuple[str, bool]]:
         """The classes of what was not said, each with whether the kernel may refuse it."""

@@ -7,7 +7,10 @@ from itertools import cycle
 
 
 class Ports:
-    """The rights for ports and the scopes of each layer, and the rules on ports, in the policy's order, repeated."""
+    """The rights for ports and the scopes of each layer, and the rules on ports, in the policy's order, repeated.
+
+    Each ruleset that is made is the next layer, also one whose structure ends before what strace does not decode.
+    """
 
     def __init__(
         self,

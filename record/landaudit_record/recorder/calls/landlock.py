@@ -40,9 +40,9 @@ def _handled(scene: Scene, thread: Thread, call: Call) -> tuple[list[str] | None
     """
     argument = call.arguments[0]
     files, ports, scoped = (_member(argument, name) for name in ("handled_access_fs", "handled_access_net", "scoped"))
+    of_policy, scopes = scene.ports.handled(), scene.ports.scopes()
     if "..." not in argument:
         return named(files, FS), named(ports, NET), scopes_of(scoped)
-    of_policy, scopes = scene.ports.handled(), scene.ports.scopes()
     if of_policy is None:
         scene.leave_out(thread, call, "what a ruleset handles beside files" + NOT_DECODED, asks=True)
     return named(files, FS), of_policy or None, scopes if arguments.number_at(call, 1) == SIZES[-1] else []
