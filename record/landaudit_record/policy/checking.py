@@ -70,6 +70,18 @@ def _outcomes(landaudit: Path, policy: Policy, given: Cases) -> Iterator[Checked
     """Each case with its answers."""
     if not given.cases:
         return
+    found = _answers(landaudit, policy, given)
+    grants = granting.grants(landaudit, policy, given.tree, [case.question for case in given.cases])
+    for case, answered, granted in zip(given.cases, found, grants):
+        answers = {abi: answered[abi] for abi in case.abis}
+        for answer in answers.values():
+            if answer.verdict == MOOT:
+                raise Problem(f"{given.path}: {case.text}: Landlock is not asked: {answer.reason}")
+        yield CheckedCase(case, answers, granted)
+
+
+def _answers(landaudit: Path, policy: Policy, given: Cases) -> list[dict[int, Answer]]:
+    """What a policy answers to each case at each ABI."""
     found: list[dict[int, Answer]] = [{} for _ in given.cases]
     for step in steps(cases.ALL_ABIS, lambda older, newer: fitting.stands_for(policy, newer, older)):
         own = asking.under(policy, step[-1], given.tree)
@@ -77,10 +89,4 @@ def _outcomes(landaudit: Path, policy: Policy, given: Cases) -> Iterator[Checked
         with asking.asker(landaudit, step, given.tree) as asker:
             for number, by_abi in asker.answers([trial]):
                 found[number].update((abi, asking.decided(answers)) for abi, answers in by_abi.items())
-    grants = granting.grants(landaudit, policy, given.tree, [case.question for case in given.cases])
-    for case, by_abi, granted in zip(given.cases, found, grants):
-        answers = {abi: by_abi[abi] for abi in case.abis}
-        for answer in answers.values():
-            if answer.verdict == MOOT:
-                raise Problem(f"{given.path}: {case.text}: Landlock is not asked: {answer.reason}")
-        yield CheckedCase(case, answers, granted)
+    return found
