@@ -253,4 +253,4 @@ class Mixed(unittest.TestCase):
 
     def test_an_audit_says_so(self) -> None:
         (said,) = Finished(Path("rec"), (), Counter(), Counter(), ended=True, mixed=2).missing
-        self.assertRegex(said, "^2 calls to another directory may fail with EXDEV")
+        self.assertRegex(said, "^2 moves to another directory may fail with EXDEV")

@@ -24,7 +24,7 @@ from ..policy import applying, importing, importing_text, policies
 from ..policy.applying import MOST_RECORDS
 from ..policy.importing import OF_PROCESSES, Following, Own
 from ..policy.policies import Policy
-from . import auditor, together
+from . import auditor, mixing, together
 from .auditor import Files, TriedPolicy
 from .together import Member
 
@@ -163,7 +163,8 @@ def _member(name: str, recording: Finished, tree: Tree, own: Own, policy: Policy
         if rule.made is not None and rule.made not in made.setdefault(str(rule.on), []):
             made[str(rule.on)].append(rule.made)
     tried = TriedOfProgram(replace(recording, scoped=policy.scoped), policy, own.program, tree, places, lines, made)
-    return Member(name, tried.recording, tried)
+    mixed = mixing.moves(recording, tried, together.ALL_KNOWN)
+    return Member(name, replace(tried.recording, mixed=mixed), tried)
 
 
 def _restrictions(trace: Path, tree: Tree, own: Own) -> Iterator[tuple[int, _Place]]:

@@ -174,8 +174,9 @@ class Finished:
             parents = f"{counted(len(self.unknown), 'parent')} of the policy led on the machine that recorded"
             told.append(f"it is not known where {parents}, so no rule is put there: {some_of(self.unknown)}")
         if self.mixed:
-            told.append(f"{counted(self.mixed, 'call')} to another directory may fail with EXDEV: layers of programs "
-                        "without rights for files refuse moves beside layers with some")
+            moves = counted(self.mixed, "move")
+            told.append(f"{moves} to another directory may fail with EXDEV: one layer of a process "
+                        "handles rights for files, and another layer handles none")
         if not self.ended:
             told.append("the recording is cut: the log stops before the command's end, so record it again")
         return told

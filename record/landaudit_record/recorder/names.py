@@ -383,7 +383,7 @@ class Names:
         return found
 
     def may_be_program(self, path: str) -> bool:
-        """Whether nobody knows if what the current call runs was at a path, where it is not known to be.
+        """Whether what the current call runs may have been at a path at which nothing is known to have been.
 
         A later call may show that it was there: then the run found no interpreter.
         """
