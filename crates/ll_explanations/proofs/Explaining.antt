@@ -1,7 +1,6 @@
 -- The explanation of a record by its answer.
 use Rattle.std.proofs.Common.{◌≡◌, ◌≢◌, ◌∙◌, ◌<◌, ℕ, true, false, List, [], ◌∷◌, Option, Some, suc, ap, arith, inl, inr, refl, subst, sym}
-use Rattle.std.specs.Prelude.{◌==◌, IfSome, length, option_map, slice_get}
-use Rattle.std.proofs.lemmas.Option.{IfSome_then}
+use Rattle.std.specs.Prelude.{◌==◌, length, option_map, slice_get}
 use Rattle.std.proofs.lemmas.Bool.{cases_Bool, ne_eqb, true≢false}
 use Rattle.std.proofs.lemmas.Option.{same_Some, slice_get_within}
 use Rattle.ll_rights.specs.declared.abi.Abi.{Abi}
@@ -69,13 +68,11 @@ pub explains : (case : CaseValue) (index : ℕ) (answer : Answer) (found : Recor
 explains case index answer found e read is r eq =
     subst (λ (one : Record). IsExplanation case index answer one e) (same_Some found r (sym read ∙ eq)) is
 
--- the first index of the call there, if it is known
-pub known_there : (case : CaseValue) (index : ℕ) (tree : List Entry) (op : Op) (trail : ProcessOrigins) → IsFoundAt case index op trail
-    → (known : Option Place) → tree ≡ case.tree
-    → IfSome known (λ one. (r : Record) → slice_get case.records index ≡ Some r → one ≡ first_place case.tree r.op)
-    → IfSome known (λ one. one ≡ first_place tree op)
-known_there case index tree op trail found known same is =
-    IfSome_then known is (λ one first. rw (same, found.call) (first found.r found.there))
+-- the place that the call there names first
+pub place_there : (case : CaseValue) (index : ℕ) (tree : List Entry) (op : Op) (trail : ProcessOrigins) → IsFoundAt case index op trail
+    → (spot : Place) → tree ≡ case.tree → ((r : Record) → slice_get case.records index ≡ Some r → spot ≡ first_place case.tree r.op)
+    → spot ≡ first_place tree op
+place_there case index tree op trail found spot same is = rw (same, found.call) (is found.r found.there)
 
 -- what explains the record there that no layer refuses, and one that is moot
 module _ (tree : List Entry) (abi : Abi) (records : List Record) (index : ℕ) (found r : Record) (read : slice_get records index ≡ Some found)

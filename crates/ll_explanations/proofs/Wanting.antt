@@ -1,8 +1,12 @@
 -- A call that wants something wants it at its first path.
-use Rattle.std.proofs.Common.{◌≡◌, ◌∙◌, ℕ, List, [], Option, Some, None, sym, ap}
+use Rattle.std.proofs.Common.{◌≡◌, ◌∙◌, ℕ, List, [], Option, Some, None, sym, ap, subst}
 use Rattle.std.specs.Prelude.{option_map}
 use Rattle.std.proofs.lemmas.Option.{none-some}
-use Rattle.ll_tree.specs.Trees.{Entry, place}
+use Rattle.ll_tree.specs.Trees.{Entry, IsNode, place}
+use Rattle.ll_tree.specs.TreeFacts.{IsPlace}
+use Rattle.ll_tree.specs.declared.place.NodeId.{NodeId}
+use Rattle.ll_tree.specs.declared.place.Place.TheVariants.{Node}
+use Rattle.ll_reasons.proofs.Placed.{place_inside}
 use Rattle.ll_trace.specs.declared.op.Op.{Op}
 use Rattle.ll_trace.specs.declared.op.Op.TheVariants as calls
 use Rattle.ll_trace.specs.Operations.{paths_of}
@@ -37,3 +41,7 @@ module _ (path : List ℕ) (want : Wanted) where
   unmet_wanted tree op is =
       ap (λ (text : List ℕ). Some (unmet tree (spelt text) (place tree text) want)) (first_path op is)
       ∙ ap (option_map (λ (w : List ℕ × Wanted). unmet tree (spelt w.0) (place tree w.0) w.1)) is
+
+-- a node to which a text leads is of the tree
+pub node_there : (tree : List Entry) (text : List ℕ) (node : NodeId) → place tree text ≡ Node node → IsNode tree node
+node_there tree text node is = subst (IsPlace tree) is (place_inside tree text)

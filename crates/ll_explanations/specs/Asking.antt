@@ -25,8 +25,15 @@ IsAsked tree (Moving request error) = IsMoveRequest tree request
 
 -- All that unfolds when the layers object to a call.
 unfoldable pub objecting : Unit {0}
-unfolding Rattle.ll_reasons.specs.Explanations.objections_to objected Rattle.ll_rights.specs.Rights.only Rattle.ll_rights.specs.NetRights.only
+unfolding
+    Rattle.ll_reasons.specs.Explanations.objections_to objected Rattle.ll_rights.specs.Rights.only Rattle.ll_rights.specs.NetRights.only
+    Rattle.ll_trace.specs.FirstPlaces.first_place Rattle.ll_trace.specs.Operations.paths_of
 objecting = tt
+
+-- All that unfolds when the layers object to what a call wants at a path.
+unfoldable pub requesting : Unit {0}
+unfolding Rattle.ll_reasons.specs.Objections.to_request Rattle.ll_explanations.specs.Meanings.by_layer objected
+requesting = tt
 
 -- All that unfolds when no layer is asked.
 unfoldable pub unasked : Unit {0}

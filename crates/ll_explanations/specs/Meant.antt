@@ -58,3 +58,13 @@ reason_in op given.Unenforced = unenforced
 unfoldable pub meaning_unmet : Unit {0}
 unfolding reason_in path_in above_by Rattle.ll_reasons.specs.Reasons.unmet Rattle.ll_reasons.specs.Reasons.unsuited
 meaning_unmet = tt
+
+-- All that unfolds when a reason is told of an object that isn't there.
+unfoldable pub no_meaning : Unit {0}
+unfolding reason_in path_in above_by Rattle.ll_reasons.specs.Reasons.no_object
+no_meaning = tt
+
+-- All that unfolds when a reason is told of an object that is neither renamed nor linked.
+unfoldable pub meaning_unmoved : Unit {0}
+unfolding reason_in path_in above_by Rattle.ll_reasons.specs.Reasons.unrenamed Rattle.ll_reasons.specs.Reasons.unlinked
+meaning_unmoved = tt

@@ -1,10 +1,9 @@
 //! What the layers of a process that refuse a call object to.
 
 ghost use Rattle.std.specs.Prelude.{◌≡◌, All, IfOk, IfSome};
-ghost use Rattle.ll_tree.specs.Trees.{place};
 ghost use Rattle.ll_trace.specs.FirstPlaces.{first_place};
 ghost use Rattle.ll_semantics.specs.Fits.{IsFitMove};
-ghost use Rattle.ll_semantics.specs.Requests.{asks, request, wanted};
+ghost use Rattle.ll_semantics.specs.Requests.{request, wanted};
 ghost use Rattle.ll_reasons.specs.Explanations.{objections_to};
 ghost use Rattle.ll_reasons.specs.Objections.{to_move, to_request};
 ghost use Rattle.ll_explanations.specs.Confined.{followed, stacked};
@@ -18,51 +17,31 @@ use crate::moved::move_request;
 use crate::objection::Noted;
 use ll_rights::{FsRight, Net};
 use ll_rules::{Errno, LayerSet, Move};
-use ll_semantics::{Wanted, wanted};
-use ll_state::{asks, link_move, place_of, rename_move};
-use ll_trace::{Call, Op, PathText, Seen};
+use ll_semantics::wanted;
+use ll_state::{asks, link_move, rename_move};
+use ll_trace::{Call, Op, Seen};
 use ll_tree::Place;
 use std::alloc::{AllocError, Global};
 
 /// What layers object to, layer after layer, or that memory ran out.
 pub(crate) type Objected = Result<Noted, AllocError>;
 
-/// What layers object to in what a call wants at a path, whose place may be known.
-#[tactic(auto, unfolding(ll_reasons::specs::Objections::to_request, crate::specs::Asking::objected, crate::specs::Meanings::by_layer))]
-fn to_wanted(
-    alloc: Global,
-    ctx: &Confinement,
-    path: &PathText,
-    known: Option<Place>,
-    wanted: Wanted,
-) -> Objected
-    requires { IfSome known (λ one. one ≡ place ctx.now.tree.now path.now) }
-    ensures said { IfOk result (λ all. by_layer ctx.now.tree.now all.items
-        ≡ to_request ctx.now.tree.now (stacked ctx.now)
-        (asks ctx.now.tree.now (place ctx.now.tree.now path.now) wanted)) }
-    ensures noted { IfOk result
-        (λ all. All (IsNoted ctx.now.tree.now ctx.now.trail.now.layers.items) all.items) }
-{
-    let place = place_of(ctx.tree, path, known);
-    match asks(ctx.tree, place, wanted) {
-        None => Ok(Vec::new(alloc)),
-        Some(request) => { objections_of(alloc, ctx, &Asked::OnNode(request.node, request.rights)) }
-    }
-}
-
-/// What layers object to in a call that may want something at a path, whose place may be known.
-#[tactic(auto, unfolding(ll_reasons::specs::Objections::to_request, crate::specs::Meanings::by_layer))]
-fn to_request(alloc: Global, ctx: &Confinement, op: &Op, known: Option<Place>) -> Objected
-    requires { IfSome known (λ one. one ≡ first_place ctx.now.tree.now op.now) }
+/// What layers object to in a call that may want something at its first path, which leads to this spot.
+#[tactic(auto, using(ll_trace::proofs::Places::first_place_inside), unfolding(crate::specs::Asking::requesting))]
+fn to_request(alloc: Global, ctx: &Confinement, op: &Op, spot: Place) -> Objected
+    requires { spot ≡ first_place ctx.now.tree.now op.now }
     ensures said { IfOk result (λ all. by_layer ctx.now.tree.now all.items
         ≡ to_request ctx.now.tree.now (stacked ctx.now)
         (request ctx.now.tree.now (wanted op.now))) }
     ensures noted { IfOk result
         (λ all. All (IsNoted ctx.now.tree.now ctx.now.trail.now.layers.items) all.items) }
 {
-    match wanted(op) {
+    let Some((_, wanted)) = wanted(op) else {
+        return Ok(Vec::new(alloc));
+    };
+    match asks(ctx.tree, spot, wanted) {
         None => Ok(Vec::new(alloc)),
-        Some((path, wanted)) => to_wanted(alloc, ctx, path, known, wanted),
+        Some(request) => { objections_of(alloc, ctx, &Asked::OnNode(request.node, request.rights)) }
     }
 }
 
@@ -83,17 +62,17 @@ fn to_move(alloc: Global, ctx: &Confinement, asked: Option<Move>, error: Errno) 
 }
 
 /// What the layers of a process object to that refuse a call which no kernel changes. The call's error says what is looked at for a move, and
-/// the numbers of the layers for a call on a descriptor. The place of its first path may be known.
-#[tactic(auto, unfolding(crate::specs::Asking::objecting))]
+/// the numbers of the layers for a call on a descriptor. Its first path leads to this spot.
+#[tactic(auto, using(ll_trace::proofs::Places::first_place_inside), unfolding(crate::specs::Asking::objecting))]
 fn objections_to_other(
     alloc: Global,
     ctx: &Confinement,
     op: &Op,
     error: Errno,
     numbers: LayerSet,
-    known: Option<Place>,
+    spot: Place,
 ) -> Objected
-    requires { IfSome known (λ one. one ≡ first_place ctx.now.tree.now op.now) }
+    requires { spot ≡ first_place ctx.now.tree.now op.now }
     ensures said { IfOk result (λ all. by_layer ctx.now.tree.now all.items
         ≡ objections_to ctx.now.tree.now (stacked ctx.now)
         (followed ctx.now.trail.now) op.now error numbers) }
@@ -103,23 +82,21 @@ fn objections_to_other(
     match op {
         Op::Ftruncate { fd } => { kept_by_descriptor(alloc, ctx, FsRight::Truncate, numbers, *fd) }
         Op::Ioctl { fd, .. } => kept_by_descriptor(alloc, ctx, FsRight::IoctlDev, numbers, *fd),
-        Op::Rename { from, to, exchange } => {
-            let source = place_of(ctx.tree, from, known);
-            let target = place_of(ctx.tree, to.path(), None);
-            let asked = rename_move(ctx.tree, source, target, *exchange);
+        Op::Rename { to, exchange, .. } => {
+            let target = ctx.tree.place_of(to.path().as_str());
+            let asked = rename_move(ctx.tree, spot, target, *exchange);
             to_move(alloc, ctx, asked, error)
         }
-        Op::Link { from, to } => {
-            let source = place_of(ctx.tree, from, known);
-            let target = place_of(ctx.tree, to.path(), None);
-            to_move(alloc, ctx, link_move(ctx.tree, source, target), error)
+        Op::Link { to, .. } => {
+            let target = ctx.tree.place_of(to.path().as_str());
+            to_move(alloc, ctx, link_move(ctx.tree, spot, target), error)
         }
         Op::Mount => objections_of(alloc, ctx, &Asked::Mounting),
         Op::Bind { port } => objections_of(alloc, ctx, &Asked::OnPort(*port, Net::BIND_TCP)),
         Op::Connect { port } => {
             objections_of(alloc, ctx, &Asked::OnPort(*port, Net::CONNECT_TCP))
         }
-        _ => to_request(alloc, ctx, op, known),
+        _ => to_request(alloc, ctx, op, spot),
     }
 }
 
@@ -131,9 +108,9 @@ pub(crate) fn objections_to(
     seen: &Seen<'_>,
     error: Errno,
     numbers: LayerSet,
-    known: Option<Place>,
+    spot: Place,
 ) -> Objected
-    requires { IfSome known (λ one. one ≡ first_place ctx.now.tree.now seen.now) }
+    requires { spot ≡ first_place ctx.now.tree.now seen.now }
     ensures said { IfOk result (λ all. by_layer ctx.now.tree.now all.items
         ≡ objections_to ctx.now.tree.now (stacked ctx.now)
         (followed ctx.now.trail.now) seen.now error numbers) }
@@ -141,7 +118,7 @@ pub(crate) fn objections_to(
         (λ all. All (IsNoted ctx.now.tree.now ctx.now.trail.now.layers.items) all.items) }
 {
     match seen.call() {
-        Call::Other(op) => objections_to_other(alloc, ctx, op, error, numbers, known),
+        Call::Other(op) => objections_to_other(alloc, ctx, op, error, numbers, spot),
         Call::Create { .. } => Ok(Vec::new(alloc)),
         Call::CreateEmpty { .. } => Ok(Vec::new(alloc)),
         Call::AddPath { .. } => Ok(Vec::new(alloc)),

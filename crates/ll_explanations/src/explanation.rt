@@ -70,8 +70,8 @@ fn moot(case: &Case<'_>, trails: &TraceOrigins, index: usize) -> Explanation
     ensures { Explains case.now index Moot result }
 {
     let (seen, trail) = found_at(case, trails, index, Answer::Moot);
-    let known = case.known_place(index);
-    Explanation::Mootness(reason_of(case.tree(), trail, &seen, known))
+    let spot = case.first_place(index);
+    Explanation::Mootness(reason_of(case.tree(), trail, &seen, spot))
 }
 
 /// Why a record is refused by no layer.
@@ -107,8 +107,8 @@ fn refused(
         layers: case.layers(),
         domain: &domain,
     };
-    let known = case.known_place(index);
-    let all = objections_to(alloc, &ctx, &seen, error, numbers, known)?;
+    let spot = case.first_place(index);
+    let all = objections_to(alloc, &ctx, &seen, error, numbers, spot)?;
     Ok(Explanation::Objections(LayerObjections { all }))
 }
 

@@ -1,12 +1,12 @@
 //! Why an object isn't renamed or linked.
 
-ghost use Rattle.std.specs.Prelude.{◌≡◌, IfSome};
+ghost use Rattle.std.specs.Prelude.{◌≡◌};
 ghost use Rattle.ll_tree.specs.Trees.{IsNode, place};
 ghost use Rattle.ll_explanations.specs.declared.why.Which.TheVariants.{First, Second};
 ghost use Rattle.ll_explanations.specs.Meant.{path_named, reason_in, text_named};
 ghost use Rattle.ll_reasons.specs.Reasons.{linked_to, moved_to, onto, unlinked, unrenamed};
 
-use crate::objects::{nowhere, place_of};
+use crate::objects::nowhere;
 use crate::paths::text_of;
 use crate::why::{NamedPath, Reason, Which};
 use ll_trace::Op;
@@ -51,17 +51,17 @@ fn moved_to(tree: &Tree, op: &Op, moved: NodeId, exchange: bool) -> Reason
     }
 }
 
-/// Why the object of a call's first path, whose place may be known, isn't renamed to its second, or the two aren't
+/// Why the object of a call's first path, which leads to this spot, isn't renamed to its second, or the two aren't
 /// exchanged.
-#[tactic(auto, unfolding(crate::specs::Meant::reason_in, crate::specs::Meant::path_in, crate::specs::Meant::above_by, ll_reasons::specs::Reasons::unrenamed))]
-pub(crate) fn unrenamed(tree: &Tree, op: &Op, exchange: bool, known: Option<Place>) -> Reason
-    requires { IfSome known (λ one. one ≡ place tree.now (text_named op.now First)) }
+#[tactic(auto, using(crate::proofs::Wanting::node_there), unfolding(crate::specs::Meant::meaning_unmoved))]
+pub(crate) fn unrenamed(tree: &Tree, op: &Op, exchange: bool, spot: Place) -> Reason
+    requires { spot ≡ place tree.now (text_named op.now First) }
     ensures { reason_in op.now result ≡ unrenamed tree.now (path_named op.now First)
         (place tree.now (text_named op.now First)) (path_named op.now Second)
         (place tree.now (text_named op.now Second)) exchange }
 {
     let which = Which::First;
-    match place_of(tree, op, known) {
+    match spot {
         Place::Node(moved) if moved.is_root() => Reason::Root,
         Place::Node(moved) => moved_to(tree, op, moved, exchange),
         Place::Gap(_) => Reason::Absent(NamedPath { which, above: 0 }),
@@ -84,16 +84,16 @@ fn linked_to(tree: &Tree, op: &Op, linked: NodeId) -> Reason
     }
 }
 
-/// Why the object of a call's first path, whose place may be known, gets no further name, the second.
-#[tactic(auto, unfolding(crate::specs::Meant::reason_in, crate::specs::Meant::path_in, crate::specs::Meant::above_by, ll_reasons::specs::Reasons::unlinked))]
-pub(crate) fn unlinked(tree: &Tree, op: &Op, known: Option<Place>) -> Reason
-    requires { IfSome known (λ one. one ≡ place tree.now (text_named op.now First)) }
+/// Why the object of a call's first path, which leads to this spot, gets no further name, the second.
+#[tactic(auto, using(crate::proofs::Wanting::node_there), unfolding(crate::specs::Meant::meaning_unmoved))]
+pub(crate) fn unlinked(tree: &Tree, op: &Op, spot: Place) -> Reason
+    requires { spot ≡ place tree.now (text_named op.now First) }
     ensures { reason_in op.now result ≡ unlinked tree.now (path_named op.now First)
         (place tree.now (text_named op.now First)) (path_named op.now Second)
         (place tree.now (text_named op.now Second)) }
 {
     let which = Which::First;
-    match place_of(tree, op, known) {
+    match spot {
         Place::Node(linked) if linked.is_root() => Reason::Root,
         Place::Node(linked) => linked_to(tree, op, linked),
         Place::Gap(_) => Reason::Absent(NamedPath { which, above: 0 }),

@@ -1,8 +1,8 @@
 //! Why what is at a path isn't what a call wants there.
 
-ghost use Rattle.std.specs.Prelude.{◌≡◌, IfSome, IsTrue, is_some};
+ghost use Rattle.std.specs.Prelude.{◌≡◌, IsTrue, is_some};
 ghost use Rattle.ll_lines.specs.Paths.{path_of};
-ghost use Rattle.ll_tree.specs.{Trees.place, TreeFacts.IsPlace};
+ghost use Rattle.ll_tree.specs.Trees.{place};
 ghost use Rattle.ll_explanations.specs.declared.why.Which.TheVariants.{First};
 ghost use Rattle.ll_explanations.specs.Meant.{path_named, reason_in, text_named};
 ghost use Rattle.ll_reasons.specs.Reasons.{no_object, nowhere, spelt, unmet};
@@ -11,21 +11,8 @@ ghost use Rattle.ll_trace.specs.declared.op.Op.{Op as Operation};
 use crate::paths::{SpeltPath, text_of};
 use crate::why::{NamedPath, Reason, Which};
 use ll_semantics::Wanted;
-use ll_trace::{Op, PathText};
+use ll_trace::Op;
 use ll_tree::{Place, Tree};
-
-/// The place of the first path of a call, which may be known.
-#[tactic(auto, using(ll_reasons::proofs::Placed::place_inside))]
-pub(crate) fn place_of(tree: &Tree, op: &Op, known: Option<Place>) -> Place
-    requires { IfSome known (λ one. one ≡ place tree.now (text_named op.now First)) }
-    ensures place { result ≡ place tree.now (text_named op.now First) }
-    ensures inside { IsPlace tree.now result }
-{
-    match known {
-        Some(place) => place,
-        None => tree.place_of(text_of(op, Which::First)),
-    }
-}
 
 /// Where the tree ends on the way to a path of a call that isn't there, by its text: at the first path, going up, whose
 /// directory is there.
@@ -58,44 +45,31 @@ pub(crate) fn nowhere(tree: &Tree, op: &Op, which: Which) -> Reason
     nowhere_from(tree, text_of(op, which), which)
 }
 
-/// Why the path of a rule isn't that of an object.
-#[tactic(auto, unfolding(crate::specs::Meant::reason_in, crate::specs::Meant::path_in, crate::specs::Meant::above_by, ll_reasons::specs::Reasons::no_object))]
-pub(crate) fn no_object_at(tree: &Tree, path: &PathText) -> Reason
-    ensures { (op : Operation) → text_named op First ≡ path.now → reason_in op result
+/// Why the first path of a call, with this text, isn't that of an object which the call takes.
+#[tactic(auto, using(crate::proofs::Wanting::node_there), unfolding(crate::specs::Meant::no_meaning))]
+pub(crate) fn no_object(tree: &Tree, text: &str, spot: Place) -> Reason
+    requires shape { IsTrue (is_some (path_of text.now)) }
+    requires spot { spot ≡ place tree.now text.now }
+    ensures { (op : Operation) → text_named op First ≡ text.now → reason_in op result
         ≡ no_object tree.now (path_named op First) (place tree.now (text_named op First)) }
 {
     let which = Which::First;
-    match tree.place_of(path.as_str()) {
+    match spot {
         Place::Node(node) => Reason::OfKind(tree.kind(node)),
         Place::Gap(_) => Reason::Absent(NamedPath { which, above: 0 }),
-        Place::Nowhere => nowhere_from(tree, path.as_str(), which),
+        Place::Nowhere => nowhere_from(tree, text, which),
     }
 }
 
-/// Why the first path of a call, whose place may be known, isn't that of an object which the call takes.
-#[tactic(auto, unfolding(crate::specs::Meant::reason_in, crate::specs::Meant::path_in, crate::specs::Meant::above_by, ll_reasons::specs::Reasons::no_object))]
-pub(crate) fn no_object(tree: &Tree, op: &Op, known: Option<Place>) -> Reason
-    requires { IfSome known (λ one. one ≡ place tree.now (text_named op.now First)) }
-    ensures { reason_in op.now result ≡ no_object tree.now (path_named op.now First)
-        (place tree.now (text_named op.now First)) }
-{
-    let which = Which::First;
-    match place_of(tree, op, known) {
-        Place::Node(node) => Reason::OfKind(tree.kind(node)),
-        Place::Gap(_) => Reason::Absent(NamedPath { which, above: 0 }),
-        Place::Nowhere => nowhere(tree, op, which),
-    }
-}
-
-/// Why what is at the first path of a call, whose place may be known, isn't what it wants there.
-#[tactic(auto, unfolding(crate::specs::Meant::meaning_unmet))]
-pub(crate) fn unmet(tree: &Tree, op: &Op, wanted: Wanted, known: Option<Place>) -> Reason
-    requires { IfSome known (λ one. one ≡ place tree.now (text_named op.now First)) }
+/// Why what is at the first path of a call, which leads to this spot, isn't what it wants there.
+#[tactic(auto, using(crate::proofs::Wanting::node_there), unfolding(crate::specs::Meant::meaning_unmet))]
+pub(crate) fn unmet(tree: &Tree, op: &Op, wanted: Wanted, spot: Place) -> Reason
+    requires { spot ≡ place tree.now (text_named op.now First) }
     ensures { reason_in op.now result ≡ unmet tree.now (path_named op.now First)
         (place tree.now (text_named op.now First)) wanted }
 {
     let which = Which::First;
-    let node = match place_of(tree, op, known) {
+    let node = match spot {
         Place::Node(node) => node,
         Place::Gap(_) => return Reason::Absent(NamedPath { which, above: 0 }),
         Place::Nowhere => return nowhere(tree, op, which),

@@ -1,6 +1,6 @@
 //! What is judged: a tree and a trace as they are seen under a kernel, and the rulebook.
 
-ghost use Rattle.std.specs.Prelude.{◌≡◌, ◌<◌, ◌≤◌, All, Some, IfSome, length, slice_get};
+ghost use Rattle.std.specs.Prelude.{◌≡◌, ◌<◌, ◌≤◌, All, Some, length, slice_get};
 ghost use Rattle.std.specs.Option.{option_map};
 ghost use Rattle.ll_process.specs.Cases.{IsCase, case_of};
 ghost use Rattle.ll_trace.specs.{SeenRecords.record_of, declared.reader.TheConstants.MOST_RECORDS};
@@ -31,13 +31,6 @@ impl<'t> Model for Case<'t> {
     ghost view = { λ case. case_of case.located.now case.settled.now };
 
     ghost invariant = { λ case. IsCase (case_of case.located.now case.settled.now) };
-}
-
-/// The place at an index, if there is one.
-fn place_at(places: &[Place], index: usize) -> Option<Place>
-    ensures { IfSome result (λ one. slice_get places.now index ≡ Some one) }
-{
-    places.get(index).copied()
 }
 
 impl<'t> Case<'t> {
@@ -139,13 +132,14 @@ impl<'t> Case<'t> {
         &settled.outcomes[index]
     }
 
-    /// The place of the first path of the record at an index, if it is known.
-    pub fn known_place(&self, index: usize) -> Option<Place>
-        ensures { IfSome result (λ one. (r : OneRecord) → slice_get self.now.records index ≡ Some r
-            → one ≡ first_place self.now.tree r.op) }
+    /// The place of the first path of the record at an index.
+    pub fn first_place(&self, index: usize) -> Place
+        requires { index < length self.now.records }
+        ensures { (r : OneRecord) → slice_get self.now.records index ≡ Some r
+            → result ≡ first_place self.now.tree r.op }
     {
         let located = self.located;
-        place_at(&located.places, index)
+        located.places[index]
     }
 
     /// How many records a process has with its descendants; a process that isn't there has none. No answer rests on it.

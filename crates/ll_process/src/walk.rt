@@ -1,8 +1,8 @@
 //! One process's own records, one after another.
 
-ghost use Rattle.std.specs.Prelude.{◌≡◌, ◌<◌, false, Some, IfOk, IfSome, OnOk, length, slice_get};
+ghost use Rattle.std.specs.Prelude.{◌≡◌, ◌<◌, false, Some, IfOk, OnOk, length, slice_get};
 ghost use Rattle.ll_trace.specs.Borrowed.{is_of_rights};
-ghost use Rattle.ll_trace.specs.{declared.op.Record.Record as OneRecord, FirstPlaces.first_place};
+ghost use Rattle.ll_trace.specs.{declared.op.Record.Record as OneRecord, FirstPlaces.first_place, SeenRecords.record_of};
 ghost use Rattle.ll_semantics.specs.declared.answer.RulesetOutcome.{RulesetOutcome as OneOutcome};
 ghost use Rattle.ll_semantics.specs.CallContexts.{CallContext, answer_to, state_then};
 ghost use Rattle.ll_state.specs.Agreement.{IsMet, Agrees};
@@ -12,8 +12,8 @@ ghost use Rattle.ll_process.specs.Own.{IsOwn, Meets, Leaves};
 
 use crate::case::Case;
 use ll_semantics::{Answer, RulesetOutcome};
-use ll_state::OwnState;
-use ll_trace::{Call, Op, ProcessId, Seen, wants_at_a_path};
+use ll_state::{OwnState, SeenCall};
+use ll_trace::{Call, Op, ProcessId, Seen, SeenRecord};
 use ll_tree::Place;
 use std::alloc::AllocError;
 
@@ -51,23 +51,16 @@ fn outcome_of_other(case: &Case<'_>, index: u32, op: &Op) -> RulesetOutcome
     }
 }
 
-/// The place of the first path of the call of the record at an index, if it names a path whose place is known.
-fn known_place(case: &Case<'_>, index: u32, seen: &Seen<'_>) -> Option<Place>
-    ensures { IfSome result (λ one. (r : OneRecord) → slice_get case.now.records index ≡ Some r
-        → one ≡ first_place case.now.tree r.op) }
+/// The place of the first path of a record. A call without a path has none, which isn't looked up.
+#[tactic(auto, unfolding(ll_trace::specs::FirstPlaces::first_place))]
+fn first_place(case: &Case<'_>, index: u32, seen: &SeenRecord<'_>) -> Place
+    requires { slice_get case.now.records index ≡ Some (record_of seen.now) }
+    ensures { result ≡ first_place case.now.tree seen.now.op }
 {
-    match seen.call() {
-        Call::Other(op) if names_a_place(op) => case.known_place(index as usize),
-        _ => None,
+    if seen.op.names_a_path() {
+        return case.first_place(index as usize);
     }
-}
-
-/// Whether a call names a path whose place is looked up before.
-fn names_a_place(op: &Op) -> bool {
-    matches!(
-        op,
-        wants_at_a_path!() | Op::OpenFile { .. } | Op::Rename { .. } | Op::Link { .. }
-    )
+    Place::Nowhere
 }
 
 /// The answer to the record at an index if it meets this.
@@ -92,8 +85,13 @@ fn judge_met(
 {
     let record = case.record(index as usize);
     let outcome = outcome_at(case, index, &record.op);
-    let known = known_place(case, index, &record.op);
-    own.answer_call(case.tree(), case.layers(), &record.op, &outcome, known)
+    let call = SeenCall {
+        seen: &record.op,
+        tree: case.tree(),
+        layers: case.layers(),
+        place: first_place(case, index, &record),
+    };
+    own.answer_call(&call, &outcome)
 }
 
 /// The answer to one of a process's own records. A start took effect when its process began.

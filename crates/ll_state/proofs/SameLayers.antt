@@ -3,6 +3,7 @@
 use Rattle.std.proofs.Common.{◌≡◌, ℕ, List, Option, Some, None, refl, ap, sym, ◌≢◌, ◌||◌, ◌<◌, ◌≤◌, inl, inr, leb, true, false, [], ◌∷◌, ◌++◌, length, ◌∙◌}
 use Rattle.std.proofs.Common.{arith, Bool, if◌then◌else◌}
 use Rattle.std.specs.List.{AllZip}
+use Rattle.ll_trace.proofs.Places.{first_place_inside}
 use Rattle.ll_rights.specs.declared.kind.Kind.{Kind}
 use Rattle.ll_rights.specs.declared.kind.Kind.TheVariants.{Reg, Char, Block}
 use Rattle.ll_rights.specs.declared.net.Net.{Net}
@@ -80,8 +81,10 @@ opened_same tree a b (Node node) mode same = kind_same tree a b same (kind_at tr
 opened_same tree a b (Gap directory) mode same = file_same tree a b same (path_at tree directory) mode
 opened_same tree a b Nowhere mode same = refl
 
--- what the same layers answer
-pub ruleset same_answers = (request_same, move_same, port_same, mount_same)
+-- what the same layers answer, at the place that a call names
+pub ruleset same_answers = (request_same, move_same, port_same, mount_same, first_place_inside)
+
+pub ruleset same_openings = (request_same, opened_same, first_place_inside)
 
 -- ---- restricting
 

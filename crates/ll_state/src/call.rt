@@ -1,23 +1,34 @@
 //! A call that is to be judged, and what it is held against.
 
-ghost use Rattle.std.specs.Prelude.{◌≡◌, All, IfSome};
+ghost use Rattle.std.specs.Prelude.{◌≡◌, All};
 ghost use Rattle.std.proofs.Props.{props};
 ghost use Rattle.ll_rules.specs.{InTree.AreInTree, KeptLayers.IsDomainOf};
 ghost use Rattle.ll_trace.specs.FirstPlaces.{first_place};
 
 use ll_rules::{Domain, Layer};
-use ll_trace::Op;
+use ll_trace::{Op, Seen};
 use ll_tree::{Place, Tree};
 
-/// A call with what it meets: the tree, and all layers.
+/// A call as it is seen through a kernel, with what it meets: the tree, and all layers.
+#[derive(Clone, Copy)]
+pub struct SeenCall<'a> {
+    pub seen: &'a Seen<'a>,
+    pub tree: &'a Tree,
+    pub layers: &'a [Layer],
+    /// The place of its first path.
+    pub place: Place,
+    pub ghost first: { place ≡ first_place tree.now seen.now },
+}
+
+/// A call that no kernel changes, with what it meets.
 #[derive(Clone, Copy)]
 pub(crate) struct Call<'a> {
-    /// The place of its first path, where that is known.
-    pub(crate) known: Option<Place>,
     pub(crate) op: &'a Op,
     pub(crate) tree: &'a Tree,
     pub(crate) layers: &'a [Layer],
-    ghost first: { IfSome known (λ one. one ≡ first_place tree.now op.now) } by { Prim.hlevel props },
+    /// The place of its first path.
+    pub(crate) place: Place,
+    ghost first: { place ≡ first_place tree.now op.now } by { Prim.hlevel props },
     ghost rules: { All (AreInTree tree.now) layers.now } by { Prim.hlevel props },
 }
 

@@ -8,6 +8,7 @@ mod moves;
 mod own_state;
 mod requests;
 
+pub use call::SeenCall;
 pub use moves::{link_move, rename_move};
 pub use own_state::OwnState;
-pub use requests::{asks, place_of};
+pub use requests::asks;

@@ -3,25 +3,22 @@
 mod opening;
 mod restricting;
 
-ghost use Rattle.std.specs.Prelude.{◌≡◌, ℕ, List, true, IfOk, IfSome, OnOk, OnErr};
+ghost use Rattle.std.specs.Prelude.{◌≡◌, ℕ, List, true, IfOk, OnOk, OnErr};
 ghost use Rattle.ll_tree.specs.Trees.{Entry};
 ghost use Rattle.ll_rules.specs.Layers.{RulesOn};
-ghost use Rattle.ll_trace.specs.FirstPlaces.{first_place};
 ghost use Rattle.ll_semantics.specs.States.{State, fresh};
 ghost use Rattle.ll_semantics.specs.CallContexts.{CallContext, answer_to, state_then};
 ghost use Rattle.ll_state.specs.Agreement.{IsMet, Agrees, IsJudged, is_still};
 ghost use Rattle.ll_semantics.specs.RulesetOutcomes.{OutcomeFits};
 
-use crate::call::{Call, ConfinedCall};
+use crate::call::{Call, ConfinedCall, SeenCall};
 use crate::descriptors::{ftruncate, ioctl};
 use crate::moves::{link_move, rename_move};
-use crate::requests::place_of;
 use ll_rights::Net;
 use ll_rules::{Domain, Layer};
 use ll_semantics::{Answer, Descriptor, RulesetOutcome};
 use ll_shared::SharedMap;
-use ll_trace::{Call as Taken, Op, Seen, changes_nothing, wants_at_a_path};
-use ll_tree::{Place, Tree};
+use ll_trace::{Call as Taken, Op, changes_nothing, wants_at_a_path};
 use std::alloc::{AllocError, Global};
 
 /// What one process has by itself: its flags, its domain and its open descriptors. The rulesets that it holds
@@ -70,54 +67,43 @@ impl OwnState {
     }
 
     /// Answers one call that the process meets, and changes its state where the call is allowed. The outcome says what
-    /// follows from the rulesets, which the processes share; a place, where it is known, is that of the call's
-    /// first path, which is then not looked for.
+    /// follows from the rulesets, which the processes share.
     pub fn answer_call(
         &mut self,
-        tree: &Tree,
-        layers: &[Layer],
-        seen: &Seen<'_>,
+        call: &SeenCall<'_>,
         outcome: &RulesetOutcome,
-        known: Option<Place>,
     ) -> Result<Answer, AllocError>
         ghost ctx: { CallContext }
-        requires met { IsMet ctx tree.now layers.now }
+        requires met { IsMet ctx call.now.tree.now call.now.layers.now }
         requires agrees { Agrees ctx.tree ctx.layers self.old ctx.state }
-        requires fits { OutcomeFits ctx seen.now outcome.now }
-        requires known { IfSome known (λ one. one ≡ first_place tree.now seen.now) }
-        ensures answer { IfOk result (λ answer. answer ≡ answer_to ctx seen.now) }
-        ensures ok { OnOk result (Agrees ctx.tree ctx.layers self.new (state_then ctx seen.now)) }
+        requires fits { OutcomeFits ctx call.now.seen.now outcome.now }
+        ensures answer { IfOk result (λ answer. answer ≡ answer_to ctx call.now.seen.now) }
+        ensures ok { OnOk result
+            (Agrees ctx.tree ctx.layers self.new (state_then ctx call.now.seen.now)) }
         ensures err { OnErr result (Agrees ctx.tree ctx.layers self.new ctx.state) }
     {
         match outcome {
             RulesetOutcome::Answered(answer) => Ok(*answer),
-            RulesetOutcome::Frozen(layer) => Ok(self.restrict(layers, Some(*layer))),
-            RulesetOutcome::ByState => self.answer_seen(tree, layers, seen, known),
+            RulesetOutcome::Frozen(layer) => Ok(self.restrict(call.layers, Some(*layer))),
+            RulesetOutcome::ByState => self.answer_seen(call),
         }
     }
 
     /// Answers a call of which the rulesets say nothing.
     #[tactic(auto, unfolding(ll_trace::specs::Borrowed::meant, ll_semantics::specs::RulesetOutcomes::fitting))]
-    fn answer_seen(
-        &mut self,
-        tree: &Tree,
-        layers: &[Layer],
-        seen: &Seen<'_>,
-        known: Option<Place>,
-    ) -> Result<Answer, AllocError>
+    fn answer_seen(&mut self, call: &SeenCall<'_>) -> Result<Answer, AllocError>
         ghost ctx: { CallContext }
-        requires met { IsMet ctx tree.now layers.now }
+        requires met { IsMet ctx call.now.tree.now call.now.layers.now }
         requires agrees { Agrees ctx.tree ctx.layers self.old ctx.state }
-        requires fits { OutcomeFits ctx seen.now RulesetOutcome.ByState }
-        requires known { IfSome known (λ one. one ≡ first_place tree.now seen.now) }
-        ensures { IsJudged ctx seen.now self.new result }
+        requires fits { OutcomeFits ctx call.now.seen.now RulesetOutcome.ByState }
+        ensures { IsJudged ctx call.now.seen.now self.new result }
     {
-        match seen.call() {
+        match call.seen.call() {
             Taken::Other(op) => self.answer_by_state(&Call {
-                known,
                 op,
-                tree,
-                layers,
+                tree: call.tree,
+                layers: call.layers,
+                place: call.place,
             }),
             Taken::LeaveOutPath { .. } => Ok(Answer::Moot),
             Taken::LeaveOutPort => Ok(Answer::Moot),
@@ -144,12 +130,12 @@ impl OwnState {
             }
             Op::Restrict { .. } => Ok(self.restrict(call.layers, None)),
             Op::OpenFile {
-                path,
                 fd,
                 mode,
                 create,
                 trunc,
-            } => self.open(call, path, *fd, *mode, *create, *trunc),
+                ..
+            } => self.open(call, *fd, *mode, *create, *trunc),
             Op::Adopt { fd, kind } => self.adopt(*fd, *kind),
             Op::Dup { fd, to } => self.dup(*fd, *to),
             Op::Close { fd } => self.close(*fd),
@@ -181,15 +167,13 @@ impl OwnState {
             Op::Ftruncate { fd } => ftruncate(self.descriptor(*fd)),
             Op::Ioctl { fd, driver } => ioctl(self.descriptor(*fd), *driver),
             wants_at_a_path!() => confined.ask(call.request()),
-            Op::Rename { from, to, exchange } => {
-                let from = place_of(tree, from, call.known);
-                let to = place_of(tree, to.path(), None);
-                confined.ask_move(rename_move(tree, from, to, *exchange))
+            Op::Rename { to, exchange, .. } => {
+                let to = tree.place_of(to.path().as_str());
+                confined.ask_move(rename_move(tree, call.place, to, *exchange))
             }
-            Op::Link { from, to } => {
-                let from = place_of(tree, from, call.known);
-                let to = place_of(tree, to.path(), None);
-                confined.ask_move(link_move(tree, from, to))
+            Op::Link { to, .. } => {
+                let to = tree.place_of(to.path().as_str());
+                confined.ask_move(link_move(tree, call.place, to))
             }
             Op::Mount => confined.ask_mount(),
             Op::Bind { port } => confined.ask_port(*port, Net::BIND_TCP),

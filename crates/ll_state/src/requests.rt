@@ -1,7 +1,7 @@
 //! What a call asks of the file tree.
 
 ghost use Rattle.std.specs.Prelude.{◌≡◌, IfSome};
-ghost use Rattle.ll_tree.specs.Trees.{IsNode, parent_at, place};
+ghost use Rattle.ll_tree.specs.Trees.{IsNode, parent_at};
 ghost use Rattle.ll_tree.specs.TreeFacts.{IsPlace};
 ghost use Rattle.ll_semantics.specs.Fits.{IsFit};
 ghost use Rattle.ll_semantics.specs.Requests.{rights_of_mode, file_rights, new_file_rights, open_kind, remove_from, asks, request, wanted};
@@ -9,21 +9,8 @@ ghost use Rattle.ll_semantics.specs.Requests.{rights_of_mode, file_rights, new_f
 use crate::call::Call;
 use ll_rights::{Fs, Kind, RightSet};
 use ll_semantics::{Request, Wanted, wanted};
-use ll_trace::{Mode, PathText};
+use ll_trace::Mode;
 use ll_tree::{NodeId, Place, Tree};
-
-/// The place that a path leads to, which may be known.
-#[tactic(auto, using(crate::proofs::Judging::place_inside))]
-pub fn place_of(tree: &Tree, path: &PathText, known: Option<Place>) -> Place
-    requires { IfSome known (λ one. one ≡ place tree.now path.now) }
-    ensures place { result ≡ place tree.now path.now }
-    ensures inside { IsPlace tree.now result }
-{
-    match known {
-        Some(place) => place,
-        None => tree.place_of(path.as_str()),
-    }
-}
 
 /// The rights to open a file for reading, writing or both (landlock(7), "Filesystem actions").
 #[tactic(auto, unfolding(ll_rights::specs::Rights::only, ll_rights::specs::Rights::united))]
@@ -148,7 +135,7 @@ impl<'a> Call<'a> {
         ensures exact { result ≡ request self.now.tree.now (wanted self.now.op.now) }
         ensures fit { IfSome result (IsFit self.now.tree.now) }
     {
-        let (path, wanted) = wanted(self.op)?;
-        asks(self.tree, place_of(self.tree, path, self.known), wanted)
+        let (_, wanted) = wanted(self.op)?;
+        asks(self.tree, self.place, wanted)
     }
 }

@@ -2,13 +2,11 @@
 use Rattle.std.proofs.Common.{◌≡◌, ℕ, zero, suc, ◌+◌, Bool, true, false, not, ◌&&◌, List, [], ◌∷◌, map, take, Option, Some}
 use Rattle.std.proofs.Common.{None, cond, refl, sym, ap, ◌∙◌, if◌then◌else◌}
 use Rattle.std.specs.Prelude.{slice_get}
-use Rattle.std.proofs.lemmas.Option.{none-some, same_Some}
 use Rattle.std.proofs.lemmas.List.{length-map, take-map}
 use Rattle.ll_rights.specs.declared.abi.Abi.{Abi}
 use Rattle.ll_rights.specs.Supported.{supported_fs, supported_net}
 use Rattle.ll_rights.specs.Rights as files
 use Rattle.ll_rights.specs.NetRights as network
-use Rattle.ll_tree.specs.declared.place.Place.{Place}
 use Rattle.ll_tree.specs.Trees as trees
 use Rattle.ll_trace.specs.declared.op.Op.{Op}
 use Rattle.ll_trace.specs.declared.op.Op.TheVariants as calls
@@ -19,7 +17,7 @@ use Rattle.ll_trace.specs.Entries as entries
 use Rattle.ll_trace.specs.Records.{entry_of, record_of, records_after, process_of}
 use Rattle.ll_trace.specs.Traces.{AreFaultless, AreRecords}
 use Rattle.ll_trace.specs.Processes.{is_fork, is_starting, process_count, number_if, forked_at, own_from, forked_by, parents}
-use Rattle.ll_trace.specs.FirstPlaces.{AreFirstPlaces, first_place, paths_of}
+use Rattle.ll_trace.specs.FirstPlaces.{first_place, first_places, place_of_first, paths_of}
 use Rattle.ll_trace.specs.Operations.{op_name}
 use Rattle.ll_trace.specs.BestEffort.{at_best_effort, record_at_best_effort, records_at_best_effort}
 use Rattle.ll_trace.proofs.Numbering.{are_numbered}
@@ -32,7 +30,7 @@ of_both : {X : Type 0} (says : Op → X) (b : Bool) (x y : Op) (what : X) → sa
 of_both says true x y what first second = first
 of_both says false x y what first second = second
 
--- what a call is to the processes of a trace, its name, its paths, and which place it names first
+-- what a call is to the processes of a trace, its name and its paths
 record Role : Type 0 where
   start : Bool
   fork : Bool
@@ -42,7 +40,6 @@ record Role : Type 0 where
   forked : ProcessId → Option ProcessId
   name : List ℕ
   paths : List (List ℕ)
-  place : List trees.Entry → Place
 
 role : Op → Role
 role op = record {
@@ -54,24 +51,12 @@ role op = record {
   forked = forked_by op;
   name = op_name op;
   paths = paths_of op;
-  place = λ tree. first_place tree op;
 }
-
--- the places of all first paths are those that the records name first
-pub first_places-read : (tree : List trees.Entry) (records : List Record) (places : List Place) → places ≡ map (λ r. first_place tree r.op) records
-    → AreFirstPlaces tree records places
-first_places-read tree records places are = rw are (first_places-each tree records)
-  where
-    first_places-each : (tree : List trees.Entry) (records : List Record) → AreFirstPlaces tree records (map (λ r. first_place tree r.op) records)
-    first_places-each tree [] k one r at_place at_record = absurd (none-some r at_record)
-    first_places-each tree (first ∷ rest) zero one r at_place at_record =
-        sym (same_Some (first_place tree first.op) one at_place) ∙ ap (λ (s : Record). first_place tree s.op) (same_Some first r at_record)
-    first_places-each tree (first ∷ rest) (suc k) one r at_place at_record = first_places-each tree rest k one r at_place at_record
 
 module _ (abi : Abi) where
   -- All calls whose rights best effort takes out, and what it makes of them, have one role.
   role-kept : (op : Op) → role (at_best_effort abi op) ≡ role op
-  unfolding at_best_effort role is_start is_fork is_exit pid_started is_starting forked_by op_name first_place paths_of
+  unfolding at_best_effort role is_start is_fork is_exit pid_started is_starting forked_by op_name paths_of
   role-kept (calls.Create rs fs net) =
       of_both role (files.is_empty (supported_fs abi fs) && network.is_empty (supported_net abi net) && not (files.is_empty fs && network.is_empty net))
       _ _ _ refl refl
@@ -156,16 +141,11 @@ module _ (abi : Abi) where
       ap (λ (r : Record). r ∷ records_after (map entry_kept (entry ∷ past)) (map entry_kept es)) (record-kept past entry)
       ∙ ap (λ (rs : List Record). record_at_best_effort abi (record_of past entry) ∷ rs) (records-kept (entry ∷ past) es)
 
-  -- the places that records name first are those that they name at best effort
-  pub first_places-kept : (tree : List trees.Entry) (records : List Record) (places : List Place) → AreFirstPlaces tree records places
-      → AreFirstPlaces tree (records_at_best_effort abi records) places
-  unfolding role
-  first_places-kept tree [] places are k one r at_place at_record = absurd (none-some r at_record)
-  first_places-kept tree (first ∷ rest) [] are k one r at_place at_record = absurd (none-some one at_place)
-  first_places-kept tree (first ∷ rest) (p ∷ ps) are zero one r at_place at_record =
-      are 0 one first at_place refl ∙ sym (ap (λ o. o.place tree) (role-kept first.op)) ∙ ap (λ (s : Record). first_place tree s.op) (same_Some _ _ at_record)
-  first_places-kept tree (first ∷ rest) (p ∷ ps) are (suc k) one r at_place at_record =
-      first_places-kept tree rest ps (λ j other s here there. are (suc j) other s here there) k one r at_place at_record
+  pub first_places-kept : (tree : List trees.Entry) (records : List Record)
+      → first_places tree (records_at_best_effort abi records) ≡ first_places tree records
+  unfolding first_place
+  first_places-kept tree [] = refl
+  first_places-kept tree (r ∷ rs) = rw (ap (place_of_first tree) (paths-kept r.op), first_places-kept tree rs) refl
 
   entries-kept : (records : List Record) → map entry_of (records_at_best_effort abi records) ≡ map entry_kept (map entry_of records)
   unfolding entry_kept

@@ -15,3 +15,4 @@ pub mod Seeing
 pub mod SaidByName
 pub mod RecentOwners
 pub mod WorkedRows
+pub mod Places

@@ -11,9 +11,8 @@ use Rattle.ll_trace.specs.declared.trace.Effort.{Effort}
 use Rattle.ll_trace.specs.declared.trace.Effort.TheVariants.{AsRecorded, Best}
 use Rattle.ll_trace.specs.BestEffort.{at_best_effort, record_at_best_effort}
 use Rattle.ll_trace.specs.Processes.{is_start, process_count, parents, own_records, forked_at}
-use Rattle.ll_tree.specs.declared.place.Place.{Place}
 use Rattle.ll_tree.specs.Trees.{Entry}
-use Rattle.ll_trace.specs.FirstPlaces.{AreFirstPlaces}
+use Rattle.ll_trace.specs.FirstPlaces.{first_places}
 use Rattle.ll_trace.specs.Taken.{by_effort, records_by}
 use Rattle.ll_trace.specs.Traces.{AreRecords}
 use Rattle.ll_trace.proofs.BestEffort.{are_records-kept, first_places-kept, forked-kept, is_start-kept, own-kept, parents-kept, starting-kept}
@@ -91,9 +90,8 @@ module _ (effort : Effort) (abi : Abi) (records : List Record) where
   seen_at k item r held seen same is within read there =
       same_Some r _ (sym there ∙ ap (λ rs. slice_get rs k) (sym is) ∙ record_seen k item (item_at k item held seen same is within read))
 
-  pub first_places_seen : (tree : List Entry) (places : List Place) → AreFirstPlaces tree records places
-      → AreFirstPlaces tree (records_by effort abi records) places
-  first_places_seen tree places are = go effort where
-    go : (e : Effort) → AreFirstPlaces tree (records_by e abi records) places
-    go AsRecorded = are
-    go Best = first_places-kept abi tree records places are
+  pub first_places_seen : (tree : List Entry) → first_places tree (records_by effort abi records) ≡ first_places tree records
+  first_places_seen tree = go effort where
+    go : (e : Effort) → first_places tree (records_by e abi records) ≡ first_places tree records
+    go AsRecorded = refl
+    go Best = first_places-kept abi tree records

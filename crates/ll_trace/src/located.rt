@@ -1,7 +1,7 @@
 //! A trace with the places in the tree that its records name.
 
-ghost use Rattle.std.specs.Prelude.{◌≡◌, ◌≤◌, IfOk, map};
-ghost use Rattle.ll_trace.specs.FirstPlaces.{AreFirstPlaces, first_place};
+ghost use Rattle.std.specs.Prelude.{◌≡◌, ◌≤◌, IfOk};
+ghost use Rattle.ll_trace.specs.FirstPlaces.{first_place, first_places};
 
 use crate::op::Record;
 use crate::trace::Trace;
@@ -13,14 +13,14 @@ use std::thread::Threads;
 /// The least number of records for which a thread is started that looks up their paths.
 const LEAST_PART: usize = 1024;
 
-/// A tree and a trace, with the place of each record's first path in the tree, so that the paths of records which
-/// are judged several times are looked up once.
+/// A tree and a trace, with the place of each record's first path in the tree, so that this path is looked up once,
+/// however often the record is judged.
 #[derive(Drop)]
 pub struct Located {
     pub tree: Tree,
     pub trace: Trace,
     pub places: Vec<Place>,
-    pub ghost are_first: { AreFirstPlaces tree trace places.items },
+    pub ghost are_first: { places.items ≡ first_places tree trace },
 }
 
 impl Located {
@@ -28,8 +28,6 @@ impl Located {
     pub fn of(alloc: Global, tree: Tree, trace: Trace) -> Result<Located, AllocError>
         ensures tree { IfOk result (λ located. located.tree ≡ tree) }
         ensures trace { IfOk result (λ located. located.trace ≡ trace) }
-        ensures places { IfOk result
-            (λ located. located.places.items ≡ map (λ r. first_place tree r.op) trace) }
     {
         let places = places_of(alloc, &tree, &trace)?;
         Ok(Located {
@@ -50,8 +48,6 @@ impl Located {
     ) -> Result<Located, AllocError>
         ensures tree { IfOk result (λ located. located.tree ≡ tree) }
         ensures trace { IfOk result (λ located. located.trace ≡ trace) }
-        ensures places { IfOk result
-            (λ located. located.places.items ≡ map (λ r. first_place tree r.op) trace) }
     {
         if workers <= 1 {
             return Located::of(alloc, tree, trace);
@@ -67,8 +63,7 @@ impl Located {
 
 /// The place of each record's first path.
 fn places_of(alloc: Global, tree: &Tree, trace: &Trace) -> Result<Vec<Place>, AllocError>
-    ensures { IfOk result
-        (λ places. places.items ≡ map (λ r. first_place tree.now r.op) trace.now) }
+    ensures { IfOk result (λ places. places.items ≡ first_places tree.now trace.now) }
 {
     trace
         .records()
@@ -86,8 +81,7 @@ fn places_by<R: Threads + Sync>(
     workers: usize,
 ) -> Result<Vec<Place>, AllocError>
     requires { 1 ≤ workers }
-    ensures { IfOk result
-        (λ places. places.items ≡ map (λ r. first_place tree.now r.op) trace.now) }
+    ensures { IfOk result (λ places. places.items ≡ first_places tree.now trace.now) }
 {
     let records = trace.records();
     records

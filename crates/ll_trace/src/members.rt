@@ -1,8 +1,7 @@
 //! The members of a record's line.
 
-ghost use Rattle.serde_json.specs.Data.{Data};
 ghost use Rattle.ll_lines.specs.Readers.{Gives, Reads};
-ghost use Rattle.ll_members.specs.Slots.{Hold};
+ghost use Rattle.ll_members.specs.Slots.{ReadsOf};
 ghost use Rattle.ll_trace.specs.Members.{path_at, mode_at, sort_at, made_kind_at, port_at};
 
 use crate::op::{Mode, Sort};
@@ -15,8 +14,7 @@ use std::alloc::Global;
 /// The path of the member `path`.
 #[tactic(auto, unfolding(ll_members::specs::Slots::spelt, crate::specs::Members::path_at))]
 pub fn path_of(alloc: Global, members: &Members<'_>) -> Result<PathText, Cause>
-    ensures { (value : Data) → Hold members.now value
-        → Gives (λ path. path) result (path_at value) }
+    ensures { ReadsOf members.now (Gives (λ path. path) result) path_at }
 {
     let text = text_of(members, Name::Path)?;
     PathText::read(alloc, text)
@@ -25,8 +23,7 @@ pub fn path_of(alloc: Global, members: &Members<'_>) -> Result<PathText, Cause>
 /// What a file is opened for.
 #[tactic(auto, unfolding(ll_members::specs::Slots::spelt, crate::specs::Members::mode_at))]
 pub fn mode_of(members: &Members<'_>) -> Result<Mode, Cause>
-    ensures { (value : Data) → Hold members.now value
-        → Reads (λ mode. mode) result (mode_at value) }
+    ensures { ReadsOf members.now (Reads (λ mode. mode) result) mode_at }
 {
     match text_of(members, Name::Mode)? {
         "r" => Ok(Mode::Read),
@@ -39,8 +36,7 @@ pub fn mode_of(members: &Members<'_>) -> Result<Mode, Cause>
 /// What an adopted descriptor refers to.
 #[tactic(auto, unfolding(ll_members::specs::Slots::spelt, crate::specs::Members::sort_at))]
 pub fn sort_of(members: &Members<'_>) -> Result<Sort, Cause>
-    ensures { (value : Data) → Hold members.now value
-        → Reads (λ sort. sort) result (sort_at value) }
+    ensures { ReadsOf members.now (Reads (λ sort. sort) result) sort_at }
 {
     match text_of(members, Name::Kind)? {
         "reg" => Ok(Sort::Regular),
@@ -53,8 +49,7 @@ pub fn sort_of(members: &Members<'_>) -> Result<Sort, Cause>
 /// The kind of what mknod(2) makes.
 #[tactic(auto, unfolding(ll_members::specs::Slots::spelt, crate::specs::Members::made_kind_at))]
 pub fn made_kind_of(members: &Members<'_>) -> Result<Kind, Cause>
-    ensures { (value : Data) → Hold members.now value
-        → Reads (λ kind. kind) result (made_kind_at value) }
+    ensures { ReadsOf members.now (Reads (λ kind. kind) result) made_kind_at }
 {
     match text_of(members, Name::Kind)? {
         "reg" => Ok(Kind::Reg),
@@ -69,8 +64,7 @@ pub fn made_kind_of(members: &Members<'_>) -> Result<Kind, Cause>
 /// The TCP port of the member `port`.
 #[tactic(auto, unfolding(ll_members::specs::Slots::spelt, crate::specs::Members::port_at))]
 pub fn port_of(members: &Members<'_>) -> Result<u16, Cause>
-    ensures { (value : Data) → Hold members.now value
-        → Reads (λ port. port) result (port_at value) }
+    ensures { ReadsOf members.now (Reads (λ port. port) result) port_at }
 {
     let port = number_of(members, Name::Port)?;
     u16::try_from(port).ok().ok_or(Cause::Field)

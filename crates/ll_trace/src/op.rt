@@ -1,6 +1,6 @@
 //! Records: what a process did, and the process that a record belongs to.
 
-ghost use Rattle.std.specs.Prelude.{◌≡◌};
+ghost use Rattle.std.specs.Prelude.{◌≡◌, option_map, slice_get};
 ghost use Rattle.ll_tree.specs.Trees.{place};
 
 use crate::path_text::{PathText, SecondPath};
@@ -245,7 +245,7 @@ macro_rules! changes_without_names {
 
 impl Op {
     ghost use Rattle.ll_trace.specs.Entries.{is_start, is_exit, pid_started};
-    ghost use Rattle.ll_trace.specs.FirstPlaces.{first_place};
+    ghost use Rattle.ll_trace.specs.FirstPlaces.{first_place, paths_of};
     ghost use Rattle.ll_trace.specs.Processes.{is_fork, is_starting, forked_by};
 
     #[tactic(auto, unfolding(crate::specs::Entries::is_start))]
@@ -289,23 +289,33 @@ impl Op {
         }
     }
 
-    /// The place of the path that the call names, or of the first of its two; `Nowhere` for a call without a path,
-    /// and for one that adds a rule, whose path is the ruleset's.
-    #[tactic(auto, unfolding(crate::specs::FirstPlaces::first_place, crate::specs::Operations::paths_of))]
-    pub fn first_place(&self, tree: &Tree) -> Place
-        ensures { result ≡ first_place tree.now self.now }
+    /// The path that the call names, or the first of its two.
+    #[tactic(auto, unfolding(crate::specs::Operations::paths_of))]
+    pub fn first_path(&self) -> Option<&PathText>
+        ensures { option_map (λ path. path.now) result ≡ slice_get (paths_of self.now) 0 }
     {
         match self {
             wants_at_a_path!(path)
+            | Op::AddPath { path, .. }
+            | Op::LeaveOutPath { path }
             | Op::OpenFile { path, .. }
             | Op::Rename { from: path, .. }
-            | Op::Link { from: path, .. } => place_at(tree, path),
+            | Op::Link { from: path, .. } => Some(path),
             still_without_a_path!()
             | changes_without_names!()
             | Op::Create { .. }
-            | Op::AddPath { .. }
-            | Op::LeaveOutPath { .. }
-            | Op::AddPort { .. } => Place::Nowhere,
+            | Op::AddPort { .. } => None,
+        }
+    }
+
+    /// The place of that path, and `Nowhere` for a call without a path.
+    #[tactic(auto, unfolding(crate::specs::FirstPlaces::first_place))]
+    pub fn first_place(&self, tree: &Tree) -> Place
+        ensures { result ≡ first_place tree.now self.now }
+    {
+        match self.first_path() {
+            Some(path) => place_at(tree, path),
+            None => Place::Nowhere,
         }
     }
 

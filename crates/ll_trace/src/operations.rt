@@ -1,9 +1,8 @@
 //! The names of operations, and the operation of a record's line by its name.
 
 ghost use Rattle.std.specs.Prelude.{◌≡◌, codes};
-ghost use Rattle.serde_json.specs.Data.{Data};
 ghost use Rattle.ll_lines.specs.Readers.{Gives};
-ghost use Rattle.ll_members.specs.Slots.{Hold};
+ghost use Rattle.ll_members.specs.Slots.{ReadsOf};
 ghost use Rattle.ll_trace.specs.Operations.{descriptor_operations, named_in, op_name, operation_at};
 ghost use Rattle.ll_trace.specs.Operations.{operation_named, path_operations};
 
@@ -17,8 +16,7 @@ use std::alloc::Global;
 /// The operation that an object says, by its members: its name is the member `op`.
 #[tactic(auto, unfolding(ll_members::specs::Slots::spelt, crate::specs::Operations::operation_at))]
 pub fn operation_of(alloc: Global, members: &Members<'_>) -> Result<Op, Cause>
-    ensures { (value : Data) → Hold members.now value
-        → Gives (λ op. op) result (operation_at value) }
+    ensures { ReadsOf members.now (Gives (λ op. op) result) operation_at }
 {
     let name = text_of(members, Name::Op)?;
     operation_by_name(alloc, name, members)
@@ -26,8 +24,8 @@ pub fn operation_of(alloc: Global, members: &Members<'_>) -> Result<Op, Cause>
 
 #[tactic(auto, unfolding(ll_members::specs::Slots::spelt, crate::specs::Operations::operations, crate::specs::Operations::operation_named))]
 fn operation_by_name(alloc: Global, name: &str, members: &Members<'_>) -> Result<Op, Cause>
-    ensures { (value : Data) → Hold members.now value
-        → Gives (λ op. op) result (operation_named name.now value) }
+    ensures { ReadsOf members.now (Gives (λ op. op) result)
+        (λ value. operation_named name.now value) }
 {
     match name {
         "start" => Ok(Op::Start {
@@ -58,8 +56,8 @@ fn operation_by_name(alloc: Global, name: &str, members: &Members<'_>) -> Result
 /// A call on a descriptor, a port or a path.
 #[tactic(auto, unfolding(ll_members::specs::Slots::spelt, crate::specs::Operations::descriptor_operations))]
 fn descriptor_operation(alloc: Global, name: &str, members: &Members<'_>) -> Result<Op, Cause>
-    ensures { (value : Data) → Hold members.now value
-        → Gives (λ op. op) result (named_in (descriptor_operations value) name.now) }
+    ensures { ReadsOf members.now (Gives (λ op. op) result)
+        (λ value. named_in (descriptor_operations value) name.now) }
 {
     match name {
         "adopt" => Ok(Op::Adopt {
@@ -85,8 +83,8 @@ fn descriptor_operation(alloc: Global, name: &str, members: &Members<'_>) -> Res
 /// A call on a path.
 #[tactic(auto, unfolding(ll_members::specs::Slots::spelt, crate::specs::Operations::path_operations))]
 fn path_operation(alloc: Global, name: &str, members: &Members<'_>) -> Result<Op, Cause>
-    ensures { (value : Data) → Hold members.now value
-        → Gives (λ op. op) result (named_in (path_operations value) name.now) }
+    ensures { ReadsOf members.now (Gives (λ op. op) result)
+        (λ value. named_in (path_operations value) name.now) }
 {
     match name {
         "truncate" => path_of(alloc, members).map(|path| Op::Truncate { path }),
@@ -105,8 +103,8 @@ fn path_operation(alloc: Global, name: &str, members: &Members<'_>) -> Result<Op
 
 #[tactic(auto, unfolding(crate::specs::SaidByName::naming))]
 fn add_path_of(alloc: Global, members: &Members<'_>) -> Result<Op, Cause>
-    ensures { (value : Data) → Hold members.now value
-        → Gives (λ op. op) result (operation_named (codes "add_path") value) }
+    ensures { ReadsOf members.now (Gives (λ op. op) result)
+        (λ value. operation_named (codes "add_path") value) }
 {
     let rs = number_of(members, Name::Rs)?;
     let path = text_of(members, Name::Path)?;
@@ -117,8 +115,8 @@ fn add_path_of(alloc: Global, members: &Members<'_>) -> Result<Op, Cause>
 
 #[tactic(auto, unfolding(ll_members::specs::Slots::spelt, crate::specs::Operations::path_operations, crate::specs::SaidByName::spelling))]
 fn open_of(alloc: Global, members: &Members<'_>) -> Result<Op, Cause>
-    ensures { (value : Data) → Hold members.now value
-        → Gives (λ op. op) result (named_in (path_operations value) (codes "open")) }
+    ensures { ReadsOf members.now (Gives (λ op. op) result)
+        (λ value. named_in (path_operations value) (codes "open")) }
 {
     let path = text_of(members, Name::Path)?;
     let fd = number_of(members, Name::Fd)?;
@@ -137,8 +135,8 @@ fn open_of(alloc: Global, members: &Members<'_>) -> Result<Op, Cause>
 
 #[tactic(auto, unfolding(ll_members::specs::Slots::spelt, crate::specs::Operations::path_operations, crate::specs::SaidByName::spelling))]
 fn mknod_of(alloc: Global, members: &Members<'_>) -> Result<Op, Cause>
-    ensures { (value : Data) → Hold members.now value
-        → Gives (λ op. op) result (named_in (path_operations value) (codes "mknod")) }
+    ensures { ReadsOf members.now (Gives (λ op. op) result)
+        (λ value. named_in (path_operations value) (codes "mknod")) }
 {
     let path = text_of(members, Name::Path)?;
     let kind = made_kind_of(members)?;
@@ -148,8 +146,8 @@ fn mknod_of(alloc: Global, members: &Members<'_>) -> Result<Op, Cause>
 
 #[tactic(auto, unfolding(ll_members::specs::Slots::spelt, crate::specs::Operations::path_operations, crate::specs::SaidByName::spelling))]
 fn rename_of(alloc: Global, members: &Members<'_>) -> Result<Op, Cause>
-    ensures { (value : Data) → Hold members.now value
-        → Gives (λ op. op) result (named_in (path_operations value) (codes "rename")) }
+    ensures { ReadsOf members.now (Gives (λ op. op) result)
+        (λ value. named_in (path_operations value) (codes "rename")) }
 {
     let from = text_of(members, Name::From)?;
     let to = text_of(members, Name::To)?;
@@ -161,8 +159,8 @@ fn rename_of(alloc: Global, members: &Members<'_>) -> Result<Op, Cause>
 
 #[tactic(auto, unfolding(ll_members::specs::Slots::spelt, crate::specs::Operations::path_operations, crate::specs::SaidByName::spelling))]
 fn link_of(alloc: Global, members: &Members<'_>) -> Result<Op, Cause>
-    ensures { (value : Data) → Hold members.now value
-        → Gives (λ op. op) result (named_in (path_operations value) (codes "link")) }
+    ensures { ReadsOf members.now (Gives (λ op. op) result)
+        (λ value. named_in (path_operations value) (codes "link")) }
 {
     let from = text_of(members, Name::From)?;
     let to = text_of(members, Name::To)?;

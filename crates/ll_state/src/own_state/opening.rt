@@ -1,6 +1,6 @@
 //! Calls by which numbers get open, and are closed.
 
-ghost use Rattle.std.specs.{Prelude.◌≡◌, FinMap.get};
+ghost use Rattle.std.specs.{Prelude.{◌≡◌, List, ℕ}, FinMap.get};
 ghost use Rattle.ll_trace.specs.declared.op.Op.{Op};
 ghost use Rattle.ll_semantics.specs.CallContexts.{CallContext};
 ghost use Rattle.ll_state.specs.Agreement.{IsMet, Agrees, IsJudged};
@@ -8,9 +8,9 @@ ghost use Rattle.ll_state.specs.Agreement.{IsMet, Agrees, IsJudged};
 use crate::call::{Call, ConfinedCall};
 use crate::descriptors::unrestricted;
 use crate::own_state::OwnState;
-use crate::requests::{asks, place_of};
+use crate::requests::asks;
 use ll_semantics::{Answer, Descriptor, Wanted};
-use ll_trace::{Mode, PathText, Sort};
+use ll_trace::{Mode, Sort};
 use std::alloc::AllocError;
 
 impl OwnState {
@@ -22,11 +22,10 @@ impl OwnState {
     }
 
     /// open(2), whose number must be free.
-    #[tactic(auto, using(crate::proofs::SameLayers::request_same, crate::proofs::SameLayers::opened_same), unfolding(crate::specs::ConfinedCalls::opening))]
+    #[tactic(auto, using(crate::proofs::SameLayers::same_openings), unfolding(crate::specs::ConfinedCalls::opening))]
     pub(crate) fn open(
         &mut self,
         call: &Call<'_>,
-        path: &PathText,
         fd: u64,
         mode: Mode,
         create: bool,
@@ -35,13 +34,12 @@ impl OwnState {
         ghost ctx: { CallContext }
         requires met { IsMet ctx call.now.tree.now call.now.layers.now }
         requires agrees { Agrees ctx.tree ctx.layers self.old ctx.state }
-        requires opens { call.now.op.now ≡ Op.OpenFile path.now fd mode create trunc }
-        ensures { IsJudged ctx (Op.OpenFile path.now fd mode create trunc) self.new result }
+        ensures { (path : List ℕ) → call.now.op.now ≡ Op.OpenFile path fd mode create trunc
+            → IsJudged ctx call.now.op.now self.new result }
     {
         if self.descriptor(fd).is_some() {
             return Ok(Answer::Moot);
         }
-        let place = place_of(call.tree, path, call.known);
         let wanted = Wanted::Open {
             mode,
             create,
@@ -51,9 +49,9 @@ impl OwnState {
             call: *call,
             domain: &self.domain,
         };
-        let answer = confined.ask(asks(call.tree, place, wanted));
+        let answer = confined.ask(asks(call.tree, call.place, wanted));
         if answer == Answer::Allowed {
-            let opened = confined.opened(place, mode);
+            let opened = confined.opened(call.place, mode);
             self.descriptors.insert(fd, opened)?;
         }
         Ok(answer)

@@ -4,13 +4,13 @@ use Rattle.std.specs.Option.{option_map}
 use Rattle.ll_reasons.specs.Explanations.{origins_at}
 use Rattle.ll_explanations.specs.Meant.{reason_in}
 use Rattle.ll_reasons.specs.Reasons.{reason}
-use Rattle.ll_explanations.proofs.Explaining.{is_moot, known_there}
+use Rattle.ll_explanations.proofs.Explaining.{is_moot, place_there}
 use Rattle.ll_explanations.proofs.explanation.moot.Goals as goal
 
 pub reason_of-requires : goal.reason_of-requires
 reason_of-requires c =
-    known_there c.args.case.now c.args.index c.tree.result.now c.found_at-seen.result.0 c.found_at-seen.result.1.now c.found_at-seen.ensures.found
-    c.known_place-known.result c.tree.ensures c.known_place-known.ensures
+    place_there c.args.case.now c.args.index c.tree.result.now c.found_at-seen.result.0 c.found_at-seen.result.1.now c.found_at-seen.ensures.found
+    c.first_place-spot.result c.tree.ensures c.first_place-spot.ensures
 
 pub returns : goal.returns
 returns c r eq =

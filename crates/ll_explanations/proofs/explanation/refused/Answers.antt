@@ -17,7 +17,7 @@ use Rattle.ll_origins.specs.CaseTrails.{IsDomainAt}
 use Rattle.ll_explanations.specs.InTree.{AreObjectionsIn, IsNoted, IsObjectionIn}
 use Rattle.ll_explanations.specs.Meanings.{IsMade, by_layer, explanation_in}
 use Rattle.ll_explanations.specs.declared.objection.LayerObjection.{LayerObjection}
-use Rattle.ll_explanations.proofs.Explaining.{explains, known_there, refusing}
+use Rattle.ll_explanations.proofs.Explaining.{explains, place_there, refusing}
 use Rattle.ll_explanations.proofs.Following.{objected}
 use Rattle.ll_explanations.proofs.explanation.refused.Goals as goal
 
@@ -36,8 +36,8 @@ invariant_of-ctx-clause-rules c =
 
 pub objections_to-requires : goal.objections_to-requires
 objections_to-requires c =
-    known_there c.args.case.now c.args.index c.tree.result.now c.found_at-seen.result.0 c.found_at-seen.result.1.now c.found_at-seen.ensures.found
-    c.known_place-known.result c.tree.ensures c.known_place-known.ensures
+    place_there c.args.case.now c.args.index c.tree.result.now c.found_at-seen.result.0 c.found_at-seen.result.1.now c.found_at-seen.ensures.found
+    c.first_place-spot.result c.tree.ensures c.first_place-spot.ensures
 
 pub returns : goal.returns
 unfolding explanation_in

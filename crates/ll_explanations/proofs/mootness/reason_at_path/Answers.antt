@@ -1,7 +1,5 @@
-use Rattle.std.proofs.Common.{◌≡◌, ◌∙◌, ℕ, List, Option, Some, None, sym, rules}
-use Rattle.std.specs.Prelude.{IfSome}
+use Rattle.std.proofs.Common.{◌≡◌, ◌∙◌, ℕ, List, Some, sym, rules}
 use Rattle.std.proofs.lemmas.Option.{none-some}
-use Rattle.ll_tree.specs.declared.place.Place.{Place}
 use Rattle.ll_tree.specs.Trees.{Entry, place}
 use Rattle.ll_trace.specs.declared.op.Op.{Op}
 use Rattle.ll_trace.specs.FirstPlaces.{first_place}
@@ -22,12 +20,7 @@ module _ (path : List ℕ) (want : Wanted) where
   first_named tree (calls.AddPath rs path fs) is = absurd (none-some given (sym is))
   first_named tree op is = cc
 
-  known_wanted : (tree : List Entry) (op : Op) (known : Option Place) → Some given ≡ wanted op
-      → IfSome known (λ one. one ≡ first_place tree op) → IfSome known (λ one. one ≡ place tree (text_named op First))
-  known_wanted tree op None is first = tt
-  known_wanted tree op (Some one) is first = first ∙ first_named tree op is
-
 pub unmet-requires : goal.unmet-requires
 unmet-requires c =
     let is : Some (c.in_ok-wanted.field-0-0.now, c.in_ok-wanted.wanted) ≡ wanted c.args.op.now = search rules in
-    known_wanted _ _ c.args.tree.now c.args.op.now c.args.known is c.requires
+    c.requires ∙ first_named _ _ c.args.tree.now c.args.op.now is
