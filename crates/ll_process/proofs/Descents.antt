@@ -106,21 +106,12 @@ module _ (cv : CaseValue) where
   -- ---- what waits on the stack
 
   module _ (f : Progress → ℕ) where
+    two_more : (stack : List Progress) (one other : Progress) → sum_by f (stack ++ one ∷ other ∷ []) ≡ sum_by f stack + f one + f other
+    two_more stack one other = omega (arith, sum_by-append f stack (one ∷ other ∷ []), sum_by-cons f one (other ∷ []), sum_by-cons f other [])
+
     put_sum : (stack after : List Progress) (one other : Progress) → ArePut stack one other after → sum_by f after ≡ sum_by f stack + f one + f other
-    put_sum stack after one other (inl put) = omega (
-      arith,
-      ap (λ (xs : List Progress). sum_by f xs) put,
-      sum_by-append f stack (one ∷ other ∷ []),
-      sum_by-cons f one (other ∷ []),
-      sum_by-cons f other [],
-    )
-    put_sum stack after one other (inr put) = omega (
-      arith,
-      ap (λ (xs : List Progress). sum_by f xs) put,
-      sum_by-append f stack (other ∷ one ∷ []),
-      sum_by-cons f other (one ∷ []),
-      sum_by-cons f one [],
-    )
+    put_sum stack after one other (inl put) = ap (λ (xs : List Progress). sum_by f xs) put ∙ two_more stack one other
+    put_sum stack after one other (inr put) = omega (arith, ap (λ (xs : List Progress). sum_by f xs) put, two_more stack other one)
 
   pub put_of : (stack after : List Progress) (one other : Progress) → ArePut stack one other after → AreOf cv stack → one.case.now ≡ cv
       → other.case.now ≡ cv → AreOf cv after
