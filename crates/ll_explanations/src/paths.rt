@@ -80,22 +80,14 @@ impl<'t> SpeltPath<'t> {
 }
 
 /// The text of the only path that a call names or of the first of two, and `/` where it names none.
-#[tactic(auto, using(crate::proofs::SpeltTexts::root_shape), unfolding(crate::specs::Meant::text_named, ll_trace::specs::Operations::paths_of))]
+#[tactic(auto, using(crate::proofs::SpeltTexts::root_shape), unfolding(crate::specs::Meant::text_named))]
 fn first_text(op: &Op) -> &str
     ensures text { result.now ≡ text_named op.now First }
     ensures shape { IsTrue (is_some (path_of result.now)) }
 {
-    match op {
-        wants_at_a_path!(path)
-        | Op::AddPath { path, .. }
-        | Op::LeaveOutPath { path }
-        | Op::OpenFile { path, .. }
-        | Op::Rename { from: path, .. }
-        | Op::Link { from: path, .. } => path.as_str(),
-        still_without_a_path!()
-        | changes_without_names!()
-        | Op::Create { .. }
-        | Op::AddPort { .. } => "/",
+    match op.first_path() {
+        Some(path) => path.as_str(),
+        None => "/",
     }
 }
 
