@@ -81,11 +81,6 @@ opened_same tree a b (Node node) mode same = kind_same tree a b same (kind_at tr
 opened_same tree a b (Gap directory) mode same = file_same tree a b same (path_at tree directory) mode
 opened_same tree a b Nowhere mode same = refl
 
--- what the same layers answer, at the place that a call names
-pub ruleset same_answers = (request_same, move_same, port_same, mount_same, first_place_inside)
-
-pub ruleset same_openings = (request_same, opened_same, first_place_inside)
-
 -- ---- restricting
 
 -- a process may restrict itself where its state says so
@@ -168,3 +163,8 @@ Agrees-with_layer ctx own s id (Some rules) domain agrees frozen more = record {
       (in_tree ctx.tree (layer_at ctx.layers id)) rules agrees.domain frozen.1);
   descriptors = agrees.descriptors;
 }
+
+-- what the same layers answer, at the place that a call names
+pub ruleset same_answers = (request_same, move_same, port_same, mount_same, first_place_inside)
+
+pub ruleset same_openings = (request_same, opened_same, first_place_inside)
