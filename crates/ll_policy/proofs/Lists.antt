@@ -5,7 +5,7 @@ use Rattle.std.specs.Prelude.{All, Some, None, find, map}
 use Rattle.std.proofs.lemmas.Option.{none-some, same_Some}
 use Rattle.std.proofs.lemmas.List.FromFn.{length-range_with_len, get_or-range_with_len, filter_of_map_range_with_len_more, map-range_with_len_more}
 use Rattle.std.proofs.lemmas.List.{map-id, append_assoc, append-nil, take_more, take_all}
-use Rattle.std.proofs.lemmas.Slice.Zip.{all_zipped_more}
+use Rattle.std.proofs.lemmas.Slice.Zip.{all_zipped_more, AllZip-map}
 use Rattle.std.specs.List.{Contains, flat_map, filter, list_any, list_all, range_with_len, AllZip}
 use Rattle.std.proofs.lemmas.Bool.{cases_Bool, and_parts, and_from, false≢true}
 use Rattle.std.proofs.lemmas.List.Elements.{All-contains, All-filter, All-contains_itself, filter_passes}
@@ -187,8 +187,13 @@ zip_map R f (x ∷ xs) (y ∷ ys) each = (each.0, zip_map R f xs ys each.1)
 pub zip_all : {A B : Type 0} (R : A → B → Type 0) (xs : List A) (i : ℕ) (ys : List B) → length xs ≤ i → AllZip R (take i xs) ys → AllZip R xs ys
 zip_all {A = A} R xs i ys past each = subst (λ (some : List A). AllZip R some ys) (take_all i xs past) each
 
--- all of them, each by what it stands for
-pub zip_named : {A B C : Type 0} (R : B → C → Type 0) (f : A → B) (xs : List A) (names : List B) (i : ℕ) (ys : List C) → map f xs ≡ names → length xs ≤ i
-    → AllZip (λ x. R (f x)) (take i xs) ys → AllZip R names ys
-zip_named {B = B} R f xs names i ys are past each =
-    subst (λ (bs : List B). AllZip R bs ys) are (zip_map R f xs ys (zip_all (λ x. R (f x)) xs i ys past each))
+-- each by what it stands for
+pub zip_named : {A B C : Type 0} (R : B → C → Type 0) (f : A → B) (xs : List A) (names : List B) (ys : List C) → map f xs ≡ names
+    → AllZip (λ x. R (f x)) xs ys → AllZip R names ys
+zip_named {B = B} R f xs names ys are each = subst (λ (bs : List B). AllZip R bs ys) are (zip_map R f xs ys each)
+
+-- what a function makes of each by what it stands for
+pub made_by : {A B C : Type 0} (R : A → C → Type 0) (f : B → C) (g : A → B) → ((x : A) (y : C) → R x y → y ≡ f (g x)) → (xs : List A) (ys : List C)
+    → AllZip R xs ys → ys ≡ map f (map g xs)
+made_by R f g says xs ys each =
+    AllZip-map f (map g xs) ys (zip_map (λ x y. y ≡ f x) g xs ys (zip_weaker R (λ x y. y ≡ f (g x)) says xs ys each))

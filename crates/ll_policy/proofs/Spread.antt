@@ -1,5 +1,5 @@
 -- What a layer grants on each object with those that it is in, and where rights pass.
-use Rattle.std.proofs.Common.{◌≡◌, ℕ, zero, suc, ◌+◌, ◌<◌, ◌≤◌, Bool, false, not, ◌||◌, List, [], ◌∷◌, ◌++◌, map, length, drop, get_or}
+use Rattle.std.proofs.Common.{◌≡◌, ℕ, zero, suc, ◌+◌, ◌<◌, ◌≤◌, Bool, true, false, not, ◌||◌, List, [], ◌∷◌, ◌++◌, map, length, drop, get_or}
 use Rattle.std.proofs.Common.{refl, sym, ap, ◌∙◌, subst, add-one}
 use Rattle.std.specs.List.{filter, range_with_len}
 use Rattle.std.proofs.Math.Seq.{drop-cons}
@@ -9,7 +9,7 @@ use Rattle.ll_rules.proofs.Booleans.{or_false}
 use Rattle.ll_policy.specs.declared.regions.Passing.{Passing}
 use Rattle.ll_policy.specs.Chains.{Granting, is_among, some_among, lets, passes}
 use Rattle.ll_policy.specs.Places.{places_of}
-use Rattle.ll_policy.specs.Regions.{chains_from, chains_of, region, single, spread, passes_both, passes_alone, numbers_of, TellsPassing}
+use Rattle.ll_policy.specs.Regions.{chains_from, chains_of, region, single, spread, passes_with, numbers_of, TellsPassing}
 use Rattle.ll_policy.proofs.Marks.{among}
 
 mapped_at : {X Y : Type 0} (f : X → Y) (xs : List X) (k : ℕ) (d : X) (e : Y) → e ≡ f d → get_or (map f xs) k e ≡ f (get_or xs k d)
@@ -90,25 +90,24 @@ unfolding numbers_of
 numbers_agree chain_of other count test also same =
     filter_agree (λ n. test (chain_of n)) (λ n. also (other n)) same (range_with_len 0 count)
 
-alone_agree : (parents : List ℕ) (one other : List Granting) (n : ℕ)
-    → passes_alone (map (spread parents) one) (map (spread parents) other) (single n) ≡ passes_alone one other (region parents n)
-unfolding passes_alone
-alone_agree parents one other n = rw (passes_spread parents one n, passes_spread parents other n) refl
+with_agree : (too : Bool) (parents : List ℕ) (one other : List Granting) (n : ℕ)
+    → passes_with too (map (spread parents) one) (map (spread parents) other) (single n) ≡ passes_with too one other (region parents n)
+unfolding passes_with
+with_agree too parents one other n = rw (passes_spread parents one n, passes_spread parents other n) refl
 
-both_agree : (parents : List ℕ) (one other : List Granting) (n : ℕ)
-    → passes_both (map (spread parents) one) (map (spread parents) other) (single n) ≡ passes_both one other (region parents n)
-unfolding passes_both
-both_agree parents one other n = rw (passes_spread parents one n, passes_spread parents other n) refl
+numbers_spread : (too : Bool) (parents : List ℕ) (count : ℕ) (one other : List Granting)
+    → numbers_of single count (passes_with too (map (spread parents) one) (map (spread parents) other))
+    ≡ numbers_of (region parents) count (passes_with too one other)
+numbers_spread too parents count one other =
+    numbers_agree single (region parents) count (passes_with too (map (spread parents) one) (map (spread parents) other)) (passes_with too one other)
+    (with_agree too parents one other)
 
 told_spread : (parents : List ℕ) (count : ℕ) (old new : List Granting) (found : Passing)
     → TellsPassing single count (map (spread parents) old) (map (spread parents) new) found → TellsPassing (region parents) count old new found
 told_spread parents count old new found told = record {
-  both = told.both ∙ numbers_agree single (region parents) count
-      (passes_both (map (spread parents) old) (map (spread parents) new)) (passes_both old new) (both_agree parents old new);
-  new = told.new ∙ numbers_agree single (region parents) count
-      (passes_alone (map (spread parents) new) (map (spread parents) old)) (passes_alone new old) (alone_agree parents new old);
-  old = told.old ∙ numbers_agree single (region parents) count
-      (passes_alone (map (spread parents) old) (map (spread parents) new)) (passes_alone old new) (alone_agree parents old new);
+  both = told.both ∙ numbers_spread true parents count old new;
+  new = told.new ∙ numbers_spread false parents count new old;
+  old = told.old ∙ numbers_spread false parents count old new;
 }
 
 pub told_of_regions : (parents : List ℕ) (count : ℕ) (old new spread_old spread_new : List Granting) (found : Passing) → count ≡ length parents + 1

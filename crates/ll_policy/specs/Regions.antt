@@ -1,6 +1,6 @@
 -- Regions: objects with rules and what each is in, and where a right passes under two policies.
 -- Source: landlock(7), "Landlock rules"; the kernel's userspace document on Landlock, "Layers of file path access rights".
-use Rattle.std.specs.Prelude.{◌≡◌, ℕ, ◌+◌, Bool, not, ◌&&◌, List, [], ◌∷◌, ◌++◌, length, map, filter, slice_index_or, if◌then◌else◌}
+use Rattle.std.specs.Prelude.{◌≡◌, ℕ, ◌+◌, Bool, true, false, not, ◌&&◌, List, [], ◌∷◌, ◌++◌, length, map, filter, slice_index_or, if◌then◌else◌}
 use Rattle.std.specs.List.{range_with_len}
 use Rattle.ll_rights.specs.declared.fs.Fs.{Fs}
 use Rattle.ll_rights.specs.Rights.{FsRight, has}
@@ -38,11 +38,9 @@ spread parents layer =
 
 -- ---- where a right passes
 
-unfoldable pub passes_both : List Granting → List Granting → List ℕ → Bool
-passes_both one other chain = passes one chain && passes other chain
-
-unfoldable pub passes_alone : List Granting → List Granting → List ℕ → Bool
-passes_alone one other chain = passes one chain && not (passes other chain)
+-- a chain passes under one policy, and under the other too or not, as is asked
+unfoldable pub passes_with : Bool → List Granting → List Granting → List ℕ → Bool
+passes_with too one other chain = passes one chain && (if too then passes other chain else not (passes other chain))
 
 -- of so many numbers, each of a chain, those with a chain that passes a test
 unfoldable pub numbers_of : (ℕ → List ℕ) → ℕ → (List ℕ → Bool) → List ℕ
@@ -50,9 +48,9 @@ numbers_of chain_of count test = filter (λ number. test (chain_of number)) (ran
 
 -- where a right passes under both policies, and where under the new one or the old one alone
 pub record TellsPassing (chain_of : ℕ → List ℕ) (count : ℕ) (before after : List Granting) (found : Passing) : Type 0 where
-  pub both : found.both.items ≡ numbers_of chain_of count (passes_both before after)
-  pub new : found.new.items ≡ numbers_of chain_of count (passes_alone after before)
-  pub old : found.old.items ≡ numbers_of chain_of count (passes_alone before after)
+  pub both : found.both.items ≡ numbers_of chain_of count (passes_with true before after)
+  pub new : found.new.items ≡ numbers_of chain_of count (passes_with false after before)
+  pub old : found.old.items ≡ numbers_of chain_of count (passes_with false before after)
 
 -- in how many regions a right is looked for: in all, if it is among the rights that are asked about
 abbrev pub regions_asked : Fs → FsRight → List ℕ → ℕ

@@ -7,6 +7,7 @@ ghost use Rattle.ll_policy.specs.Places.{is_file_in, places_of};
 ghost use Rattle.ll_policy.specs.Choices.{are_within, is_narrow, narrow_ones, some_grants, all_grant, is_open, open_file, counts, is_extra, is_further, AreBelow, IsChainOfExtra, is_enough, enough_of};
 ghost use Rattle.ll_policy.specs.Found.{TellsSingle};
 
+use crate::each::made_of_each;
 use crate::granting::Granting;
 use std::alloc::{AllocError, Global};
 
@@ -253,11 +254,9 @@ pub fn excesses(
     ensures { IfOk result (λ found.
         AllZip (Tells (is_file_in files.now) always.now new.now) old.now found.items) }
 {
-    let mut found = Vec::new(alloc);
-    for layer in old {
-        found.push(excess(alloc, files, always, layer, new)?)?;
-    }
-    Ok(found)
+    Ok(made_of_each(alloc, old, |layer| {
+        excess(alloc, files, always, layer, new)
+    })?)
 }
 
 /// Whether each layer lets a chain pass.
@@ -301,9 +300,5 @@ pub(crate) fn each_enough(
 ) -> Result<Vec<Vec<usize>>, AllocError>
     ensures { IfOk result (λ found. AllZip (TellsSingle count new.now) old.now found.items) }
 {
-    let mut found = Vec::new(alloc);
-    for layer in old {
-        found.push(enough_of(alloc, count, layer, new)?)?;
-    }
-    Ok(found)
+    Ok(made_of_each(alloc, old, |layer| { enough_of(alloc, count, layer, new) })?)
 }

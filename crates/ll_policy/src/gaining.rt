@@ -9,6 +9,7 @@ ghost use Rattle.ll_policy.specs.Granted.{root};
 ghost use Rattle.ll_policy.specs.Places.{is_file_in};
 
 use crate::deciding::{ROOT, excess, is_closed, is_file, narrow_ones, open_file};
+use crate::each::made_of_each;
 use crate::granting::Granting;
 use std::alloc::{AllocError, Global};
 
@@ -128,9 +129,5 @@ pub fn gains(
     ensures { IfOk result (λ found.
         AllZip (TellsGain (is_file_in files.now) new.now) old.now found.items) }
 {
-    let mut found = Vec::new(alloc);
-    for layer in old {
-        found.push(first_gain(alloc, files, layer, new)?)?;
-    }
-    Ok(found)
+    Ok(made_of_each(alloc, old, |layer| { first_gain(alloc, files, layer, new) })?)
 }

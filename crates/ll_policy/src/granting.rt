@@ -9,6 +9,7 @@ ghost use Rattle.ll_policy.specs.Granted.{granting, granting_on_ports};
 ghost use Rattle.ll_policy.specs.Policies.{rules_of};
 ghost use Rattle.ll_policy.specs.Regions.{chains_of, spread};
 
+use crate::each::made_of_each;
 use crate::layer::Layer;
 use ll_rights::{FsRight, NetRight, RightSet};
 use std::alloc::{AllocError, Global};
@@ -145,11 +146,9 @@ pub fn all_on_objects(
     ensures { IfOk result (λ made.
         made.items ≡ map (granting (fs_right right)) (map rules_of layers.now)) }
 {
-    let mut made = Vec::new(alloc);
-    for layer in layers {
-        made.push(Granting::on_objects(alloc, layer, right)?)?;
-    }
-    Ok(made)
+    Ok(made_of_each(alloc, layers, |layer| {
+        Granting::on_objects(alloc, layer, right)
+    })?)
 }
 
 /// What each layer says of a right for ports.
@@ -161,9 +160,7 @@ pub fn all_on_ports(
     ensures { IfOk result (λ made.
         made.items ≡ map (granting_on_ports (net_right right)) (map rules_of layers.now)) }
 {
-    let mut made = Vec::new(alloc);
-    for layer in layers {
-        made.push(Granting::on_ports(alloc, layer, right)?)?;
-    }
-    Ok(made)
+    Ok(made_of_each(alloc, layers, |layer| {
+        Granting::on_ports(alloc, layer, right)
+    })?)
 }

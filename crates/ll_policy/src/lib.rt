@@ -4,6 +4,7 @@
 mod calls;
 mod comparing;
 mod deciding;
+mod each;
 mod gaining;
 mod granting;
 mod laws;

@@ -13,6 +13,7 @@ ghost use Rattle.ll_policy.specs.Moving as specs;
 ghost use Rattle.ll_policy.specs.FoundMoves.{all_kinds, spread_all, lets_move, passes_by, MovesNowhere, parent_in, may_be, moves_alone, beneath_alone, itself_alone, TellsMovers, TellsMovedTo, TellsMoves};
 
 use crate::deciding::{ROOT, is_file, passes};
+use crate::each::made_of_each;
 use crate::granting::Granting;
 use crate::layer::Layer;
 use crate::regions::in_regions;
@@ -483,9 +484,7 @@ pub fn moves_between_regions(
         all_kinds found.items) }
 {
     let somewhere = moves_somewhere(alloc, parents, old)? || moves_somewhere(alloc, parents, new)?;
-    let mut found = Vec::new(alloc);
-    for kind in kinds() {
-        found.push(moves_asked(alloc, asked, files, parents, old, new, somewhere, *kind)?)?;
-    }
-    Ok(found)
+    Ok(made_of_each(alloc, kinds(), |kind| {
+        moves_asked(alloc, asked, files, parents, old, new, somewhere, *kind)
+    })?)
 }

@@ -8,9 +8,10 @@ ghost use Rattle.ll_rights.specs.NetRights as for_ports;
 ghost use Rattle.ll_policy.specs.Chains.{passes};
 ghost use Rattle.ll_policy.specs.Granted.{granting, granting_on_ports};
 ghost use Rattle.ll_policy.specs.Policies.{rules_of};
-ghost use Rattle.ll_policy.specs.Regions.{region, single, spread, passes_both, passes_alone, numbers_of, TellsPassing, TellsRegions, TellsPorts};
+ghost use Rattle.ll_policy.specs.Regions.{region, single, spread, passes_with, numbers_of, TellsPassing, TellsRegions, TellsPorts};
 
 use crate::deciding::passes;
+use crate::each::made_of_each;
 use crate::granting::{Granting, all_on_objects, all_on_ports};
 use crate::layer::Layer;
 use ll_rights::{Fs, FsRight, NetRight, RightSet};
@@ -35,11 +36,7 @@ fn all_spread(
 ) -> Result<Vec<Granting>, AllocError>
     ensures { IfOk result (λ made. made.items ≡ map (spread parents.now) layers.now) }
 {
-    let mut made = Vec::new(alloc);
-    for layer in layers {
-        made.push(layer.spread(alloc, parents)?)?;
-    }
-    Ok(made)
+    Ok(made_of_each(alloc, layers, |layer| { layer.spread(alloc, parents) })?)
 }
 
 /// What layers say of a right for files, in each region.
@@ -55,35 +52,32 @@ pub(crate) fn in_regions(
     all_spread(alloc, parents, &all_on_objects(alloc, layers, right)?)
 }
 
-/// Of so many numbers those that pass by the layers of one policy and by those of the other.
-#[tactic(auto, unfolding(crate::specs::Regions::numbers_of, crate::specs::Regions::passes_both))]
-fn both(
-    alloc: Global,
-    count: usize,
-    one: &[Granting],
-    other: &[Granting],
-) -> Result<Vec<usize>, AllocError>
-    ensures { IfOk result (λ found. found.items
-        ≡ numbers_of single count (passes_both one.now other.now)) }
+/// Whether a number passes by the layers of one policy, and by those of the other too or not, as is asked.
+#[tactic(auto, unfolding(crate::specs::Regions::passes_with))]
+fn passes_with(number: usize, one: &[Granting], other: &[Granting], too: bool) -> bool
+    ensures { result ≡ passes_with too one.now other.now (single number) }
 {
-    (0..count)
-        .filter(|number| passes(&[*number], one) && passes(&[*number], other))
-        .collect(alloc)
+    if !passes(&[number], one) {
+        return false;
+    }
+    let passes_there = passes(&[number], other);
+    if too { passes_there } else { !passes_there }
 }
 
-/// Of so many numbers those that pass by the layers of one policy and not by those of the other.
-#[tactic(auto, unfolding(crate::specs::Regions::numbers_of, crate::specs::Regions::passes_alone))]
-fn alone(
+/// Of so many numbers those of which that is so.
+#[tactic(auto, unfolding(crate::specs::Regions::numbers_of))]
+fn numbers_with(
     alloc: Global,
     count: usize,
     one: &[Granting],
     other: &[Granting],
+    too: bool,
 ) -> Result<Vec<usize>, AllocError>
     ensures { IfOk result (λ found. found.items
-        ≡ numbers_of single count (passes_alone one.now other.now)) }
+        ≡ numbers_of single count (passes_with too one.now other.now)) }
 {
     (0..count)
-        .filter(|number| passes(&[*number], one) && !passes(&[*number], other))
+        .filter(|number| passes_with(*number, one, other, too))
         .collect(alloc)
 }
 
@@ -97,9 +91,9 @@ fn passing_of(
     ensures { IfOk result (TellsPassing single count old.now new.now) }
 {
     Ok(Passing {
-        both: both(alloc, count, old, new)?,
-        new: alone(alloc, count, new, old)?,
-        old: alone(alloc, count, old, new)?,
+        both: numbers_with(alloc, count, old, new, true)?,
+        new: numbers_with(alloc, count, new, old, false)?,
+        old: numbers_with(alloc, count, old, new, false)?,
     })
 }
 
@@ -165,11 +159,9 @@ pub fn passing_on_objects(
         (TellsRegions asked parents.now (map rules_of old.now) (map rules_of new.now))
         for_files.all_rights found.items) }
 {
-    let mut found = Vec::new(alloc);
-    for right in FsRight::all() {
-        found.push(regions_asked(alloc, asked, parents, old, new, *right)?)?;
-    }
-    Ok(found)
+    Ok(made_of_each(alloc, FsRight::all(), |right| {
+        regions_asked(alloc, asked, parents, old, new, *right)
+    })?)
 }
 
 /// On which ports a right for ports passes.
@@ -199,9 +191,7 @@ pub fn passing_on_ports(
         (TellsPorts count (map rules_of old.now) (map rules_of new.now))
         for_ports.all_rights found.items) }
 {
-    let mut found = Vec::new(alloc);
-    for right in NetRight::all() {
-        found.push(ports_with(alloc, count, old, new, *right)?)?;
-    }
-    Ok(found)
+    Ok(made_of_each(alloc, NetRight::all(), |right| {
+        ports_with(alloc, count, old, new, *right)
+    })?)
 }

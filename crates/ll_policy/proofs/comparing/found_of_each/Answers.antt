@@ -5,7 +5,7 @@ use Rattle.ll_rights.specs.Rights.{FsRight}
 use Rattle.ll_rights.specs.CodeRights.{fs_right}
 use Rattle.ll_policy.specs.Found.{said}
 use Rattle.ll_policy.specs.Policies.{rules_of}
-use Rattle.ll_policy.proofs.Lists.{zip_more, zip_named}
+use Rattle.ll_policy.proofs.Lists.{zip_more, zip_all, zip_named}
 use Rattle.ll_policy.proofs.comparing.found_of_each.Goals as goal
 
 pub loop-right-preserved : goal.loop-right-preserved
@@ -27,5 +27,6 @@ pub returns : goal.returns
 returns g c =
     let says = λ (right : FsRight) (told : Vec g.row.T.Denot Global). FnReturnsAtPair g.F.Fn c.args.compare
     (said c.args.asked right (map rules_of c.args.old.now)) (said c.args.asked right (map rules_of c.args.new.now)) (Ok told) in
-    zip_named says fs_right c.all-right-items.result.now _ c.loop-right.right-index c.loop-right.found.items
-    c.all-right-items.ensures c.loop-right-test.false c.loop-right.invariant
+    zip_named says fs_right c.all-right-items.result.now _ c.loop-right.found.items c.all-right-items.ensures
+    (zip_all (λ right told. says (fs_right right) told) c.all-right-items.result.now c.loop-right.right-index c.loop-right.found.items
+    c.loop-right-test.false c.loop-right.invariant)

@@ -1,12 +1,6 @@
-use Rattle.std.proofs.Common.{subst}
-use Rattle.ll_policy.specs.Chains.{Granting, Tells}
-use Rattle.ll_policy.specs.Places.{is_file_in}
-use Rattle.ll_policy.proofs.Lists.{zip_more}
+use Rattle.std.proofs.Common.{rules, sym}
+use Rattle.ll_policy.proofs.Lists.{zip_weaker}
 use Rattle.ll_policy.proofs.deciding.excesses.Goals as goal
 
-pub loop-layer-preserved : goal.loop-layer-preserved
-loop-layer-preserved c =
-    let tells = Tells (is_file_in c.args.files.now) c.args.always.now c.args.new.now in
-    zip_more tells c.args.old.now c.loop-layer.layer-index c.layer-item.result c.loop-layer.found.items c.push.new.self.items c.in_ok-excess.field-0
-    c.loop-layer-test.true c.loop-layer.invariant
-    (subst (λ (layer : Granting). tells layer c.in_ok-excess.field-0) c.layer-item.is c.in_ok-excess.ensures) c.in_ok-push.ensures.items
+pub returns : goal.returns
+returns c = zip_weaker _ _ (λ layer told says. rw (sym says.shows) (search rules)) _ _ c.in_ok-made_of_each.ensures

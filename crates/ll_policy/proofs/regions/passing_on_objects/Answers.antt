@@ -1,19 +1,11 @@
-use Rattle.std.proofs.Common.{map}
-use Rattle.ll_rights.specs.declared.fs.FsRight.{FsRight as Code}
+use Rattle.std.proofs.Common.{rules, sym, map}
 use Rattle.ll_rights.specs.CodeRights.{fs_right}
 use Rattle.ll_policy.specs.Policies.{rules_of}
 use Rattle.ll_policy.specs.Regions.{TellsRegions}
-use Rattle.ll_policy.proofs.Lists.{zip_more, zip_named}
+use Rattle.ll_policy.proofs.Lists.{zip_named, zip_weaker}
 use Rattle.ll_policy.proofs.regions.passing_on_objects.Goals as goal
-
-pub loop-right-preserved : goal.loop-right-preserved
-loop-right-preserved c =
-    let tells = λ (right : Code). TellsRegions c.args.asked c.args.parents.now (map rules_of c.args.old.now) (map rules_of c.args.new.now) (fs_right right) in
-    zip_more tells c.all-right-items.result.now c.loop-right.right-index _ c.loop-right.found.items c.push.new.self.items
-    c.in_ok-regions_asked.field-0 c.loop-right-test.true c.loop-right.invariant
-    c.in_ok-regions_asked.ensures c.in_ok-push.ensures.items
 
 pub returns : goal.returns
 returns c =
-    zip_named (TellsRegions c.args.asked c.args.parents.now (map rules_of c.args.old.now) (map rules_of c.args.new.now)) fs_right c.all-right-items.result.now _
-    c.loop-right.right-index c.loop-right.found.items c.all-right-items.ensures c.loop-right-test.false c.loop-right.invariant
+    zip_named (TellsRegions c.args.asked c.args.parents.now (map rules_of c.args.old.now) (map rules_of c.args.new.now)) fs_right _ _ _ c.all.ensures
+    (zip_weaker _ _ (λ right told says. rw (sym says.shows) (search rules)) _ _ c.in_ok-made_of_each.ensures)
