@@ -1,10 +1,12 @@
 -- What holds of sets of rights, for files and for ports alike.
-use Rattle.std.proofs.Common.{◌≡◌, Bool, true, false, not, ◌&&◌, ◌||◌, refl, ap, ◌∙◌, inl, inr, ◌⊎◌}
+use Rattle.std.proofs.Common.{◌≡◌, ℕ, Bool, true, false, not, ◌&&◌, ◌||◌, refl, sym, ap, ◌∙◌, inl, inr, ◌⊎◌}
+use Rattle.std.specs.Prelude.{bit_and}
+use Rattle.std.specs.List.{list_all}
 use Rattle.ll_rights.specs.declared.abi.Abi.{Abi}
 use Rattle.ll_rights.specs.Families.{Family, for_files, for_network, knows, common, is_within}
 use Rattle.ll_rights.specs.Rights as files
 use Rattle.ll_rights.specs.NetRights as network
-use Rattle.ll_rights.specs.Sets.{are_same}
+use Rattle.ll_rights.specs.Sets.{are_same, holds}
 use Rattle.ll_rights.proofs.Sets.{fs_has-united, net_has-united}
 use Rattle.ll_rights.proofs.Supported.{fs_has-supported, net_has-supported}
 use Rattle.ll_rights.proofs.Bitwise.{known_below, has_bit-and, all_each}
@@ -17,13 +19,14 @@ use Rattle.ll_fitting.specs.ByRight.{lists, is_left}
 abbrev pub IsOtherOrNot : {S R : Type 0} → Family S R → R → Type 0
 IsOtherOrNot family right = (right ≡ family.other) ⊎ (are_same family.row right family.other ≡ false)
 
--- what a union, an intersection with known rights and a supported set have, and what every right passes
+-- sets are words of bits, and what a union and a supported set have
 pub record AreSets {S R : Type 0} (family : Family S R) : Type 0 where
+  pub has : (set : S) (right : R) → family.has set right ≡ holds family.row family.other (family.word set) right
+  pub word : (bits : ℕ) → family.word (family.set bits) ≡ bits
+  pub every : (test : R → Bool) → family.every_right test ≡ list_all test family.all_rights
   pub united : (a b : S) (right : R) → family.has (family.united a b) right ≡ (family.has a right || family.has b right)
-  pub both : (a b : S) (right : R) → family.has b family.other ≡ false → family.has (common family a b) right ≡ (family.has a right && family.has b right)
   pub supported : (abi : Abi) (set : S) (right : R)
       → family.has (family.supported abi set) right ≡ (family.has set right && (knows family abi right || are_same family.row right family.other))
-  pub every : (test : R → Bool) → ((right : R) → test right ≡ true) → family.every_right test ≡ true
   pub other : (right : R) → IsOtherOrNot family right
 
 file_other : (right : files.FsRight) → IsOtherOrNot for_files right
@@ -36,31 +39,19 @@ port_other right = inr refl
 
 pub file_sets : AreSets for_files
 unfolding files.has files.every_right
-file_sets = record {
-  united = fs_has-united;
-  both = λ a b right known. has_bit-and (files.bit_of files.other) a.0 b.0 (files.bit_of right) (known_below (files.bit_of files.other) b.0 known);
-  supported = fs_has-supported;
-  every = λ test each. all_each test each files.all_rights;
-  other = file_other;
-}
+file_sets =
+    record { has = λ set right. refl; word = λ bits. refl; every = λ test. refl; united = fs_has-united; supported = fs_has-supported; other = file_other }
 
 pub port_sets : AreSets for_network
 unfolding network.has network.every_right
-port_sets = record {
-  united = net_has-united;
-  both = λ a b right known. has_bit-and (network.bit_of network.other) a.0 b.0 (network.bit_of right) (known_below (network.bit_of network.other) b.0 known);
-  supported = net_has-supported;
-  every = λ test each. all_each test each network.all_rights;
-  other = port_other;
-}
+port_sets =
+    record { has = λ set right. refl; word = λ bits. refl; every = λ test. refl; united = net_has-united; supported = net_has-supported; other = port_other }
 
 kept_within : (a b k : Bool) → (not ((a && b) && k) || (b && k)) ≡ true
 kept_within true true true = refl
 kept_within true true false = refl
 kept_within true false k = refl
-kept_within false true true = refl
-kept_within false true false = refl
-kept_within false false k = refl
+kept_within false b k = refl
 
 -- a right with a name is supported only where the version knows it
 known_or : (has knows is_other : Bool) → is_other ≡ false → (not (has && (knows || is_other)) || knows) ≡ true
@@ -93,17 +84,29 @@ module _ {S R : Type 0} {family : Family S R} (sets : AreSets family) where
   abbrev is_other : R → Bool
   is_other right = are_same family.row right family.other
 
+  pub each : (test : R → Bool) → ((right : R) → test right ≡ true) → family.every_right test ≡ true
+  each test passes = sets.every test ∙ all_each test passes family.all_rights
+
+  -- an intersection with known rights
+  pub both : (a b : S) (right : R) → family.has b family.other ≡ false → family.has (common family a b) right ≡ (family.has a right && family.has b right)
+  both a b right known =
+      let last = (family.row family.other).bit in
+      sets.has (common family a b) right
+      ∙ ap (λ (bits : ℕ). holds family.row family.other bits right) (sets.word (bit_and (family.word a) (family.word b)))
+      ∙ has_bit-and last (family.word a) (family.word b) (family.row right).bit (known_below last (family.word b) (sym (sets.has b family.other) ∙ known))
+      ∙ rw (sets.has a right, sets.has b right) refl
+
   pub within : (abi : Abi) (a b : S) → family.has b family.other ≡ false
       → is_within family (family.supported abi (common family a b)) (family.supported abi b) ≡ true
   within abi a b known =
-      sets.every (λ right. not (family.has (family.supported abi (common family a b)) right) || family.has (family.supported abi b) right)
-      (λ right. rw (sets.supported abi (common family a b) right, sets.supported abi b right, sets.both a b right known)
+      each (λ right. not (family.has (family.supported abi (common family a b)) right) || family.has (family.supported abi b) right)
+      (λ right. rw (sets.supported abi (common family a b) right, sets.supported abi b right, both a b right known)
       (kept_within (family.has a right) (family.has b right) (knows family abi right || is_other right)))
 
   pub knows_supported : (abi : Abi) (set : S) → family.has set family.other ≡ false
       → family.every_right (λ right. not (family.has (family.supported abi set) right) || knows family abi right) ≡ true
   knows_supported abi set known =
-      sets.every (λ right. not (family.has (family.supported abi set) right) || knows family abi right)
+      each (λ right. not (family.has (family.supported abi set) right) || knows family abi right)
       (λ right. rw (sets.supported abi set right) (elim (sets.other right) [
         | inl is ↦ not_there (family.has set right) (knows family abi right || is_other right) (knows family abi right)
             (ap (family.has set) is ∙ known)
@@ -116,7 +119,7 @@ module _ {S R : Type 0} {family : Family S R} (sets : AreSets family) where
   left_by_right abi handled rights right known =
       let all : S = listed family handled in
       sets.supported abi (common family rights all) right
-      ∙ ap (λ (b : Bool). b && (knows family abi right || is_other right)) (sets.both rights all right known)
+      ∙ ap (λ (b : Bool). b && (knows family abi right || is_other right)) (both rights all right known)
       ∙ elim (sets.other right) [
         | inl is ↦ without (family.has rights right) (family.has all right) _ (knows family abi right) (ap (family.has all) is ∙ known)
         | inr is ↦ kept (family.has rights right && family.has all right) (knows family abi right) (is_other right) is

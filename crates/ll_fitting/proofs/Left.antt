@@ -1,5 +1,5 @@
 -- What a version leaves of a policy, the kernel takes.
-use Rattle.std.proofs.Common.{◌≡◌, ℕ, Bool, true, false, not, ◌&&◌, ◌||◌, List, [], ◌∷◌, length, Option, Some, None, refl, sym, ap, ◌∙◌, arith}
+use Rattle.std.proofs.Common.{◌≡◌, ℕ, Bool, true, false, not, ◌&&◌, ◌||◌, List, [], ◌∷◌, length, Option, Some, None, refl, sym, ap, ◌∙◌}
 use Rattle.std.proofs.Common.{if◌then◌else◌, nat_lt, All, inl, inr}
 use Rattle.std.specs.Prelude.{option_map, ◌==◌}
 use Rattle.std.specs.List.{flat_map, enumerate_from}
@@ -35,12 +35,12 @@ use Rattle.ll_fitting.specs.Fitting.{left_of, rights_on_kind, rights_at, rights_
 use Rattle.ll_fitting.specs.Fitting.{fitted_port_rules, handled_at, handled_files, handled_network, fitted_if_any, fitted}
 use Rattle.ll_fitting.specs.Misfits as misfits
 use Rattle.ll_fitting.specs.Taken.{IsValid}
-use Rattle.ll_fitting.proofs.Families.{file_sets, port_sets, within, knows_supported}
+use Rattle.ll_fitting.proofs.Families.{file_sets, port_sets, each, both, within, knows_supported}
 
 pub nothing_within : (whole : Fs) → files.is_within files.no_right whole ≡ true
 unfolding files.has
 nothing_within whole =
-    file_sets.every (λ right. not (files.has files.no_right right) || files.has whole right)
+    each file_sets (λ right. not (files.has files.no_right right) || files.has whole right)
     (λ right. rw (zero_bit (files.bit_of files.other) (files.bit_of right)) refl)
 
 -- ---- versions without rules for ports
@@ -175,7 +175,7 @@ module _ (abi : Abi) (layer : Layer) (known : network.has (listed for_network la
       let rule : PortRule = numbered.1 in
       let both_have : Net = common for_network (listed for_network rule.allowed) (listed for_network layer.handled_network) in
       let unnamed : network.has both_have network.other ≡ false =
-      port_sets.both (listed for_network rule.allowed) (listed for_network layer.handled_network) network.other known
+      both port_sets (listed for_network rule.allowed) (listed for_network layer.handled_network) network.other known
       ∙ and_right (network.has (listed for_network rule.allowed) network.other) _ known in
       all_if IsAskedOnPort (network.is_empty (supported_net abi both_have)) _
       (λ some. (

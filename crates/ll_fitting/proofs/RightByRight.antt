@@ -15,7 +15,7 @@ use Rattle.ll_fitting.specs.declared.written.Parent.TheVariants.{There, Missing}
 use Rattle.ll_fitting.specs.Written.{Layer, listed, listed_for_files, file_rights}
 use Rattle.ll_fitting.specs.Fitting.{is_for_files, counted_on_files, rights_on_kind, rights_at, rights_on_port}
 use Rattle.ll_fitting.specs.ByRight.{lists, lists_for_files, is_left}
-use Rattle.ll_fitting.proofs.Families.{file_sets, port_sets, left_by_right, listed_by_right}
+use Rattle.ll_fitting.proofs.Families.{file_sets, port_sets, both, left_by_right, listed_by_right}
 
 pub of_files : (right : files.FsRight) → files.has file_rights right ≡ files.is_file_right right
 unfolding files.has files.named_rights
@@ -26,7 +26,7 @@ pub listed_for_files_by_right : (access : Access Fs) (right : files.FsRight) →
 listed_for_files_by_right access right =
     file_sets.united access.named (common for_files access.grouped file_rights) right
     ∙ ap (λ (b : Bool). files.has access.named right || b)
-    (file_sets.both access.grouped file_rights right (of_files files.other) ∙ ap (λ (b : Bool). files.has access.grouped right && b) (of_files right))
+    (both file_sets access.grouped file_rights right (of_files files.other) ∙ ap (λ (b : Bool). files.has access.grouped right && b) (of_files right))
 
 -- ---- what a rule asks for
 
