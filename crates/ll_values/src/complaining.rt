@@ -16,20 +16,6 @@ pub fn write_whole<O: Write>(out: &mut O, text: &[u8]) -> io::Result<()>
     out.flush()
 }
 
-/// What a cause is called.
-fn name_of(cause: Cause) -> &'static str {
-    match cause {
-        Cause::Json => "Json",
-        Cause::Field => "Field",
-        Cause::BadPath => "BadPath",
-        Cause::NoParent => "NoParent",
-        Cause::Twice => "Twice",
-        Cause::TooMany => "TooMany",
-        Cause::UnknownProcess => "UnknownProcess",
-        Cause::Memory => "Memory",
-    }
-}
-
 /// Tells the fault of a line, if that can be done, and gives the status: 4 if memory ran out, and else 3.
 pub fn complain<E: Write>(fault: ReadFault, err: &mut E) -> u8
     ensures memory { fault.cause ≡ NoMemoryLeft → result ≡ 4 }
@@ -39,7 +25,6 @@ pub fn complain<E: Write>(fault: ReadFault, err: &mut E) -> u8
         let _ = writeln!(err, "landaudit-rules: no memory");
         return 4;
     }
-    let cause = name_of(fault.cause);
-    let _ = writeln!(err, "landaudit-rules: line {}: {cause}", fault.line);
+    let _ = writeln!(err, "landaudit-rules: line {}: {:?}", fault.line, fault.cause);
     3
 }
