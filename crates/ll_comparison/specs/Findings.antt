@@ -5,7 +5,7 @@ use Rattle.std.specs.Prelude.{◌≡◌, ◌-◌, List, length, map}
 use Rattle.std.specs.List.{AllZip}
 use Rattle.ll_rights.specs.Rights as files
 use Rattle.ll_rights.specs.NetRights as network
-use Rattle.ll_policy.specs.Found.{TellsObjects, TellsGains, TellsSingleObjects, asked_of}
+use Rattle.ll_policy.specs.Found.{TellsObjects, TellsGains, TellsSingleObjects, OfEach}
 use Rattle.ll_policy.specs.Regions.{TellsRegions, TellsPorts}
 use Rattle.ll_policy.specs.FoundMoves.{TellsMoves, all_kinds}
 use Rattle.ll_policy.specs.Places.{is_file_in}
@@ -26,9 +26,9 @@ pub record AreLost (old new : List Layer) (found : Lost) : Type 0 where
 -- together and alone, of gains, and of moves of objects of each kind; which restrictions are lost; and how many layers more a process can stack.
 pub record IsFound (comparison : Comparison) (found : Found) : Type 0 where
   pub regions : AllZip (TellsRegions comparison.asked.regions comparison.parents.items (map rules_of comparison.old.items) (map rules_of comparison.new.items)) files.all_rights found.regions.items
-  pub objects : AllZip (λ right. TellsObjects (is_file_in comparison.files.items) (asked_of comparison.asked.objects right (map rules_of comparison.old.items)) (asked_of comparison.asked.objects right (map rules_of comparison.new.items)) right) files.all_rights found.objects.items
-  pub single : AllZip (λ right. TellsSingleObjects (length comparison.files.items) (asked_of comparison.asked.single right (map rules_of comparison.old.items)) (asked_of comparison.asked.single right (map rules_of comparison.new.items)) right) files.all_rights found.single.items
-  pub gains : AllZip (λ right. TellsGains (is_file_in comparison.files.items) (asked_of comparison.asked.gains right (map rules_of comparison.old.items)) (asked_of comparison.asked.gains right (map rules_of comparison.new.items)) right) files.all_rights found.gains.items
+  pub objects : OfEach (TellsObjects (is_file_in comparison.files.items)) comparison.asked.objects comparison.old.items comparison.new.items found.objects
+  pub single : OfEach (TellsSingleObjects (length comparison.files.items)) comparison.asked.single comparison.old.items comparison.new.items found.single
+  pub gains : OfEach (TellsGains (is_file_in comparison.files.items)) comparison.asked.gains comparison.old.items comparison.new.items found.gains
   pub moves : AllZip (TellsMoves comparison.asked.moves (is_file_in comparison.files.items) comparison.parents.items (map rules_of comparison.old.items) (map rules_of comparison.new.items)) all_kinds found.moves.items
   pub ports : AllZip (TellsPorts comparison.ports (map rules_of comparison.old.items) (map rules_of comparison.new.items)) network.all_rights found.ports.items
   pub lost : AreLost comparison.old.items comparison.new.items found.lost

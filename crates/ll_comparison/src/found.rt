@@ -6,9 +6,8 @@ ghost use Rattle.ll_comparison.specs.Findings.{AreLost, IsFound};
 
 use crate::comparison::Comparison;
 use ll_policy::{
-    Gain, Layer, MovedTo, Passing, Restriction, lost, more_gains, more_on_objects,
-    more_on_single_objects, moves_between_regions, passing_on_objects, passing_on_ports,
-    spare_layers,
+    Compared, Gain, Layer, MovedTo, Passing, Restriction, lost, passing_on_objects,
+    passing_on_ports, spare_layers,
 };
 use std::alloc::{AllocError, Global};
 
@@ -69,10 +68,11 @@ pub fn compare(alloc: Global, comparison: &Comparison) -> Result<Found, AllocErr
         ..
     } = comparison;
     let regions = passing_on_objects(alloc, asked.regions, parents, old, new)?;
-    let objects = more_on_objects(alloc, asked.objects, files, old, new)?;
-    let single = more_on_single_objects(alloc, asked.single, files.len(), old, new)?;
-    let gains = more_gains(alloc, asked.gains, files, old, new)?;
-    let moves = moves_between_regions(alloc, asked.moves, files, parents, old, new)?;
+    let two = Compared { files, old, new };
+    let objects = two.more_on_objects(alloc, asked.objects)?;
+    let single = two.more_on_single_objects(alloc, asked.single)?;
+    let gains = two.more_gains(alloc, asked.gains)?;
+    let moves = two.moves_between_regions(alloc, asked.moves, parents)?;
     let ports = passing_on_ports(alloc, comparison.ports, old, new)?;
     Ok(Found {
         regions,

@@ -5,13 +5,15 @@ use Rattle.std.specs.List.{AllZip, list_all}
 use Rattle.std.specs.Option.{is_none}
 use Rattle.std.specs.Global.{Global}
 use Rattle.ll_rights.specs.declared.fs.Fs.{Fs}
-use Rattle.ll_rights.specs.Rights.{FsRight, has}
+use Rattle.ll_rights.specs.Rights.{FsRight, has, all_rights}
 use Rattle.ll_rules.specs.Layers.{RulesOn}
 use Rattle.ll_policy.specs.declared.gaining.Gain.{Gain}
+use Rattle.ll_policy.specs.declared.layer.Layer.{Layer}
 use Rattle.ll_policy.specs.Chains.{Granting, Tells}
 use Rattle.ll_policy.specs.Choices.{enough_of}
 use Rattle.ll_policy.specs.Gains.{TellsGain}
 use Rattle.ll_policy.specs.Granted.{granting, root}
+use Rattle.ll_policy.specs.Policies.{rules_of}
 
 -- the layers that are asked about a right: all, if it is among the rights that are asked about
 abbrev pub asked_of : Fs → FsRight → List (RulesOn ℕ) → List (RulesOn ℕ)
@@ -20,6 +22,11 @@ asked_of asked right layers = if has asked right then layers else []
 -- what these say of it
 abbrev pub said : Fs → FsRight → List (RulesOn ℕ) → List Granting
 said asked right layers = map (granting right) (asked_of asked right layers)
+
+-- of each right for files what is told of it and of the layers that are asked about it
+abbrev pub OfEach : {T : Type 0} → (List (RulesOn ℕ) → List (RulesOn ℕ) → FsRight → Vec T Global → Type 0) → Fs → List Layer → List Layer → Vec (Vec T Global) Global → Type 0
+OfEach tells asked old new found =
+    AllZip (λ right. tells (asked_of asked right (map rules_of old)) (asked_of asked right (map rules_of new)) right) all_rights found.items
 
 -- what is found of a right for files: for each old layer nothing, or a chain
 abbrev pub TellsObjects : (ℕ → Bool) → List (RulesOn ℕ) → List (RulesOn ℕ) → FsRight → Vec (Option (Vec ℕ Global)) Global → Type 0

@@ -1,12 +1,12 @@
 //! Two policies compared, with each right.
 
-ghost use Rattle.std.specs.Prelude.{◌≡◌, IfOk, Ok, map};
+ghost use Rattle.std.specs.Prelude.{◌≡◌, IfOk, Ok, length, map};
 ghost use Rattle.std.specs.Fn.{FnReturnsAtPair};
 ghost use Rattle.std.specs.List.{AllZip};
 ghost use Rattle.ll_rights.specs.CodeRights.{fs_right};
 ghost use Rattle.ll_rights.specs.Rights as for_files;
 ghost use Rattle.ll_policy.specs.Chains.{AreDirectories};
-ghost use Rattle.ll_policy.specs.Found.{TellsObjects, TellsGains, TellsSingleObjects, asked_of, said};
+ghost use Rattle.ll_policy.specs.Found.{TellsObjects, TellsGains, TellsSingleObjects, OfEach, said};
 ghost use Rattle.ll_policy.specs.Granted.{root};
 ghost use Rattle.ll_policy.specs.Places.{is_file_in};
 ghost use Rattle.ll_policy.specs.Policies.{rules_of};
@@ -57,64 +57,55 @@ fn found_of_each<T: Drop, F: Fn(&[Granting], &[Granting]) -> Result<Vec<T>, Allo
     Ok(found)
 }
 
-/// What new layers let pass on objects and old ones don't: for each right for files and, if it is asked about, each old
-/// layer.
-pub fn more_on_objects(
-    alloc: Global,
-    asked: Fs,
-    files: &[bool],
-    old: &[Layer],
-    new: &[Layer],
-) -> Result<Vec<Vec<Option<Vec<usize>>>>, AllocError>
-    requires { AreDirectories (is_file_in files.now) root }
-    ensures { IfOk result (λ found. AllZip
-        (λ right. TellsObjects (is_file_in files.now)
-        (asked_of asked right (map rules_of old.now))
-        (asked_of asked right (map rules_of new.now)) right)
-        for_files.all_rights found.items) }
-{
-    Ok(found_of_each(alloc, asked, old, new, |old, new| {
-        excesses(alloc, files, &[ROOT], old, new)
-    })?)
+/// Two policies that are compared with each right for files that is asked about, and which objects are files.
+#[derive(Clone, Copy)]
+pub struct Compared<'a> {
+    pub files: &'a [bool],
+    pub old: &'a [Layer],
+    pub new: &'a [Layer],
 }
 
-/// The objects by each of which new layers let a right pass and old ones don't, among so many: for each right for files
-/// and, if it is asked about, each old layer.
-pub fn more_on_single_objects(
-    alloc: Global,
-    asked: Fs,
-    count: usize,
-    old: &[Layer],
-    new: &[Layer],
-) -> Result<Vec<Vec<Vec<usize>>>, AllocError>
-    ensures { IfOk result (λ found. AllZip
-        (λ right. TellsSingleObjects count
-        (asked_of asked right (map rules_of old.now))
-        (asked_of asked right (map rules_of new.now)) right)
-        for_files.all_rights found.items) }
-{
-    Ok(found_of_each(alloc, asked, old, new, |old, new| {
-        each_enough(alloc, count, old, new)
-    })?)
-}
+impl Compared<'_> {
+    /// What new layers let pass on objects and old ones don't: for each right and, if it is asked about, each old
+    /// layer.
+    pub fn more_on_objects(
+        &self,
+        alloc: Global,
+        asked: Fs,
+    ) -> Result<Vec<Vec<Option<Vec<usize>>>>, AllocError>
+        requires { AreDirectories (is_file_in self.now.files.now) root }
+        ensures { IfOk result (OfEach (TellsObjects (is_file_in self.now.files.now))
+            asked self.now.old.now self.now.new.now) }
+    {
+        Ok(found_of_each(alloc, asked, self.old, self.new, |old, new| {
+            excesses(alloc, self.files, &[ROOT], old, new)
+        })?)
+    }
 
-/// What gains a right in an old layer and in no new one: for each right for files and, if it is asked about, each old
-/// layer.
-pub fn more_gains(
-    alloc: Global,
-    asked: Fs,
-    files: &[bool],
-    old: &[Layer],
-    new: &[Layer],
-) -> Result<Vec<Vec<Option<Gain>>>, AllocError>
-    requires { AreDirectories (is_file_in files.now) root }
-    ensures { IfOk result (λ found. AllZip
-        (λ right. TellsGains (is_file_in files.now)
-        (asked_of asked right (map rules_of old.now))
-        (asked_of asked right (map rules_of new.now)) right)
-        for_files.all_rights found.items) }
-{
-    Ok(found_of_each(alloc, asked, old, new, |old, new| {
-        gains(alloc, files, old, new)
-    })?)
+    /// The objects by each of which new layers let a right pass and old ones don't: for each right and, if it is asked
+    /// about, each old layer.
+    pub fn more_on_single_objects(
+        &self,
+        alloc: Global,
+        asked: Fs,
+    ) -> Result<Vec<Vec<Vec<usize>>>, AllocError>
+        ensures { IfOk result (OfEach (TellsSingleObjects (length self.now.files.now))
+            asked self.now.old.now self.now.new.now) }
+    {
+        let count = self.files.len();
+        Ok(found_of_each(alloc, asked, self.old, self.new, |old, new| {
+            each_enough(alloc, count, old, new)
+        })?)
+    }
+
+    /// What gains a right in an old layer and in no new one: for each right and, if it is asked about, each old layer.
+    pub fn more_gains(&self, alloc: Global, asked: Fs) -> Result<Vec<Vec<Option<Gain>>>, AllocError>
+        requires { AreDirectories (is_file_in self.now.files.now) root }
+        ensures { IfOk result (OfEach (TellsGains (is_file_in self.now.files.now))
+            asked self.now.old.now self.now.new.now) }
+    {
+        Ok(found_of_each(alloc, asked, self.old, self.new, |old, new| {
+            gains(alloc, self.files, old, new)
+        })?)
+    }
 }

@@ -16,7 +16,7 @@ pub use calls::{
     moves_alike_have_one_verdict, moves_made_of_others, moves_pass_by_ways_up,
     rights_are_refused_one_by_one,
 };
-pub use comparing::{more_gains, more_on_objects, more_on_single_objects};
+pub use comparing::Compared;
 pub use deciding::{ROOT, excess};
 pub use gaining::Gain;
 pub use granting::Granting;
@@ -27,5 +27,5 @@ pub use laws::{
     ways_up_are_chains,
 };
 pub use layer::{Layer, Restriction, lost, spare_layers};
-pub use moving::{MovedTo, Movers, moves_between_regions};
+pub use moving::{MovedTo, Movers};
 pub use regions::{Passing, passing_on_objects, passing_on_ports};

@@ -12,6 +12,7 @@ ghost use Rattle.ll_policy.specs.Regions.{single};
 ghost use Rattle.ll_policy.specs.Moving as specs;
 ghost use Rattle.ll_policy.specs.FoundMoves.{all_kinds, spread_all, lets_move, passes_by, MovesNowhere, parent_in, may_be, moves_alone, beneath_alone, itself_alone, TellsMovers, TellsMovedTo, TellsMoves};
 
+use crate::comparing::Compared;
 use crate::deciding::{ROOT, is_file, passes};
 use crate::each::made_of_each;
 use crate::granting::Granting;
@@ -441,50 +442,49 @@ fn nothing_moved(alloc: Global, count: usize) -> Result<Vec<Option<MovedTo>>, Al
     Ok(found)
 }
 
-/// The same of a kind that is asked about, and nothing of others. If it is known that no policy lets anything be moved,
-/// no region is looked at.
-#[tactic(auto, using(crate::proofs::MovesInRegions::told_of_nothing))]
-fn moves_asked(
-    alloc: Global,
-    asked: Fs,
-    files: &[bool],
-    parents: &[usize],
-    old: &[Layer],
-    new: &[Layer],
-    somewhere: bool,
-    kind: Kind,
-) -> Result<Vec<Option<MovedTo>>, AllocError>
-    requires old { somewhere ≡ false → MovesNowhere parents.now (map rules_of old.now) }
-    requires new { somewhere ≡ false → MovesNowhere parents.now (map rules_of new.now) }
-    ensures { IfOk result (TellsMoves asked (is_file_in files.now) parents.now
-        (map rules_of old.now) (map rules_of new.now) kind) }
-{
-    if !asked.has(make_right(kind)) {
-        return Ok(Vec::new(alloc));
+impl Compared<'_> {
+    /// The same of a kind that is asked about, and nothing of others. If it is known that no policy lets anything be
+    /// moved, no region is looked at.
+    #[tactic(auto, using(crate::proofs::MovesInRegions::told_of_nothing))]
+    fn moves_asked(
+        &self,
+        alloc: Global,
+        asked: Fs,
+        parents: &[usize],
+        somewhere: bool,
+        kind: Kind,
+    ) -> Result<Vec<Option<MovedTo>>, AllocError>
+        requires old { somewhere ≡ false → MovesNowhere parents.now (map rules_of self.now.old.now) }
+        requires new { somewhere ≡ false → MovesNowhere parents.now (map rules_of self.now.new.now) }
+        ensures { IfOk result (TellsMoves asked (is_file_in self.now.files.now) parents.now
+            (map rules_of self.now.old.now) (map rules_of self.now.new.now) kind) }
+    {
+        if !asked.has(make_right(kind)) {
+            return Ok(Vec::new(alloc));
+        }
+        if !somewhere {
+            return Ok(nothing_moved(alloc, parents.len() + 1)?);
+        }
+        moves_of(alloc, self.files, parents, self.old, self.new, kind)
     }
-    if !somewhere {
-        return Ok(nothing_moved(alloc, parents.len() + 1)?);
-    }
-    moves_of(alloc, files, parents, old, new, kind)
-}
 
-/// The moves between regions that one policy alone lets pass: for each kind of objects, if the right to make one is asked
-/// about, those to each region.
-pub fn moves_between_regions(
-    alloc: Global,
-    asked: Fs,
-    files: &[bool],
-    parents: &[usize],
-    old: &[Layer],
-    new: &[Layer],
-) -> Result<Vec<Vec<Option<MovedTo>>>, AllocError>
-    ensures { IfOk result (λ found. AllZip
-        (TellsMoves asked (is_file_in files.now) parents.now
-        (map rules_of old.now) (map rules_of new.now))
-        all_kinds found.items) }
-{
-    let somewhere = moves_somewhere(alloc, parents, old)? || moves_somewhere(alloc, parents, new)?;
-    Ok(made_of_each(alloc, kinds(), |kind| {
-        moves_asked(alloc, asked, files, parents, old, new, somewhere, *kind)
-    })?)
+    /// The moves between regions that one policy alone lets pass: for each kind of objects, if the right to make one is
+    /// asked about, those to each region.
+    pub fn moves_between_regions(
+        &self,
+        alloc: Global,
+        asked: Fs,
+        parents: &[usize],
+    ) -> Result<Vec<Vec<Option<MovedTo>>>, AllocError>
+        ensures { IfOk result (λ found. AllZip
+            (TellsMoves asked (is_file_in self.now.files.now) parents.now
+            (map rules_of self.now.old.now) (map rules_of self.now.new.now))
+            all_kinds found.items) }
+    {
+        let somewhere = moves_somewhere(alloc, parents, self.old)?
+            || moves_somewhere(alloc, parents, self.new)?;
+        Ok(made_of_each(alloc, kinds(), |kind| {
+            self.moves_asked(alloc, asked, parents, somewhere, *kind)
+        })?)
+    }
 }

@@ -1,14 +1,13 @@
-use Rattle.std.proofs.Common.{rules, ◌≡◌, length}
+use Rattle.std.proofs.Common.{rules}
 use Rattle.ll_comparison.proofs.found.compare.Goals as goal
 
 pub returns : goal.returns
 returns c =
-    let count : c.len.result ≡ length c.args.comparison.now.files.items = search rules in
     record {
       regions = search rules;
       objects = rw (← c.deref-4.ensures.value, ← c.deref-5.ensures.value, ← c.deref-6.ensures.value) c.in_ok-objects.ensures;
-      single = rw (← count, ← c.deref-7.ensures.value, ← c.deref-8.ensures.value) c.in_ok-single.ensures;
-      gains = rw (← c.deref-9.ensures.value, ← c.deref-10.ensures.value, ← c.deref-11.ensures.value) c.in_ok-gains.ensures;
+      single = rw (← c.deref-4.ensures.value, ← c.deref-5.ensures.value, ← c.deref-6.ensures.value) c.in_ok-single.ensures;
+      gains = rw (← c.deref-4.ensures.value, ← c.deref-5.ensures.value, ← c.deref-6.ensures.value) c.in_ok-gains.ensures;
       moves = search rules;
       ports = search rules;
       lost = search rules;
