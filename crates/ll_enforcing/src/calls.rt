@@ -6,7 +6,7 @@ ghost use Rattle.ll_semantics.specs.Worlds.{World};
 ghost use Rattle.ll_fitting.specs.Fitting.{fitted};
 ghost use Rattle.ll_enforcing.specs.Answered.{MayEnforce, IsEnforced};
 ghost use Rattle.ll_fitting.specs.Shown.{shown};
-ghost use Rattle.ll_enforcing.specs.Calls.{calls_of, calls_of_layer, of_path_rules, of_port_rules};
+ghost use Rattle.ll_enforcing.specs.Calls.{calls_of, calls_of_layer};
 
 use ll_fitting::{FittedLayer, FittedPathRule, FittedPortRule, Policy};
 use ll_rights::{Abi, Fs, Net};
@@ -44,34 +44,6 @@ pub enum Call {
     },
 }
 
-/// Adds a call for each rule for files of a layer.
-fn add_path_rules(calls: &mut Vec<Call>, left: &FittedLayer) -> Result<(), AllocError>
-    ensures { OnOk result
-        (calls.new.items ≡ calls.old.items ++ of_path_rules (shown left.now)) }
-{
-    for rule in &left.path_rules {
-        calls.push(Call::AddPath {
-            layer: left.layer,
-            rule: *rule,
-        })?;
-    }
-    Ok(())
-}
-
-/// Adds a call for each rule for ports of a layer.
-fn add_port_rules(calls: &mut Vec<Call>, left: &FittedLayer) -> Result<(), AllocError>
-    ensures { OnOk result
-        (calls.new.items ≡ calls.old.items ++ of_port_rules (shown left.now)) }
-{
-    for rule in &left.port_rules {
-        calls.push(Call::AddPort {
-            layer: left.layer,
-            rule: *rule,
-        })?;
-    }
-    Ok(())
-}
-
 /// Adds the calls for a layer.
 #[tactic(auto, unfolding(crate::specs::Calls::calls_of_layer))]
 fn add_layer(calls: &mut Vec<Call>, left: &FittedLayer) -> Result<(), AllocError>
@@ -84,8 +56,12 @@ fn add_layer(calls: &mut Vec<Call>, left: &FittedLayer) -> Result<(), AllocError
         files: left.files,
         network: left.network,
     })?;
-    add_path_rules(calls, left)?;
-    add_port_rules(calls, left)?;
+    for rule in &left.path_rules {
+        calls.push(Call::AddPath { layer, rule: *rule })?;
+    }
+    for rule in &left.port_rules {
+        calls.push(Call::AddPort { layer, rule: *rule })?;
+    }
     calls.push(Call::RestrictSelf { layer })?;
     calls.push(Call::CloseRuleset { layer })?;
     Ok(())
