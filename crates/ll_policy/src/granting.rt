@@ -150,17 +150,3 @@ pub fn all_on_objects(
         Granting::on_objects(alloc, layer, right)
     })?)
 }
-
-/// What each layer says of a right for ports.
-pub fn all_on_ports(
-    alloc: Global,
-    layers: &[Layer],
-    right: NetRight,
-) -> Result<Vec<Granting>, AllocError>
-    ensures { IfOk result (λ made.
-        made.items ≡ map (granting_on_ports (net_right right)) (map rules_of layers.now)) }
-{
-    Ok(made_of_each(alloc, layers, |layer| {
-        Granting::on_ports(alloc, layer, right)
-    })?)
-}

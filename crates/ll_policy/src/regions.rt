@@ -12,7 +12,7 @@ ghost use Rattle.ll_policy.specs.Regions.{region, single, spread, passes_with, n
 
 use crate::deciding::passes;
 use crate::each::made_of_each;
-use crate::granting::{Granting, all_on_objects, all_on_ports};
+use crate::granting::{Granting, all_on_objects};
 use crate::layer::Layer;
 use ll_rights::{Fs, FsRight, NetRight, RightSet};
 use std::alloc::{AllocError, Global};
@@ -54,7 +54,7 @@ pub(crate) fn in_regions(
 
 /// Whether a number passes by the layers of one policy, and by those of the other too or not, as is asked.
 #[tactic(auto, unfolding(crate::specs::Regions::passes_with))]
-fn passes_with(number: usize, one: &[Granting], other: &[Granting], too: bool) -> bool
+fn passes_with(too: bool, one: &[Granting], other: &[Granting], number: usize) -> bool
     ensures { result ≡ passes_with too one.now other.now (single number) }
 {
     if !passes(&[number], one) {
@@ -69,15 +69,15 @@ fn passes_with(number: usize, one: &[Granting], other: &[Granting], too: bool) -
 fn numbers_with(
     alloc: Global,
     count: usize,
+    too: bool,
     one: &[Granting],
     other: &[Granting],
-    too: bool,
 ) -> Result<Vec<usize>, AllocError>
     ensures { IfOk result (λ found. found.items
         ≡ numbers_of single count (passes_with too one.now other.now)) }
 {
     (0..count)
-        .filter(|number| passes_with(*number, one, other, too))
+        .filter(|number| passes_with(too, one, other, *number))
         .collect(alloc)
 }
 
@@ -91,9 +91,9 @@ fn passing_of(
     ensures { IfOk result (TellsPassing single count old.now new.now) }
 {
     Ok(Passing {
-        both: numbers_with(alloc, count, old, new, true)?,
-        new: numbers_with(alloc, count, new, old, false)?,
-        old: numbers_with(alloc, count, old, new, false)?,
+        both: numbers_with(alloc, count, true, old, new)?,
+        new: numbers_with(alloc, count, false, new, old)?,
+        old: numbers_with(alloc, count, false, old, new)?,
     })
 }
 
@@ -175,8 +175,8 @@ fn ports_with(
     ensures { IfOk result
         (TellsPorts count (map rules_of old.now) (map rules_of new.now) (net_right right)) }
 {
-    let old = all_on_ports(alloc, old, right)?;
-    let new = all_on_ports(alloc, new, right)?;
+    let old = made_of_each(alloc, old, |layer| Granting::on_ports(alloc, layer, right))?;
+    let new = made_of_each(alloc, new, |layer| Granting::on_ports(alloc, layer, right))?;
     passing_of(alloc, count, &old, &new)
 }
 
