@@ -1,10 +1,13 @@
 //! What is found of some records otherwise than in a base.
 
-ghost use Rattle.std.specs.Prelude.{◌≡◌, ◌<◌, ◌^◌, [], OnOk};
+ghost use Rattle.std.specs.Prelude.{◌≡◌, ◌<◌, ◌^◌, [], IfOk, OnOk};
 ghost use Rattle.ll_findings.specs.Findings.{Notes, both_changed, changed_once};
+ghost use Rattle.ll_findings.specs.Kept.{kept_of};
 
 use crate::explained::SharedExplanation;
+use crate::finding::Finding;
 use crate::found::Found;
+use ll_explanations::Explanation;
 use ll_semantics::Answer;
 use std::alloc::{AllocError, Global};
 use std::marker::Model;
@@ -23,6 +26,23 @@ impl Model for Changes {
 
     ghost view = { λ changes.
         record { indices = changes.indices.items; found = changes.found } };
+}
+
+/// What is kept of an explanation of the record at an index. It shares the memory of what is kept under a newer version,
+/// where that is like it.
+fn keep(
+    alloc: Global,
+    newer: Option<&Finding>,
+    index: usize,
+    explanation: Explanation,
+) -> Result<SharedExplanation, AllocError>
+    ensures { IfOk result (λ kept. kept ≡ kept_of explanation) }
+{
+    let newer = match newer {
+        Some(newer) => newer.kept(index),
+        None => None,
+    };
+    SharedExplanation::new(alloc, explanation, newer)
 }
 
 impl Changes {
@@ -54,18 +74,25 @@ impl Changes {
     /// Adds what is found of the record at an index, unless the base has the same.
     pub(crate) fn note(
         &mut self,
+        alloc: Global,
         base: &Found,
+        newer: Option<&Finding>,
         index: usize,
         answer: Answer,
-        kept: &SharedExplanation,
+        explanation: Explanation,
     ) -> Result<(), AllocError>
         requires { index < 2 ^ 32 }
-        ensures { OnOk result (Notes base.now index answer kept.now self.old self.new) }
+        ensures { OnOk result
+            (Notes base.now index answer (kept_of explanation) self.old self.new) }
     {
-        if base.has(index, answer, kept) {
+        if base.has(index, answer, &explanation) {
             return Ok(());
         }
-        self.push(index as u32, answer, kept.again()?)
+        self.push(
+            index as u32,
+            answer,
+            keep(alloc, newer, index, explanation)?,
+        )
     }
 
     /// Adds changes about records behind those of these.

@@ -1,15 +1,11 @@
 //! The records of a case, cut into chunks, each of which a thread explains.
 
-ghost use Rattle.std.specs.Prelude.{◌≡◌, ◌<◌, ◌≤◌, ◌^◌, IfOk, OnOk, length};
+ghost use Rattle.std.specs.Prelude.{◌≡◌, ◌<◌, ◌≤◌, IfOk, OnOk, length};
 ghost use Rattle.ll_semantics.specs.Worlds.{judged};
 ghost use Rattle.ll_origins.specs.CaseTrails.{AreTrailsAt, IsAnswerAt};
-ghost use Rattle.ll_findings.specs.Findings.{IsKept};
 ghost use Rattle.ll_findings.specs.Chunks.{AreChunks};
 
 use crate::chunk::Chunk;
-use crate::explained::SharedExplanation;
-use crate::finding::Finding;
-use ll_explanations::explain;
 use ll_origins::TraceOrigins;
 use ll_process::Case;
 use ll_semantics::Answer;
@@ -20,33 +16,6 @@ const MOST_CHUNKS: usize = 4;
 
 /// How many records each process has in a chunk at least, on average.
 const RECORDS_EACH: usize = 8;
-
-/// What is kept of the explanation of the record at an index of a case.
-pub(crate) fn explain_one(
-    alloc: Global,
-    case: &Case<'_>,
-    trails: &TraceOrigins,
-    index: usize,
-    answer: Answer,
-    newer: Option<&Finding>,
-) -> Result<SharedExplanation, AllocError>
-    requires index { index < length case.now.records }
-    requires answer { IsAnswerAt case.now index answer }
-    requires trails { AreTrailsAt case.now index trails.now }
-    ensures kept { IfOk result
-        (IsKept case.now.tree case.now.abi case.now.records index answer) }
-    ensures few { OnOk result (index < 2 ^ 32) }
-{
-    let explanation = explain(alloc, case, trails, index, answer)?;
-    // A case has few records, as the contract of a call says.
-    let _call = case.call(index);
-    let newer = match newer {
-        Some(newer) => newer.kept(index),
-        None => None,
-    };
-    let kept = SharedExplanation::new(alloc, explanation, newer)?;
-    Ok(kept)
-}
 
 /// The answer to the record at an index of a case.
 pub(crate) fn answer_at(case: &Case<'_>, answers: &[Answer], index: usize) -> Answer

@@ -1,22 +1,21 @@
 //! What is found of the records of a case otherwise than in a base: several threads work it out, each for a chunk of
 //! the records.
 
-ghost use Rattle.std.specs.Prelude.{◌≡◌, ◌≤◌, ℕ, IfOk, List, length};
+ghost use Rattle.std.specs.Prelude.{◌≡◌, ℕ, IfOk, List, length};
 ghost use Rattle.std.specs.List.{AllZip};
 ghost use Rattle.ll_semantics.specs.Worlds.{judged};
 ghost use Rattle.ll_process.specs.Cases.{CaseValue};
-ghost use Rattle.ll_origins.specs.CaseTrails.{AreTrailsAt};
 ghost use Rattle.ll_findings.specs.Findings.{AreKept, FindingValue};
 ghost use Rattle.ll_findings.specs.Chunks.{AreChunks, Covers, IsCompared};
 ghost use Rattle.ll_findings.specs.declared.chunk.Chunk.{Chunk as OneChunk};
 
 use crate::changes::Changes;
 use crate::chunk::Chunk;
-use crate::chunks::{answer_at, chunks_of, cut_all, explain_one};
+use crate::chunks::{answer_at, chunks_of, cut_all};
 use crate::explained::SharedExplanation;
 use crate::finding::Finding;
 use crate::found::Found;
-use ll_origins::TraceOrigins;
+use ll_explanations::explain;
 use ll_process::Case;
 use ll_semantics::Answer;
 use rayon::prelude::*;
@@ -26,49 +25,24 @@ use std::thread::Threads;
 /// What is found of consecutive records otherwise than in a base, or that memory ran out.
 type Comparing = Result<Changes, AllocError>;
 
-/// What is found of the records from an index on, up to another, otherwise than in a base.
-fn compare_from(
-    alloc: Global,
-    case: &Case<'_>,
-    answers: &[Answer],
-    newer: Option<&Finding>,
-    base: &Found,
-    trails: TraceOrigins,
-    from: usize,
-    end: usize,
-) -> Comparing
-    requires judged { answers.now ≡ judged case.now.tree case.now.abi case.now.records }
-    requires rises { from ≤ end }
-    requires within { end ≤ length answers.now }
-    requires begins { AreTrailsAt case.now from trails }
-    ensures { IfOk result (Covers case.now base.now from end) }
-{
-    let mut trails = trails;
-    let mut changes = Changes::none(alloc);
-    for index in from..end {
-        let answer = answer_at(case, answers, index);
-        let kept = explain_one(alloc, case, &trails, index, answer, newer)?;
-        changes.note(base, index, answer_at(case, answers, index), &kept)?;
-        trails.follow(alloc, case, index, answer_at(case, answers, index))?;
-    }
-    Ok(changes)
-}
-
 impl<'a> Chunk<'a> {
     /// What is found of its records otherwise than in a base.
     fn compared(self, alloc: Global, base: &Found) -> Comparing
         ensures { IsCompared base.now self.entry result }
     {
-        compare_from(
-            alloc,
-            self.case,
-            self.answers,
-            self.newer,
-            base,
-            self.trails,
-            self.from,
-            self.end,
-        )
+        let mut trails = self.trails;
+        let mut changes = Changes::none(alloc);
+        // A case has few records, as the contract of its trace's count says.
+        let _count = self.case.trace().count();
+        for index in self.from..self.end {
+            let answer = answer_at(self.case, self.answers, index);
+            let explanation = explain(alloc, self.case, &trails, index, answer)?;
+            let answer = answer_at(self.case, self.answers, index);
+            changes.note(alloc, base, self.newer, index, answer, explanation)?;
+            let answer = answer_at(self.case, self.answers, index);
+            trails.follow(alloc, self.case, index, answer)?;
+        }
+        Ok(changes)
     }
 }
 

@@ -90,13 +90,14 @@ impl SharedExplanation {
         }
     }
 
-    /// Whether two are the same: nothing is kept, or the same explanation.
-    pub(crate) fn is_same(&self, other: &SharedExplanation) -> bool
-        ensures { Decides result (self.now ≡ other.now) }
+    /// Whether this is what is kept of an explanation.
+    pub(crate) fn is_kept_of(&self, explanation: &Explanation) -> bool
+        ensures { Decides result (self.now ≡ kept_of explanation.now) }
     {
-        match other.get() {
-            Some(explanation) => self.is_like(explanation),
-            None => self.explained.is_none(),
+        if explanation.is_silent() {
+            self.explained.is_none()
+        } else {
+            self.is_like(explanation)
         }
     }
 }

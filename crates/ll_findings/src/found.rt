@@ -3,8 +3,10 @@
 ghost use Rattle.std.specs.Prelude.{◌≡◌, [], OnOk, Some, length, slice_get, true};
 ghost use Rattle.std.specs.Bool.{OnTrue};
 ghost use Rattle.ll_findings.specs.Findings.{IsAboutAll, both_found, found_once};
+ghost use Rattle.ll_findings.specs.Kept.{kept_of};
 
 use crate::explained::SharedExplanation;
+use ll_explanations::Explanation;
 use ll_semantics::Answer;
 use std::alloc::{AllocError, Global};
 use std::marker::Model;
@@ -67,22 +69,24 @@ impl Found {
         }
     }
 
-    /// Whether what is kept of the explanation of the record at an index is like this.
-    fn explains_so(&self, index: usize, kept: &SharedExplanation) -> bool
-        ensures { result ≡ true → slice_get self.now.explanations index ≡ Some kept.now }
+    /// Whether this is kept of an explanation of the record at an index.
+    fn explains_so(&self, index: usize, explanation: &Explanation) -> bool
+        ensures { result ≡ true
+            → slice_get self.now.explanations index ≡ Some (kept_of explanation.now) }
     {
         match self.explanations.get(index) {
-            Some(there) => there.is_same(kept),
+            Some(there) => there.is_kept_of(explanation),
             None => false,
         }
     }
 
-    /// Whether the same is found of the record at an index.
-    pub(crate) fn has(&self, index: usize, answer: Answer, kept: &SharedExplanation) -> bool
+    /// Whether the record at an index is answered and explained so.
+    pub(crate) fn has(&self, index: usize, answer: Answer, explanation: &Explanation) -> bool
         ensures answer { result ≡ true → slice_get self.now.answers index ≡ Some answer }
-        ensures kept { result ≡ true → slice_get self.now.explanations index ≡ Some kept.now }
+        ensures kept { result ≡ true
+            → slice_get self.now.explanations index ≡ Some (kept_of explanation.now) }
     {
-        self.answers_so(index, answer) && self.explains_so(index, kept)
+        self.answers_so(index, answer) && self.explains_so(index, explanation)
     }
 
     /// Adds what is found of one record.

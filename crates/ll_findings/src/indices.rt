@@ -8,7 +8,7 @@ use std::alloc::{AllocError, Global};
 use std::marker::Model;
 
 /// How many indices, present or not, share one hint.
-const BLOCK: usize = 64;
+const BLOCK: usize = 16;
 
 /// Indices in rising order. For each block of indices there is a hint: the position at which the search for an index of
 /// the block begins. A wrong hint costs time alone.
