@@ -15,7 +15,7 @@ HOPS = [(int(number), file, functions.split(", ")) for number, file, functions i
 
 class Way(unittest.TestCase):
     def test_hops_are_numbered(self) -> None:
-        self.assertIn(len(HOPS), range(10, 26))
+        self.assertIn(len(HOPS), range(10, 21))
         self.assertEqual([number for number, *_ in HOPS], list(range(1, len(HOPS) + 1)))
 
     def test_functions_are_where_the_way_goes(self) -> None:
