@@ -19,6 +19,11 @@ put room skip text empty after low is_empty is =
       ap (λ (b : Buffered). b.room) (found ∙ added room skip 0 [] text (omega arith) (omega arith) low),
     )
 
+-- what is read of a page of this room
+pub holds : (room wide skip : ℕ) (text page held : List ℕ) → page ≡ held → held ≡ take wide (drop skip text) → wide ≡ room
+    → page ≡ take room (drop skip text)
+holds room wide skip text page held read written same = read ∙ written ∙ ap (λ n. take n (drop skip text)) same
+
 module _ (room skip : ℕ) (a b page other : List ℕ) (here : page ≡ take room (drop skip a)) (there : other ≡ take room (drop skip b)) where
   pub same_page : bytes_eq page other ≡ true → take room (drop skip a) ≡ take room (drop skip b)
   same_page same = sym here ∙ (bytes_eq-Decides page other).0 same ∙ there

@@ -1,7 +1,7 @@
-use Rattle.std.proofs.Common.{rules, ◌≡◌, ◌∙◌, ◌+◌, ◌<◌, ◌^◌, List, ℕ, [], true, get_or, take, drop, length, ap, arith, subst}
+use Rattle.std.proofs.Common.{rules, ◌≡◌, ◌∙◌, ◌+◌, ◌<◌, ◌^◌, List, ℕ, [], true, get_or, take, length, ap, arith, subst}
 use Rattle.std.specs.Prelude.{bytes_eq}
 use Rattle.ll_report.specs.Printed.{texts_of}
-use Rattle.ll_report.proofs.PageByPage.{all_same, more_same}
+use Rattle.ll_report.proofs.PageByPage.{all_same, holds, more_same}
 use Rattle.ll_report.proofs.pages.are_texts_same.Goals as goal
 
 pub returns-then-held-room-clause-same : goal.returns-then-held-room-clause-same
@@ -9,10 +9,10 @@ returns-then-held-room-clause-same g c =
     let l = c.loop-one in
     let a : List ℕ = get_or (texts_of g.P.Printer.printed c.args.row.now) c.args.one [] in
     let b : List ℕ = get_or (texts_of g.P.Printer.printed c.args.row.now) c.args.other [] in
-    let here = c.held.ensures.bytes ∙ c.put_page.ensures.held ∙ ap (λ (n : ℕ). take n (drop l.skip a)) l.invariant.first in
-    let there = c.held-in-loop-one.ensures.bytes ∙ c.put_page-in-loop-one.ensures.held ∙ ap (λ (n : ℕ). take n (drop l.skip b)) l.invariant.second in
     let same : bytes_eq c.held.result.now c.held-in-loop-one.result.now ≡ true = search rules in
-    all_same c.args.first.now.room l.skip a b c.held.result.now c.held-in-loop-one.result.now here there l.invariant.same same
+    all_same c.args.first.now.room l.skip a b c.held.result.now c.held-in-loop-one.result.now
+    (holds _ _ l.skip a _ _ c.held.ensures.bytes c.put_page.ensures.held l.invariant.first)
+    (holds _ _ l.skip b _ _ c.held-in-loop-one.ensures.bytes c.put_page-in-loop-one.ensures.held l.invariant.second) l.invariant.same same
     (omega (arith, c.if-held-room.true, ap length c.held-in-loop-one-2.ensures.bytes, ap length c.held.ensures.bytes, c.room-room.ensures.room))
 
 pub loop-one-preserved : goal.loop-one-preserved
@@ -20,8 +20,6 @@ loop-one-preserved g c =
     let l = c.loop-one in
     let a : List ℕ = get_or (texts_of g.P.Printer.printed c.args.row.now) c.args.one [] in
     let b : List ℕ = get_or (texts_of g.P.Printer.printed c.args.row.now) c.args.other [] in
-    let here = c.held.ensures.bytes ∙ c.put_page.ensures.held ∙ ap (λ (n : ℕ). take n (drop l.skip a)) l.invariant.first in
-    let there = c.held-in-loop-one.ensures.bytes ∙ c.put_page-in-loop-one.ensures.held ∙ ap (λ (n : ℕ). take n (drop l.skip b)) l.invariant.second in
     let same : bytes_eq c.held.result.now c.held-in-loop-one.result.now ≡ true = search rules in
     let sum : (l.skip + c.room-room.result < 2 ^ 64) × (c.in-Some.next ≡ l.skip + c.room-room.result) = c.in-Some.ensures in
     let next : l.skip + c.args.first.now.room ≡ c.in-Some.next = omega (arith, sum.1, c.room-room.ensures.room) in
@@ -29,5 +27,7 @@ loop-one-preserved g c =
       first = c.put_page.ensures.room ∙ l.invariant.first;
       second = c.put_page-in-loop-one.ensures.room ∙ l.invariant.second;
       same = subst (λ (n : ℕ). take n a ≡ take n b) next
-          (more_same c.args.first.now.room l.skip a b c.held.result.now c.held-in-loop-one.result.now here there l.invariant.same same);
+          (more_same c.args.first.now.room l.skip a b c.held.result.now c.held-in-loop-one.result.now
+          (holds _ _ l.skip a _ _ c.held.ensures.bytes c.put_page.ensures.held l.invariant.first)
+          (holds _ _ l.skip b _ _ c.held-in-loop-one.ensures.bytes c.put_page-in-loop-one.ensures.held l.invariant.second) l.invariant.same same);
     }
