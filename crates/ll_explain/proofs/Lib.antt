@@ -3,6 +3,7 @@ pub mod PlainTexts
 pub mod Buffering
 pub mod Listing
 pub mod Appending
+pub mod Layered
 pub mod LinesSaid
 pub mod PathsSpelt
 pub mod ConditionsSaid

@@ -1,5 +1,5 @@
 -- The lines of objections that are said one after another are those of the layers.
-use Rattle.std.proofs.Common.{◌≡◌, ◌∙◌, ℕ, ◌+◌, ◌<◌, ◌≤◌, Bool, true, false, cond, eqb, List, [], ◌∷◌, ◌++◌, length, map, drop, get_or, codes, refl, sym, ap}
+use Rattle.std.proofs.Common.{◌≡◌, ◌∙◌, ℕ, ◌+◌, ◌<◌, ◌≤◌, Bool, true, false, cond, eqb, List, ◌∷◌, ◌++◌, length, map, drop, get_or, codes, refl, sym, ap}
 use Rattle.std.proofs.Common.{append_assoc, arith}
 use Rattle.std.specs.Prelude.{All}
 use Rattle.std.specs.List.{flat_map}
@@ -8,12 +8,13 @@ use Rattle.std.proofs.lemmas.List.{drop_all, drop_more}
 use Rattle.ll_tree.specs.Trees.{Entry}
 use Rattle.ll_trace.specs.declared.op.Record.{Record}
 use Rattle.ll_reasons.specs.Objections.{Objection}
-use Rattle.ll_explanations.specs.Meanings.{IsMade, by_layer, in_front, objection_in}
-use Rattle.ll_explanations.proofs.Grouping.{Groups, fronted, grouped, later_of, same_of}
+use Rattle.ll_explanations.specs.Meanings.{IsMade, by_layer, objection_in}
+use Rattle.ll_explanations.proofs.Grouping.{Groups}
 use Rattle.ll_explanations.specs.declared.objection.LayerObjection.{LayerObjection}
 use Rattle.ll_explain.specs.Buffers.{Buffered, adding}
 use Rattle.ll_explain.specs.Lines.{ending, head_of, lines_from, next_text, opening}
 use Rattle.ll_explain.proofs.Buffering.{goes_on}
+use Rattle.ll_explain.proofs.Layered.{all_layered, rest_of}
 use Rattle.ll_explain.specs.Words.{behind, joined, layer_head, layer_text, objection_text}
 
 module _ (tree : List Entry) (records : List Record) where
@@ -39,65 +40,36 @@ module _ (tree : List Entry) (records : List Record) where
     abbrev lines : Groups → List ℕ
     lines groups = flat_map (layer_text records layers) groups
 
-    -- what is to be said of groups behind an objection of this layer
-    abbrev rest_of : ℕ → Groups → List ℕ
-    rest_of before [] = ending before
-    rest_of before (g ∷ gs) = cond (eqb g.0 before) (texts g.1 ++ codes "\n" ++ lines gs) (ending before ++ lines (g ∷ gs))
-
     ended : (layer : ℕ) → 0 < layer → ending layer ≡ codes "\n"
     unfolding ending
     ended layer positive = rw (ne_eqb layer 0 (λ zero. absurd (omega (arith, zero, positive)))) refl
 
-    rest_is : (layer : ℕ) (groups : Groups) → 0 < layer → rest_of layer groups ≡ texts (same_of layer groups) ++ codes "\n" ++ lines (later_of layer groups)
-    rest_is layer [] positive = ended layer positive
-    rest_is layer (g ∷ gs) positive = go (eqb g.0 layer) where
-      go : (b : Bool) → cond b (texts g.1 ++ codes "\n" ++ lines gs) (ending layer ++ lines (g ∷ gs))
-          ≡ texts (cond b g.1 []) ++ codes "\n" ++ lines (cond b gs (g ∷ gs))
-      go true = refl
-      go false = ap (λ t. t ++ lines (g ∷ gs)) (ended layer positive)
-
-    on_the_line : (o t b n f : List ℕ) → (o ++ t) ++ ((b ++ n) ++ f) ≡ (((o ++ t) ++ b) ++ n) ++ f
-    on_the_line o t b n f = sym (append_assoc (o ++ t) (b ++ n) f) ∙ ap (λ z. z ++ f) (sym (append_assoc (o ++ t) b n))
-
-    on_the_next : (e h t b n f : List ℕ) → ((e ++ h) ++ t) ++ ((b ++ n) ++ f) ≡ e ++ (((h ++ (t ++ b)) ++ n) ++ f)
+    on_the_next : (e h t b n f : List ℕ) → ((e ++ h) ++ t) ++ (b ++ (n ++ f)) ≡ e ++ (((h ++ (t ++ b)) ++ n) ++ f)
     on_the_next e h t b n f =
-        append_assoc (e ++ h) t ((b ++ n) ++ f) ∙ append_assoc e h (t ++ ((b ++ n) ++ f))
-        ∙ ap (λ z. e ++ z) (sym (append_assoc (h ++ (t ++ b)) n f ∙ append_assoc h (t ++ b) (n ++ f)
-        ∙ ap (λ z. h ++ z) (append_assoc t b (n ++ f) ∙ ap (λ z. t ++ z) (sym (append_assoc b n f)))))
+        append_assoc (e ++ h) t (b ++ (n ++ f)) ∙ append_assoc e h (t ++ (b ++ (n ++ f)))
+        ∙ ap (λ z. e ++ z) (sym (append_assoc (h ++ (t ++ b)) n f ∙ append_assoc h (t ++ b) (n ++ f) ∙ ap (λ z. h ++ z) (append_assoc t b (n ++ f))))
 
     headed : (one : LayerObjection) → IsMade layers one → head_of records one.layer one.made ≡ layer_head records layers one.layer
     unfolding head_of layer_head
     headed one made = rw made.1 refl
 
     one_said : (before : ℕ) (one : LayerObjection) (os : List Objection) (gs : Groups) → IsMade layers one →
-        next_text tree records before one ++ (texts os ++ codes "\n" ++ lines gs)
-        ≡ rest_of before ((one.layer, objection_in tree one.objection ∷ os) ∷ gs)
+        next_text tree records before one ++ (texts os ++ (codes "\n" ++ lines gs))
+        ≡ rest_of ending (codes "\n") texts lines before ((one.layer, objection_in tree one.objection ∷ os) ∷ gs)
     unfolding next_text opening layer_text joined behind
     one_said before one os gs made = go (eqb one.layer before) where
       said : List ℕ
       said = objection_text records (objection_in tree one.objection)
 
-      go : (b : Bool) → (cond b (codes "; ") (ending before ++ head_of records one.layer one.made) ++ said) ++ (texts os ++ codes "\n" ++ lines gs)
-          ≡ cond b (texts (objection_in tree one.objection ∷ os) ++ codes "\n" ++ lines gs)
+      go : (b : Bool) → (cond b (codes "; ") (ending before ++ head_of records one.layer one.made) ++ said) ++ (texts os ++ (codes "\n" ++ lines gs))
+          ≡ cond b (texts (objection_in tree one.objection ∷ os) ++ (codes "\n" ++ lines gs))
           (ending before ++ lines ((one.layer, objection_in tree one.objection ∷ os) ∷ gs))
-      go true = on_the_line (codes "; ") said (texts os) (codes "\n") (lines gs)
+      go true = sym (append_assoc (codes "; " ++ said) (texts os) (codes "\n" ++ lines gs))
       go false = on_the_next (ending before) (head_of records one.layer one.made) said (texts os) (codes "\n") (lines gs)
           ∙ ap (λ h. ending before ++ (((h ++ (said ++ texts os)) ++ codes "\n") ++ lines gs)) (headed one made)
-
-    next_said : (before : ℕ) (one : LayerObjection) (groups : Groups) → IsMade layers one →
-        next_text tree records before one ++ rest_of one.layer groups ≡ rest_of before (in_front one.layer (objection_in tree one.objection) groups)
-    next_said before one groups made =
-        ap (λ t. next_text tree records before one ++ t) (rest_is one.layer groups made.0)
-        ∙ one_said before one (same_of one.layer groups) (later_of one.layer groups) made
-        ∙ ap (rest_of before) (sym (fronted one.layer (objection_in tree one.objection) groups))
-
-    begun : (one : LayerObjection) (groups : Groups) → IsMade layers one →
-        rest_of 0 (in_front one.layer (objection_in tree one.objection) groups) ≡ lines (in_front one.layer (objection_in tree one.objection) groups)
-    unfolding ending
-    begun one groups made =
-        rw (fronted one.layer (objection_in tree one.objection) groups, ne_eqb one.layer 0 (λ zero. absurd (omega (arith, zero, made.0)))) refl
 
     pub all_said : (all : List LayerObjection) → All (IsMade layers) all → lines_from tree records 0 all ≡ lines (by_layer tree all)
     unfolding lines_from ending
     all_said =
-        grouped tree layers (next_text tree records) (lines_from tree records) rest_of lines (λ before. refl) (λ before one more. refl) next_said refl begun
+        all_layered ending (codes "\n") texts lines refl refl refl ended tree layers (next_text tree records) one_said (lines_from tree records)
+        (λ before. refl) (λ before one more. refl)

@@ -9,9 +9,10 @@ use Rattle.json.specs.Tree.{json_tokens}
 use Rattle.ll_tree.specs.Trees.{Entry}
 use Rattle.ll_trace.specs.declared.op.Record.{Record}
 use Rattle.ll_reasons.specs.Objections.{Objection}
-use Rattle.ll_explanations.specs.Meanings.{IsMade, by_layer, in_front, objection_in}
-use Rattle.ll_explanations.proofs.Grouping.{Groups, fronted, grouped, later_of, same_of}
+use Rattle.ll_explanations.specs.Meanings.{IsMade, by_layer, objection_in}
+use Rattle.ll_explanations.proofs.Grouping.{Groups}
 use Rattle.ll_explanations.specs.declared.objection.LayerObjection.{LayerObjection}
+use Rattle.ll_explain.proofs.Layered.{all_layered, rest_of}
 use Rattle.ll_json.specs.Layering.{ending, head_of, next_tokens, objections_from, opening}
 use Rattle.ll_json.specs.Parts.{values_tokens}
 use Rattle.ll_json.specs.Why.{layer_json, objection_json}
@@ -40,22 +41,9 @@ module _ (tree : List Entry) (records : List Record) (layers : List ℕ) where
       (ap (λ (rest : List Token). rest ++ token.end_object ∷ []) (sym (values_end values))
       ∙ append_assoc (values_tokens values) (token.end_array ∷ []) (token.end_object ∷ []))
 
-  -- what is to be written of groups behind an objection of this layer
-  abbrev rest_of : ℕ → Groups → List Token
-  rest_of before [] = ending before
-  rest_of before (g ∷ gs) = cond (eqb g.0 before) (each g.1 ++ (tail ++ all_of gs)) (ending before ++ all_of (g ∷ gs))
-
   ended : (layer : ℕ) → 0 < layer → ending layer ≡ tail
   unfolding ending
   ended layer positive = rw (ne_eqb layer 0 (λ zero. absurd (omega (arith, zero, positive)))) refl
-
-  rest_is : (layer : ℕ) (groups : Groups) → 0 < layer → rest_of layer groups ≡ each (same_of layer groups) ++ (tail ++ all_of (later_of layer groups))
-  rest_is layer [] positive = ended layer positive
-  rest_is layer (g ∷ gs) positive = go (eqb g.0 layer) where
-    go : (b : Bool) → cond b (each g.1 ++ (tail ++ all_of gs)) (ending layer ++ all_of (g ∷ gs))
-        ≡ each (cond b g.1 []) ++ (tail ++ all_of (cond b gs (g ∷ gs)))
-    go true = refl
-    go false = ap (λ t. t ++ all_of (g ∷ gs)) (ended layer positive)
 
   regrouped : (e h w b t f : List Token) → ((e ++ h) ++ w) ++ (b ++ (t ++ f)) ≡ e ++ ((h ++ ((w ++ b) ++ t)) ++ f)
   regrouped e h w b t f =
@@ -68,7 +56,7 @@ module _ (tree : List Entry) (records : List Record) (layers : List ℕ) where
   -- an objection, those of the same layer that follow, and the layers behind it
   one_written : (before : ℕ) (one : LayerObjection) (os : List Objection) (gs : Groups) → IsMade layers one →
       next_tokens tree records before one ++ (each os ++ (tail ++ all_of gs))
-      ≡ rest_of before ((one.layer, objection_in tree one.objection ∷ os) ∷ gs)
+      ≡ rest_of ending tail each all_of before ((one.layer, objection_in tree one.objection ∷ os) ∷ gs)
   unfolding next_tokens opening
   one_written before one os gs made = go (eqb one.layer before) where
     written : List Token
@@ -83,23 +71,8 @@ module _ (tree : List Entry) (records : List Record) (layers : List ℕ) where
         ∙ ap (λ (h : List Token). ending before ++ ((h ++ ((written ++ each os) ++ tail)) ++ all_of gs)) (headed one made)
         ∙ ap (λ (l : List Token). ending before ++ (l ++ all_of gs)) (sym (in_parts one.layer (objection_in tree one.objection ∷ os)))
 
-  -- an objection in front of groups joins the first of them, or is a group of its own
-  next_written : (before : ℕ) (one : LayerObjection) (groups : Groups) → IsMade layers one →
-      next_tokens tree records before one ++ rest_of one.layer groups ≡ rest_of before (in_front one.layer (objection_in tree one.objection) groups)
-  next_written before one groups made =
-      ap (λ t. next_tokens tree records before one ++ t) (rest_is one.layer groups made.0)
-      ∙ one_written before one (same_of one.layer groups) (later_of one.layer groups) made
-      ∙ ap (rest_of before) (sym (fronted one.layer (objection_in tree one.objection) groups))
-
-  -- no layer is before the first
-  begun : (one : LayerObjection) (groups : Groups) → IsMade layers one →
-      rest_of 0 (in_front one.layer (objection_in tree one.objection) groups) ≡ all_of (in_front one.layer (objection_in tree one.objection) groups)
-  unfolding ending
-  begun one groups made =
-      rw (fronted one.layer (objection_in tree one.objection) groups, ne_eqb one.layer 0 (λ zero. absurd (omega (arith, zero, made.0)))) refl
-
   pub all_written : (all : List LayerObjection) → All (IsMade layers) all → objections_from tree records 0 all ≡ all_of (by_layer tree all)
   unfolding objections_from ending
   all_written =
-      grouped tree layers (next_tokens tree records) (objections_from tree records) rest_of all_of (λ before. refl) (λ before one more. refl)
-      next_written refl begun
+      all_layered ending tail each all_of refl refl refl ended tree layers (next_tokens tree records) one_written (objections_from tree records)
+      (λ before. refl) (λ before one more. refl)

@@ -4,11 +4,10 @@
 ghost use Rattle.std.specs.Prelude.{◌≡◌, ◌∷◌, ◌++◌, ◌+◌, ◌<◌, ◌^◌, OnOk, length, option_map, option_to_list};
 ghost use Rattle.json.specs.Print.{print};
 ghost use Rattle.ll_explain.specs.Buffers.{adding};
-ghost use Rattle.ll_report.specs.Printed.{texts_of};
 ghost use Rattle.ll_report.specs.Calls.{paths_in, port_in};
 ghost use Rattle.ll_json.specs.Parts.{named_tokens};
 ghost use Rattle.ll_json.specs.Records.{paths_members, port_members};
-ghost use Rattle.ll_json.specs.Rows.{call_tokens, head_tokens, kind_tokens, line_of, opening_tokens, row_text, said_of};
+ghost use Rattle.ll_json.specs.Rows.{call_tokens, head_tokens, kind_tokens, opening_tokens, row_text, said_of};
 ghost use Rattle.ll_json.specs.Writing.{writing};
 
 use crate::json_text::JsonText;
@@ -93,29 +92,9 @@ pub(crate) fn write_kind(out: &mut JsonText, records: u64, line: u64)
     write_number(out, "line", line);
 }
 
-/// Adds the line of a record, or its end from the call on where kinds are shown, with the answers of neighbouring
-/// versions, of which the oldest has this number.
-#[tactic(auto, using(ll_explain::proofs::Buffering::adding_both))]
-fn push_line(
-    text: &mut TextBuffer,
-    pages: &mut Pages,
-    row: &FindingsAt<'_>,
-    found: &Record,
-    kinds: bool,
-    oldest: u64,
-) -> Result<(), TooLong>
-    requires { oldest + length row.now.findings.now < 2 ^ 64 }
-    ensures { OnOk result (text.new
-        ≡ adding text.old (line_of kinds oldest found.now (texts_of said_of row.now))) }
-{
-    push_opening(text, kinds, found);
-    push_answers(text, pages, row, oldest)?;
-    push_words(text, "]}\n");
-    Ok(())
-}
-
-/// Adds the row of a record, unless it is left out.
-#[tactic(auto, using(ll_explain::proofs::Buffering::adding_nothing))]
+/// Adds the row of a record, unless it is left out: its line, or its end from the call on where kinds are shown, with the
+/// answers of neighbouring versions, of which the oldest has this number.
+#[tactic(auto, using(ll_explain::proofs::Buffering::adding_both, ll_explain::proofs::Buffering::adding_nothing))]
 pub(crate) fn push_row(
     text: &mut TextBuffer,
     pages: &mut Pages,
@@ -132,6 +111,8 @@ pub(crate) fn push_row(
     if out {
         return Ok(());
     }
-    push_line(text, pages, row, found, shown.kinds, oldest)?;
+    push_opening(text, shown.kinds, found);
+    push_answers(text, pages, row, oldest)?;
+    push_words(text, "]}\n");
     Ok(())
 }
