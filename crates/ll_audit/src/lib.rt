@@ -29,6 +29,6 @@ pub use ll_report::{ALL_LINES, Format, Options, Report, Shown, empty_report};
 pub use ll_rights::AbiRange;
 pub use ll_trace::Effort;
 pub use outcome::Ending;
-pub use program::{front, front_ending};
+pub use program::{Resources, front};
 pub use source::{LARGEST_FILE, MemorySource, Source, SourceFault};
 pub use workers::Idle;

@@ -49,50 +49,59 @@ pub fn front<R: Threads + Wait + Sync, S: Source, O: Write, E: Write, G: Gate + 
         (S.failed source.old) (S.failed source.new) result
         (E.contents err.old) (E.contents err.new) }
 {
-    front_ending(rt, alloc, words, source, out, err, gate).status
+    let given = Resources { rt, alloc, gate };
+    given.front_ending(words, source, out, err).status
 }
 
-/// Runs the program as `front` does, and says beside its status whether what is wrong could be told:
-/// then the error output has the line of just that failure more.
-pub fn front_ending<R: Threads + Wait + Sync, S: Source, O: Write, E: Write, G: Gate + Sync>(
-    rt: &R,
-    alloc: Global,
-    words: &[String],
-    source: &mut S,
-    out: &mut O,
-    err: &mut E,
-    gate: &G,
-) -> Ending
-    requires { S.failed source.old + 2 < 2 ^ 64 }
-    ensures bounded { result.status ≤ 4 }
-    ensures report { WritesReport (map string_bytes words.now) (S.files source.old) result.status
-        (O.contents out.old) (O.contents out.new) }
-    ensures wrong_words { HasWrongWords (map string_bytes words.now) result.status }
-    ensures no_run { EndsWithoutRun (map string_bytes words.now) result.status }
-    ensures nothing { WritesNothing (record { contents = O.contents; old = out.old; new = out.new })
-        (map string_bytes words.now) (S.files source.old) result.status }
-    ensures quiet { StaysQuiet result.status err.old err.new }
-    ensures why { TellsWhy (map string_bytes words.now) (S.files source.old)
-        (S.failed source.old) (S.failed source.new) result
-        (E.contents err.old) (E.contents err.new) }
-{
-    outcome_of(rt, alloc, words, source, gate).write_to(out, err)
+/// What the program is given beside its words, its files and its outputs: threads, memory, and a gate that is told of
+/// each job.
+#[derive(Clone, Copy)]
+pub struct Resources<'r, R, G> {
+    pub rt: &'r R,
+    pub alloc: Global,
+    pub gate: &'r G,
+}
+
+impl<'r, R: Threads + Wait + Sync, G: Gate + Sync> Resources<'r, R, G> {
+    /// Runs the program as `front` does, and says beside its status whether what is wrong could be told:
+    /// then the error output has the line of just that failure more.
+    pub fn front_ending<S: Source, O: Write, E: Write>(
+        &self,
+        words: &[String],
+        source: &mut S,
+        out: &mut O,
+        err: &mut E,
+    ) -> Ending
+        requires { S.failed source.old + 2 < 2 ^ 64 }
+        ensures bounded { result.status ≤ 4 }
+        ensures report { WritesReport (map string_bytes words.now) (S.files source.old)
+            result.status (O.contents out.old) (O.contents out.new) }
+        ensures wrong_words { HasWrongWords (map string_bytes words.now) result.status }
+        ensures no_run { EndsWithoutRun (map string_bytes words.now) result.status }
+        ensures nothing { WritesNothing
+            (record { contents = O.contents; old = out.old; new = out.new })
+            (map string_bytes words.now) (S.files source.old) result.status }
+        ensures quiet { StaysQuiet result.status err.old err.new }
+        ensures why { TellsWhy (map string_bytes words.now) (S.files source.old)
+            (S.failed source.old) (S.failed source.new) result
+            (E.contents err.old) (E.contents err.new) }
+    {
+        outcome_of(self, words, source).write_to(out, err)
+    }
 }
 
 /// What the words come to.
 fn outcome_of<'a, R: Threads + Wait + Sync, S: Source, G: Gate + Sync>(
-    rt: &R,
-    alloc: Global,
+    given: &Resources<'_, R, G>,
     words: &'a [String],
     source: &mut S,
-    gate: &G,
 ) -> Outcome<'a>
     requires { S.failed source.old + 2 < 2 ^ 64 }
     ensures { IsOutcomeOf (map string_bytes words.entry.now) (S.files source.old)
         (S.failed source.old) (S.failed source.new) result }
 {
-    match plan_of(alloc, words) {
-        Plan::Run(run) => match report_of(rt, alloc, source, &run, gate) {
+    match plan_of(given.alloc, words) {
+        Plan::Run(run) => match report_of(given, source, &run) {
             Ok(report) => Outcome::Report(report),
             Err(failure) => Outcome::Failure(failure),
         },
@@ -105,11 +114,9 @@ fn outcome_of<'a, R: Threads + Wait + Sync, S: Source, G: Gate + Sync>(
 
 /// The report of a run, with the options that it asks for.
 fn report_of<'a, R: Threads + Wait + Sync, S: Source, G: Gate + Sync>(
-    rt: &R,
-    alloc: Global,
+    given: &Resources<'_, R, G>,
     source: &mut S,
     run: &Run<'a>,
-    gate: &G,
 ) -> Result<ReportText, Failure<'a>>
     requires failures { S.failed source.old + 2 < 2 ^ 64 }
     requires count { IsWorkerCount run.now.workers }
@@ -118,13 +125,13 @@ fn report_of<'a, R: Threads + Wait + Sync, S: Source, G: Gate + Sync>(
     ensures failure { IfErr result (IsFailureOf (S.files source.old) (request_by run.now)
         (S.failed source.old) (S.failed source.new)) }
 {
-    let inputs = inputs_of(alloc, source, run)?;
+    let inputs = inputs_of(given.alloc, source, run)?;
     let cut = Cut::Grain(run.grain);
     let workers = Workers {
-        rt,
-        alloc,
+        rt: given.rt,
+        alloc: given.alloc,
         count: run.workers,
-        gate,
+        gate: given.gate,
     };
     Ok(audit_inputs(&workers, inputs, &run.options, cut)?)
 }

@@ -4,7 +4,7 @@ ghost use Rattle.std.specs.Prelude.{◌+◌, ◌^◌, ◌<◌};
 
 use crate::failing::FailingSource;
 use crate::tests::runs::ready::{REPORT, TRACE, owned};
-use ll_audit::{Ending, Idle, MemorySource, Source, SourceFault, front_ending};
+use ll_audit::{Ending, Idle, MemorySource, Resources, Source, SourceFault};
 use ll_fixtures::TREE;
 use std::alloc::{AllocError, Global};
 use std::io;
@@ -61,7 +61,12 @@ fn ending_of<R: Threads + Wait + AllocGlobal + Sync, S: Source>(
     requires { S.failed source.old + 2 < 2 ^ 64 }
 {
     let words = owned(rt.alloc(), words)?;
-    Ok(front_ending(rt, rt.alloc(), &words, source, out, err, &Idle))
+    let given = Resources {
+        rt,
+        alloc: rt.alloc(),
+        gate: &Idle,
+    };
+    Ok(given.front_ending(&words, source, out, err))
 }
 
 /// Whether the program writes this line and ends with this status if its source fails from one call on, and whether the

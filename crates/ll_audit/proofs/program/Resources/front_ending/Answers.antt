@@ -1,5 +1,5 @@
 use Rattle.ll_audit.proofs.Endings.{bounded, ends_without_run, stays_quiet, stream, tells_why, writes_nothing, writes_report, wrong_words}
-use Rattle.ll_audit.proofs.program.front_ending.Goals as goal
+use Rattle.ll_audit.proofs.program.Resources.front_ending.Goals as goal
 
 pub returns : goal.returns
 returns g c =
