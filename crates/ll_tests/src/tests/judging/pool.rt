@@ -86,25 +86,6 @@ fn expect_family<'c, R: Threads + Wait + Sync + Abort>(
     Ok(())
 }
 
-/// They are the same with each cut.
-fn expect_family_with_cuts<'c, R: Threads + Wait + Sync + Abort>(
-    rt: &R,
-    alloc: Global,
-    case: &'c Case<'c>,
-) -> Result<(), Fail> {
-    expect_family(rt, alloc, case, &[])?;
-    expect_family(rt, alloc, case, &EVERY)?;
-    expect_family(rt, alloc, case, &EVEN)
-}
-
-#[test]
-fn the_answers_are_the_same_for_every_number_of_workers_and_every_cut(
-    rt: HostRuntime,
-) -> Result<(), Fail> {
-    let ground = ground_of(rt.alloc(), FAMILY.as_bytes())?;
-    expect_family_with_cuts(&rt, rt.alloc(), &ground.case())
-}
-
 /// One thread gives the answers of the family.
 fn expect_alone<'c>(rt: &impl Abort, alloc: Global, case: &'c Case<'c>) -> Result<(), Fail> {
     let answers = judge_alone(alloc, case)?;
@@ -112,80 +93,77 @@ fn expect_alone<'c>(rt: &impl Abort, alloc: Global, case: &'c Case<'c>) -> Resul
     Ok(())
 }
 
+/// They are the same by one thread, and with each cut.
+fn expect_family_with_cuts<'c, R: Threads + Wait + Sync + Abort>(
+    rt: &R,
+    alloc: Global,
+    case: &'c Case<'c>,
+) -> Result<(), Fail> {
+    expect_alone(rt, alloc, case)?;
+    expect_family(rt, alloc, case, &[])?;
+    expect_family(rt, alloc, case, &EVERY)?;
+    expect_family(rt, alloc, case, &EVEN)
+}
+
 #[test]
-fn one_thread_gives_the_same_answers(rt: HostRuntime) -> Result<(), Fail> {
+fn the_answers_are_the_same_by_one_thread_and_for_every_number_of_workers_and_every_cut(
+    rt: HostRuntime,
+) -> Result<(), Fail> {
     let ground = ground_of(rt.alloc(), FAMILY.as_bytes())?;
-    expect_alone(&rt, rt.alloc(), &ground.case())
+    expect_family_with_cuts(&rt, rt.alloc(), &ground.case())
 }
 
-/// How many pieces one worker makes, and how many of them have twelve processes.
-fn pieces_of_family<'c, R: Threads + Wait + Sync>(
-    rt: &R,
-    alloc: Global,
-    case: &'c Case<'c>,
-) -> Result<[usize; 2], Fail> {
-    let pieces = made(rt, alloc, case, 1, &[])?;
-    Ok([pieces.len(), pieces_of(&pieces, 12)])
-}
-
-/// The number of pieces of the family, and of those with twelve processes.
-fn pieces_by_one<R: Threads + Wait + Sync>(rt: &R, alloc: Global) -> Result<[usize; 2], Fail> {
-    let ground = ground_of(alloc, FAMILY.as_bytes())?;
-    pieces_of_family(rt, alloc, &ground.case())
-}
-
-#[test]
-fn one_worker_makes_one_piece_of_the_whole_family(rt: HostRuntime) -> Result<(), Fail> {
-    assert_eq!(rt; pieces_by_one(&rt, rt.alloc())?, [1, 1]);
-    Ok(())
-}
-
-/// How many pieces eight workers make, and how many answers they collect.
-fn counts_of<'c, R: Threads + Wait + Sync>(
-    rt: &R,
-    alloc: Global,
-    case: &'c Case<'c>,
-) -> Result<[usize; 2], Fail> {
-    let pieces = count_of(rt, alloc, case, 8, &[])?;
-    let answers = collected(rt, alloc, case, 8, &[])?;
-    Ok([pieces, answers.len()])
-}
-
-/// The same of an empty trace.
-fn counts_of_nothing<R: Threads + Wait + Sync>(rt: &R, alloc: Global) -> Result<[usize; 2], Fail> {
-    let ground = ground_of(alloc, b"")?;
-    counts_of(rt, alloc, &ground.case())
-}
-
-#[test]
-fn an_empty_trace_has_no_answers(rt: HostRuntime) -> Result<(), Fail> {
-    assert_eq!(rt; counts_of_nothing(&rt, rt.alloc())?, [0, 0]);
-    Ok(())
-}
-
-/// How many pieces one worker makes with a cut, and how many of them have 77 processes and one.
+/// How many pieces one worker makes with a cut, and how many of them have this many processes and one.
 fn pieces_with<'c, R: Threads + Wait + Sync>(
     rt: &R,
     alloc: Global,
     case: &'c Case<'c>,
     cut: &[bool],
+    many: usize,
 ) -> Result<[usize; 3], Fail> {
     let pieces = made(rt, alloc, case, 1, cut)?;
-    Ok([pieces.len(), pieces_of(&pieces, 77), pieces_of(&pieces, 1)])
+    Ok([
+        pieces.len(),
+        pieces_of(&pieces, many),
+        pieces_of(&pieces, 1),
+    ])
 }
 
-/// The same of a process that forks 1,100 children, where the one worker is to cut each process off.
-fn pieces_of_children<R: Threads + Wait + Sync>(rt: &R, alloc: Global) -> Result<[usize; 3], Fail> {
-    let every = vec![in alloc; true; 1101]?;
-    let ground = ground_with(alloc, Forks::TheFirst, 1101)?;
-    pieces_with(rt, alloc, &ground.case(), &every)
+#[test]
+fn one_worker_makes_one_piece_of_the_whole_family(rt: HostRuntime) -> Result<(), Fail> {
+    let ground = ground_of(rt.alloc(), FAMILY.as_bytes())?;
+    let pieces = pieces_with(&rt, rt.alloc(), &ground.case(), &[], 12)?;
+    assert_eq!(rt; pieces, [1, 1, 0]);
+    Ok(())
 }
 
+/// Eight workers make no piece, and collect no answer.
+fn expect_nothing<'c, R: Threads + Wait + Sync + Abort>(
+    rt: &R,
+    alloc: Global,
+    case: &'c Case<'c>,
+) -> Result<(), Fail> {
+    let pieces = count_of(rt, alloc, case, 8, &[])?;
+    let answers = collected(rt, alloc, case, 8, &[])?;
+    assert!(rt; pieces == 0 && answers.is_empty());
+    Ok(())
+}
+
+#[test]
+fn an_empty_trace_has_no_answers(rt: HostRuntime) -> Result<(), Fail> {
+    let ground = ground_of(rt.alloc(), b"")?;
+    expect_nothing(&rt, rt.alloc(), &ground.case())
+}
+
+/// A process forks 1,100 children, and the one worker is to cut each process off.
 #[test]
 fn children_that_find_the_queue_full_are_judged_with_their_parent(
     rt: HostRuntime,
 ) -> Result<(), Fail> {
-    assert_eq!(rt; pieces_of_children(&rt, rt.alloc())?, [1025, 1, 1024]);
+    let every = vec![in rt.alloc(); true; 1101]?;
+    let ground = ground_with(rt.alloc(), Forks::TheFirst, 1101)?;
+    let pieces = pieces_with(&rt, rt.alloc(), &ground.case(), &every, 77)?;
+    assert_eq!(rt; pieces, [1025, 1, 1024]);
     Ok(())
 }
 

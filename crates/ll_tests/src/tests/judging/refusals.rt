@@ -242,18 +242,6 @@ fn expect_shared<'c>(rt: &impl Abort, alloc: Global, case: &'c Case<'c>) -> Resu
     Ok(())
 }
 
-/// They are shared out so, and the case is judged as before.
-fn expect_judged<'c>(rt: &impl Abort, alloc: Global, case: &'c Case<'c>) -> Result<(), Fail> {
-    expect_shared(rt, alloc, case)?;
-    expect_unchanged(rt, alloc, case)
-}
-
-#[test]
-fn judge_without_memory(rt: HostRuntime) -> Result<(), Fail> {
-    let ground = ground_again(rt.alloc())?;
-    expect_judged(&rt, rt.alloc(), &ground.case())
-}
-
 fn assembled_again<'c>(alloc: Global, case: &'c Case<'c>) -> Result<Vec<Answer>, Fail> {
     let pieces = pieces_again(alloc, case)?;
     match assemble(alloc, case, pieces) {
@@ -272,18 +260,15 @@ fn expect_assembled<'c>(rt: &impl Abort, alloc: Global, case: &'c Case<'c>) -> R
     Ok(())
 }
 
-/// They are, and the case is judged as before.
-fn expect_assembled_alike<'c>(
-    rt: &impl Abort,
-    alloc: Global,
-    case: &'c Case<'c>,
-) -> Result<(), Fail> {
+/// Processes are shared out so, answers are put in order, and the case is judged as before.
+fn expect_judged<'c>(rt: &impl Abort, alloc: Global, case: &'c Case<'c>) -> Result<(), Fail> {
+    expect_shared(rt, alloc, case)?;
     expect_assembled(rt, alloc, case)?;
     expect_unchanged(rt, alloc, case)
 }
 
 #[test]
-fn assemble_without_memory(rt: HostRuntime) -> Result<(), Fail> {
+fn judge_and_assemble_without_memory(rt: HostRuntime) -> Result<(), Fail> {
     let ground = ground_again(rt.alloc())?;
-    expect_assembled_alike(&rt, rt.alloc(), &ground.case())
+    expect_judged(&rt, rt.alloc(), &ground.case())
 }

@@ -2,7 +2,10 @@
 
 use crate::tests::runs::ready::run;
 use ll_fixtures::TREE;
+use std::alloc::AllocGlobal;
+use std::sync::Wait;
 use std::test::Fail;
+use std::thread::Threads;
 
 /// A process with a layer, which has a rule for `/b`, and calls that are refused or moot.
 const TRACE: &str = "\
@@ -51,20 +54,26 @@ const REFUSED: &str = "\
 {\"line\":10,\"pid\":10,\"op\":\"add_path\",\"answers\":[{\"abi\":[4,4],\"answer\":\"refused\",\"error\":\"EINVAL\",\"layers\":[]}]}\n\
 {\"totals\":[{\"abi\":4,\"records\":12,\"allowed\":6,\"refused\":5,\"moot\":1}],\"version\":\"0.2 (rattle-kit-13f logic dac8208d650f15bf)\"}\n";
 
+/// Whether the report in JSON with an option more is this one.
+fn is_reported<R: Threads + Wait + AllocGlobal + Sync>(
+    rt: &R,
+    option: &str,
+    report: &str,
+) -> Result<bool, Fail> {
+    let files = [("t", TREE.as_bytes()), ("r", TRACE.as_bytes())];
+    let words = ["landaudit", "--abi", "4", "t", "r", "--json", option];
+    let ended = run(rt, words.as_slice(), files.as_slice())?;
+    Ok(ended.is(1, report, ""))
+}
+
 #[test]
 fn explanations_in_json(rt: HostRuntime) -> Result<(), Fail> {
-    let files = [("t", TREE.as_bytes()), ("r", TRACE.as_bytes())];
-    let words = ["landaudit", "--abi", "4", "t", "r", "--json", "--explain"];
-    let ended = run(&rt, words.as_slice(), files.as_slice())?;
-    assert!(rt; ended.is(1, EXPLAINED, ""));
+    assert!(rt; is_reported(&rt, "--explain", EXPLAINED)?);
     Ok(())
 }
 
 #[test]
 fn refused_records_in_json(rt: HostRuntime) -> Result<(), Fail> {
-    let files = [("t", TREE.as_bytes()), ("r", TRACE.as_bytes())];
-    let words = ["landaudit", "--abi", "4", "t", "r", "--json", "--refused"];
-    let ended = run(&rt, words.as_slice(), files.as_slice())?;
-    assert!(rt; ended.is(1, REFUSED, ""));
+    assert!(rt; is_reported(&rt, "--refused", REFUSED)?);
     Ok(())
 }
