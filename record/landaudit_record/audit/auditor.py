@@ -5,6 +5,7 @@ from __future__ import annotations
 import errno
 import os
 import tempfile
+from collections import deque
 from collections.abc import Callable, Iterable, Iterator
 from contextlib import contextmanager
 from dataclasses import dataclass, field, replace
@@ -34,7 +35,7 @@ _READ_ONLY = (errno.EACCES, errno.EPERM, errno.EROFS)
 
 
 def _at_once(recording: Finished) -> int:
-    """How many processes work on the parts of a recording."""
+    """How many processes work on the parts of a recording, and how many landaudits."""
     return min(landaudit.workers(), len(recording.parts))
 
 
@@ -111,11 +112,11 @@ def write_tree(part: Path, tree: Tree, inserted: Iterable[Record], out: Path) ->
     """Writes the tree of a part with the objects of rules, which may not occur in the part."""
     paths = (record["path"] for record in inserted if record.get("path") in tree.kinds)
     missing = {over: None for path in paths for over in reversed(list(upwards(path))) if over != ROOT}
-    with open(part, "rb") as lines, open(out, "wb") as written:
-        for number, line in enumerate(lines, start=1):
-            if line.strip(jsonl.BLANKS):
-                missing.pop(trees.path_on(part, number, line), None)
-            written.write(line.rstrip(b"\n") + b"\n")
+    for path in trees.paths(part) if missing else ():
+        missing.pop(path, None)
+    text = part.read_bytes()
+    with open(out, "wb") as written:
+        written.write(text if text.endswith(b"\n") or not text else text + b"\n")
         written.writelines(jsonl.line_bytes({"path": path, "kind": tree.kinds[path]}) for path in missing)
 
 
@@ -157,7 +158,7 @@ class Auditing:
     progress: Progress
     stays: bool = True
     status: int = 0
-    _run: landaudit.Run | None = field(default=None, init=False)
+    _runs: deque[tuple[landaudit.Run, Files]] = field(default_factory=deque, init=False)
 
     def walk(self, files: Files, abis: range, *, only_refused: bool = False) -> Walk:
         """A walk over the answers of some ABIs that `judged` has given."""
@@ -179,21 +180,22 @@ class Auditing:
         explain: bool = True,
         only_refused: bool = False,
     ) -> Iterator[Files]:
-        """Judges each part at some ABIs, and gives its files. landaudit judges the next part meanwhile.
+        """Judges each part at some ABIs, and gives its files. landaudit judges the next ones meanwhile.
 
         If a policy is tried, `policy` is one with other rules to try instead. With `only_refused` the report has only
         the refused records.
         """
-        before: Files | None = None
+        most = _at_once(self.recording)
         try:
             for own, files in self._files(abis, tried, policy):
-                ready = self._ready(before)
-                self._run = landaudit.start(self.program, abis, *files, best_effort=self.best_effort, explain=explain,
-                                            only_refused=only_refused)
+                ready = [self._judged()] if len(self._runs) == most else []
+                run = landaudit.start(self.program, abis, *files, best_effort=self.best_effort, explain=explain,
+                                      only_refused=only_refused, at_once=most)
+                self._runs.append((run, files))
                 yield from ready
                 self.progress.say(f"judging at ABI {span(abis)}{self._of_all(own)}")
-                before = files
-            yield from self._ready(before)
+            while self._runs:
+                yield self._judged()
         finally:
             self.stop()
 
@@ -207,18 +209,17 @@ class Auditing:
                 for files in tried.write(policy or tried.policy, abis[-1], number, part):
                     yield own, files
 
-    def _ready(self, files: Files | None) -> list[Files]:
-        """Files that were judged, once landaudit is done with them."""
-        if self._run is not None:
-            self.status |= self._run.status()
-            self._run = None
-        return [] if files is None else [files]
+    def _judged(self) -> Files:
+        """The files that were judged first, once landaudit is done with them."""
+        run, files = self._runs[0]
+        self.status |= run.status()
+        self._runs.popleft()
+        return files
 
     def stop(self) -> None:
         """Ends what landaudit still does."""
-        if self._run is not None:
-            self._run.stop()
-            self._run = None
+        while self._runs:
+            self._runs.popleft()[0].stop()
 
     def _of_all(self, part: Part) -> str:
         return "" if part.number is None else f", part {part.number} of {len(self.recording.parts)}"

@@ -158,10 +158,14 @@ def _list(tree: Tree, path: Path, number: int, entry: jsonl.Record) -> None:
         _note_names(tree, listed, entry)
 
 
-def path_on(file: Path, number: int, line: bytes) -> str:
-    """The path that a line of a tree is about."""
-    found = _PATH.match(line)
-    return str(jsonl.read(file, number, line)["path"]) if found is None else found[1].decode()
+def paths(file: Path) -> Iterator[str]:
+    """The paths that the lines of a tree are about."""
+    for number, line in jsonl.lines(file):
+        found = _PATH.match(line)
+        if found is not None:
+            yield found[1].decode()
+        elif line.strip(jsonl.BLANKS):
+            yield str(jsonl.read(file, number, line)["path"])
 
 
 def united(trees: Iterable[Tree]) -> Tree:

@@ -96,15 +96,16 @@ def start(
     best_effort: bool,
     explain: bool = True,
     only_refused: bool = False,
+    at_once: int = 1,
 ) -> Run:
     """Starts landaudit once for all ABIs of a range; its report, as JSON, is with explanations or without, and of all
-    records or only of those that some ABI refuses.
+    records or only of those that some ABI refuses. `at_once` is how many of these runs share the processors.
 
     At best effort rulesets lose the rights that an ABI does not have; else they are judged as they were recorded.
     """
     command = [str(program), "--abi", span(abis), "--json", *(["--best-effort"] if best_effort else [])]
     command += [*(["--explain"] if explain else []), *(["--refused"] if only_refused else [])]
-    command += ["--workers", str(workers()), str(tree), str(trace)]
+    command += ["--workers", str(max(1, workers() // at_once)), str(tree), str(trace)]
     return Run(command, report, f"tree {tree}, trace {trace}")
 
 
