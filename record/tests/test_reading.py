@@ -5,7 +5,7 @@ from __future__ import annotations
 import random
 import re
 from collections import Counter
-from collections.abc import Iterator, Sequence
+from collections.abc import Callable, Iterator, Sequence
 from dataclasses import replace
 from itertools import product
 from typing import Any
@@ -312,8 +312,27 @@ class AnyTrace(Written):
         kinds = [(kind, line, 2 * times) for kind, line, times in parts[0].kinds]
         doubled = replace(parts[0], kinds=kinds, records=2 * parts[0].records, path_calls=2 * parts[0].path_calls)
         with mock.patch.object(reading, "_told", side_effect=reading._told) as told:
-            self.assertEqual(_said(parts), _said([doubled]))
-        self.assertEqual(told.call_count, 2 * len(kinds))
+            said, count = _said(parts), told.call_count
+            self.assertEqual((_said([doubled]), told.call_count), (said, 2 * count))
+
+    def test_kinds_that_differ_in_their_path_alone_are_decoded_once(self) -> None:
+        """But for calls whose path is named in another way too."""
+        ways: list[tuple[int, Callable[[str], Call]]] = [
+            (1, lambda path: (op("truncate", path=path, kernel="ok"), refused(missing_on(path, "truncate")))),
+            (1, lambda path: (op("unlink", path=path, kernel="ok"), refused(missing_on("/a", "remove_file")))),
+            (1, lambda path: (op("truncate", path=path, kernel="ok"), moot("absent", path=path))),
+            (1, lambda path: (op("truncate", path=path, kernel="ENOENT"), moot("absent", path="/a"))),
+            (3, lambda path: (op("rmdir", path=path, shown="/d", kernel="ok"), refused(missing_on(path, "remove_dir")))),
+            (3, lambda path: (op("link", **{"from": path, "to": "/c"}, kernel="ok"), refused(missing_on(path, "refer")))),
+            (3, lambda path: (op("exec", path=f"{path}\n", kernel="ok"), refused(missing_on(f"{path}\n", "execute")))),
+        ]
+        for decoded, way in ways:
+            calls = [START, RUN, *map(way, ("/a/f", "/a/g", "/b"))]
+            walked = self.walk(calls).counted()
+            with self.subTest(calls[2]), mock.patch.object(reading, "_told", side_effect=reading._told) as told:
+                said = _said([walked])
+                self.assertEqual(told.call_count, decoded)
+                self.assertEqual(said, self.summed(calls, BLANKS))
 
     def test_each_abi_has_its_own_order_and_numbers(self) -> None:
         """A call that only ABI 1 refuses at first, and all later on, comes first at ABI 1 alone."""

@@ -5,6 +5,7 @@ from __future__ import annotations
 from collections import Counter
 from collections.abc import Iterable, Iterator, Sequence
 from dataclasses import dataclass, field, replace
+from pathlib import Path
 from typing import Any
 
 from ..common.jsonl import Record
@@ -12,7 +13,7 @@ from ..common.operations import call_text
 from ..engine import answers
 from ..engine.answers import UNOPENED, UNSURE, Answer, Condition, Kept, Missing, Objection
 from ..engine.processes import of_policy, shown_path
-from ..engine.reading import ASKED_LANDLOCK, Alike, Counted, NamedSubject, Told, place_of, subject_of
+from ..engine.reading import ANY_PATH, ASKED_LANDLOCK, Alike, Counted, NamedSubject, Told, place_of, subject_of
 from ..engine.subjects import Number, Subject
 from .moot import FAILED_TOO, MISSED, Unasked
 from .warnings import MadeByRun, ManyMoot, NoLayer, OfPolicy, ReplacedByRun, RuleRefused, RulesetRefused, RuleUnused, Warned
@@ -60,6 +61,14 @@ class Refusal:
     def __post_init__(self) -> None:
         parts = self.call, self.subject, self.error, self.layers, self.condition, self.unknown
         object.__setattr__(self, "_hash", hash(parts))
+
+    def on(self, path: str) -> Refusal:
+        """The same on a path in the place of any path."""
+        layers = tuple([
+            RefusingLayer(layer.number, layer.policy, tuple([_objection_on(path, one) for one in layer.objections]))
+            for layer in self.layers
+        ])
+        return Refusal(self.call, Subject((path,)), self.error, layers, self.condition, self.unknown)
 
     def __hash__(self) -> int:
         """The hash, which is made once: audits over several ABIs look up each refusal many times."""
@@ -172,13 +181,19 @@ class Summaries:
         self._places: dict[str, dict[_Abis, Counter[NamedSubject]]] = {"refused": {}, "moot": {}}
 
     def take(self, parts: Iterable[Counted], abis: range) -> None:
-        """Counts the answers of some ABIs to all parts of the recording; what several parts have is decoded once."""
+        """Counts the answers of some ABIs to all parts of the recording. What several parts have is decoded once, and so
+        are kinds that differ in nothing but their path.
+        """
         known: dict[Alike, list[_Entry]] = {}
+        on_any_path: dict[Alike, list[_Entry] | None] = {}
         for part in parts:
             for kind, line, times in part.kinds:
                 entries = known.get(kind)
                 if entries is None:
-                    entries = known[kind] = list(self._entries(kind.told(part.trace, line), abis))
+                    entries = self._entries_on_path(kind, part.trace, line, abis, on_any_path)
+                    if entries is None:
+                        entries = list(self._entries(kind.told(part.trace, line), abis))
+                    known[kind] = entries
                 for counts, entry in entries:
                     counts[entry] = counts.get(entry, 0) + times
             self._confines |= part.confines
@@ -187,6 +202,20 @@ class Summaries:
                 summary.verdicts[UNSURE] += part.unsure[abi]
                 summary.path_calls += part.path_calls
                 summary.seen += part.records
+
+    def _entries_on_path(
+        self, kind: Alike, trace: Path, line: int, abis: range, on_any_path: dict[Alike, list[_Entry] | None]
+    ) -> list[_Entry] | None:
+        """Where records count by what is known of those that differ in their path alone; None if that is not enough."""
+        path = kind.path
+        if path is None:
+            return None
+        alike = kind.without(path)
+        if alike not in on_any_path:
+            told = alike.told(trace, line)
+            on_any_path[alike] = list(self._entries(told, abis)) if told.is_on_any_path else None
+        some, text = on_any_path[alike], path[1:-1].decode()
+        return None if some is None else [(counts, _on(text, entry)) for counts, entry in some]
 
     def _entries(self, told: Told, abis: range) -> Iterator[_Entry]:
         """Where a record counts."""
@@ -282,6 +311,23 @@ class Summaries:
                         kinds[refusal] = programs
                 programs[program] += times
         self._refused.clear()
+
+
+def _on(path: str, entry: Any) -> Any:
+    """What is counted of records on a path, by what is counted of those on any path."""
+    if entry == (ANY_PATH,):
+        return (path,)
+    if isinstance(entry, Subject):
+        return Subject((path,)) if entry.paths == (ANY_PATH,) else entry
+    abis, what, *program = entry
+    return (abis, what.on(path), *program) if program else entry
+
+
+def _objection_on(path: str, objection: Objection) -> Objection:
+    """An objection on a path, by that on any path."""
+    if isinstance(objection, Missing) and objection.path == ANY_PATH:
+        return Missing(objection.rights, path)
+    return objection
 
 
 def _told_of_rule(record: Record) -> Iterator[Warned]:

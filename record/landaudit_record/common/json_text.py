@@ -11,21 +11,25 @@ from collections.abc import Callable, Iterator
 from typing import Any
 
 _encode: Callable[[Any], str] = json.JSONEncoder().encode
+#: The function by which an encoder writes a text (the stubs of mypy do not have it).
+_text: Callable[[str], str] = getattr(json.encoder, "encode_basestring_ascii")
 
 
 def indented(value: Any, end: str = "\n") -> str:
     """A value as text; `end` is what its last line begins with. The names of members are texts."""
     if isinstance(value, str):
-        return _encode(value)
+        return _text(value)
     if type(value) is int:
         return str(value)
     inner = end + "  "
     if value and isinstance(value, dict):
-        members = [f"{_encode(name)}: {_encode(of) if type(of) is str else indented(of, inner)}" for name, of in value.items()]
+        members = [f"{_text(name)}: {of if type(of) is int else _text(of) if type(of) is str else indented(of, inner)}"
+                   for name, of in value.items()]
         return f"{{{inner}{f',{inner}'.join(members)}{end}}}"
     if value and isinstance(value, (list, tuple)):
-        return f"[{inner}{f',{inner}'.join([indented(of, inner) for of in value])}{end}]"
-    return _encode(value)
+        values = [_text(of) if type(of) is str else indented(of, inner) for of in value]
+        return f"[{inner}{f',{inner}'.join(values)}{end}]"
+    return "null" if value is None else _encode(value)
 
 
 def pieces(value: Any, end: str = "\n", *, deep: int = 2) -> Iterator[str]:
@@ -37,7 +41,7 @@ def pieces(value: Any, end: str = "\n", *, deep: int = 2) -> Iterator[str]:
     before = inner
     yield "{" if isinstance(value, dict) else "["
     for name, of in value.items() if isinstance(value, dict) else (("", of) for of in value):
-        yield before + (f"{_encode(name)}: " if isinstance(value, dict) else "")
+        yield before + (f"{_text(name)}: " if isinstance(value, dict) else "")
         yield from pieces(of, inner, deep=deep - 1)
         before = f",{inner}"
     yield end + ("}" if isinstance(value, dict) else "]")

@@ -20,7 +20,7 @@ from typing import NamedTuple
 
 from ..common import jsonl
 from ..common.jsonl import Record
-from ..common.operations import OPERATIONS, PATH_CALLS, PORT_CALLS
+from ..common.operations import MOVES, OPERATIONS, PATH_CALLS, PORT_CALLS
 from ..common.problems import Problem
 from ..common.progress import Progress
 from ..common.trace_lines import (
@@ -83,6 +83,12 @@ _PID = len('"pid":')
 #: In answers, the line of the `restrict` that made a layer, and that of the record that opened a file.
 _OF_LAYER, _OPENED = re.compile(rb'"line":([0-9]+)'), re.compile(rb'"opened":([0-9]+)')
 _LINE, _WHERE_OPENED = b'"line":', b'"opened":'
+#: The calls on one path, and members of a record that may name it, or that say more than the record.
+_ON_ONE_PATH, _SAYING = PATH_CALLS - MOVES, frozenset({"policy", "shown", "unknown"})
+#: What stands for a path; no path is like it.
+ANY_PATH = "*"
+_ANY_PATH = b'"%b"' % ANY_PATH.encode()
+_PATH, _SHOWN = re.compile(rb'"path":("/[^"\\]*")'), b'"shown":'
 
 
 def judged(trace: Path, report: Path, abi: int) -> Iterator[Judged]:
@@ -120,6 +126,12 @@ class Told:
     confined: bool
 
     @property
+    def is_on_any_path(self) -> bool:
+        """Whether `ANY_PATH` is what the call is about, and a path in its place is named nowhere else."""
+        record = self.record
+        return record["op"] in _ON_ONE_PATH and record["path"] == ANY_PATH and _SAYING.isdisjoint(record)
+
+    @property
     def times(self) -> int:
         """How many records it stands for."""
         return int(self.record.get("stands_for", 1))
@@ -143,6 +155,20 @@ class Alike(NamedTuple):
     standing: _Standing
     members: bytes
     answers: bytes
+
+    @property
+    def path(self) -> bytes | None:
+        """The path of calls on a path, in its quotes, if landaudit-record wrote them, nothing in it is escaped, and no other
+        is shown in its place.
+        """
+        if not _BEGINS.get(self.members[:HEAD], _READ) & _ON_PATH or _SHOWN in self.members:
+            return None
+        found = _PATH.search(self.members)
+        return None if found is None else found[1]
+
+    def without(self, path: bytes) -> Alike:
+        """The same with `ANY_PATH` in the place of a path."""
+        return self._replace(members=self.members.replace(path, _ANY_PATH), answers=self.answers.replace(path, _ANY_PATH))
 
     @property
     def alike(self) -> Alike:
