@@ -27,7 +27,7 @@ def upwards(path: str) -> Iterator[str]:
     """A path, and each directory above it up to the root."""
     while path != ROOT:
         yield path
-        path = directory_of(path)
+        path = path.rpartition("/")[0] or ROOT
     yield ROOT
 
 

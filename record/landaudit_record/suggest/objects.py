@@ -8,7 +8,7 @@ from collections.abc import Iterator, Sequence
 from dataclasses import dataclass
 
 from ..common.rights import FILE_RIGHTS
-from ..common.trees import ROOT, Tree, upwards
+from ..common.trees import ROOT, Tree, directory_of, upwards
 
 #: The most objects that a disk counts as.
 WITHOUT_END = 10_000_000
@@ -55,10 +55,14 @@ class CountedObjects:
         self._counts: dict[str, Count] = {}
         self._elsewhere: dict[str, Count] = {}
         listed = {path: kind for tree in trees for path, kind in tree.kinds.items() if path not in tree.made}
+        inside: dict[str, Count] = {}
         for path, kind in listed.items():
             if not os.path.lexists(path):
-                for over in upwards(path):
-                    self._elsewhere.setdefault(over, Count()).add(_single(kind))
+                for place, counts in ((path, self._elsewhere), (directory_of(path), inside)):
+                    counts.setdefault(place, Count()).add(_single(kind))
+        for directory, count in inside.items():
+            for over in upwards(directory):
+                self._elsewhere.setdefault(over, Count()).add(count)
 
     def under(self, path: str) -> Count:
         """What is at a path and under it."""

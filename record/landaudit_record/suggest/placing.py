@@ -40,6 +40,7 @@ class Placing:
 
     def __init__(self, trees: Sequence[Tree], asked: Sequence[Iterable[str]], pids: Sequence[Set[int]]) -> None:
         self._trees = trees
+        self._made = set[str]().union(*(tree.made for tree in trees))
         self._spots = [{path: self._before(tree, path) for path in paths} for tree, paths in zip(trees, asked)]
         places = [{spot.place for spot in spots.values()} for spots in self._spots]
         self._varying = varying.between(places, trees, pids)
@@ -59,7 +60,7 @@ class Placing:
         """Where a rule can be before the run: by the recording's own tree, then by those of the others."""
         spot = _there_before(own, path)
         for over in reversed(list(upwards(spot.place))):
-            if any(over in tree.made for tree in self._trees):
+            if over in self._made:
                 return RulePlace(directory_of(over), spot.path, spot.cause or _cause_of_made(directory_of(over), spot.path))
             if self._has_several_kinds(over):
                 return RulePlace(directory_of(over), spot.path, spot.cause or Cause.KINDS)
@@ -67,7 +68,7 @@ class Placing:
 
     def _has_several_kinds(self, path: str) -> bool:
         """Whether a directory is at a path in one run and a file in another: the kernel refuses its rights on a file."""
-        kinds = {tree.kind(path) for tree in self._trees} - {None, "sym"}
+        kinds = {tree.kind(path) for tree in self._trees} - {None, "sym"} if len(self._trees) > 1 else ()
         return "dir" in kinds and len(kinds) > 1
 
 

@@ -15,7 +15,7 @@ from itertools import combinations, pairwise
 from ..common.trees import ROOT, Tree, directory_of, joined, upwards
 
 #: The paths that a process has under its number, which differs in each run.
-_OF_A_PROCESS = re.compile(r"/proc/[0-9]+")
+_OF_A_PROCESS = re.compile(r"(/proc/[0-9]+)(?:/|\Z)")
 #: Forms of names that programs make up, with the part that is made up: of mkstemp(3), Python's tempfile and gcc.
 _MADE_UP = re.compile(r"(?:.*[._-])([A-Za-z0-9]{6})|tmp([a-z0-9_]{8})|cc([A-Za-z0-9]{6})\.[a-z]+")
 #: Forms of mktemp(1) and Go's os.MkdirTemp, whose made-up part is long enough to be recognized.
@@ -32,7 +32,8 @@ MOST_COMPARED = 500
 
 def of_process(path: str) -> str | None:
     """The folder in /proc of the process that a path is about."""
-    return next((over for over in upwards(path) if _OF_A_PROCESS.fullmatch(over)), None)
+    found = _OF_A_PROCESS.match(path)
+    return None if found is None else found[1]
 
 
 def looks_made_up(name: str) -> bool:
@@ -77,7 +78,7 @@ def between(places: Sequence[Iterable[str]], trees: Sequence[Tree], pids: Sequen
 
     Two names that are both on this disk are two files, and are kept.
     """
-    named = [_names(some) for some in places]
+    named = [_names(some) for some in places] if len(places) > 1 else []
     found: set[str] = set()
     for (one, ones), (other, others) in combinations(enumerate(named), 2):
         for directory in ones.keys() & others.keys():
@@ -103,4 +104,4 @@ def _names(places: Iterable[str]) -> dict[str, list[str]]:
 
 def first_of(place: str, varying: Set[str]) -> str | None:
     """The first path on the way to a place whose name differs in each run."""
-    return next((over for over in reversed(list(upwards(place))) if over in varying), None)
+    return next((over for over in reversed(list(upwards(place))) if over in varying), None) if varying else None

@@ -130,24 +130,34 @@ class _Joining:
         """Adds a rule, unless it has no rights."""
         if rights:
             self.paths[place] = rights
+            key, covered = frozenset(rights), self._covered(place, rights)
             for beneath, name in self._above(place):
-                insort(beneath.places.setdefault(frozenset(rights), []), place)
-                beneath.covered.update({right: self._objects.under(place).of(right) for right in rights})
-                beneath.branches.update([name] if name else [])
+                insort(beneath.places.setdefault(key, []), place)
+                for right, number in covered:
+                    beneath.covered[right] += number
+                if name:
+                    beneath.branches[name] += 1
 
     def _take(self, place: str) -> CallsByRight:
         """Takes a rule away, if there is one."""
         rights = self.paths.pop(place, {})
+        key, covered = frozenset(rights), self._covered(place, rights)
         for beneath, name in self._above(place) if rights else ():
-            places = beneath.places[frozenset(rights)]
+            places = beneath.places[key]
             del places[bisect_left(places, place)]
             if not places:
-                del beneath.places[frozenset(rights)]
-            beneath.covered.subtract({right: self._objects.under(place).of(right) for right in rights})
-            beneath.branches.subtract([name] if name else [])
-            if not beneath.branches[name]:
-                del beneath.branches[name]
+                del beneath.places[key]
+            for right, number in covered:
+                beneath.covered[right] -= number
+            if name:
+                beneath.branches[name] -= 1
+                if not beneath.branches[name]:
+                    del beneath.branches[name]
         return rights
+
+    def _covered(self, place: str, rights: CallsByRight) -> list[tuple[str, int]]:
+        """Rights of a rule, each with the number of objects on which it grants it."""
+        return [(right, under.of(right)) for right in rights for under in (self._objects.under(place),)]
 
     def _above(self, place: str) -> Iterator[tuple[_Beneath, str]]:
         """What is known of a place and of each directory above it, which changes, with the name there that leads to it.
