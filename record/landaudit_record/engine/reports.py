@@ -159,7 +159,8 @@ def numbers(report: Path) -> Iterator[int]:
         for line in lines:
             if not line.startswith(LAST):
                 with _Reading(line):
-                    yield int(json.loads(line)["line"])
+                    number, _, _, _ = split(line)
+                    yield int(number.removeprefix(_BEGINS))
 
 
 def not_allowed(answers: bytes) -> tuple[Answered, ...]:
