@@ -44,7 +44,7 @@ def set_apart(known: Sequence[Accepted], summaries: Iterable[Summary]) -> Iterat
     """Moves the accepted refusals of summaries from `refusals` to `accepted`, and yields those that occur in none."""
     by_kind = {(one.call, one.subject): one for one in known}
     occurred: set[Accepted] = set()
-    for summary in summaries:
+    for summary in summaries if known else ():
         for refusal in list(summary.refusals):
             one = by_kind.get((refusal.call, refusal.subject))
             if one is not None:
