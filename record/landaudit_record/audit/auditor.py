@@ -114,9 +114,8 @@ def write_tree(part: Path, tree: Tree, inserted: Iterable[Record], out: Path) ->
     missing = {over: None for path in paths for over in reversed(list(upwards(path))) if over != ROOT}
     for path in trees.paths(part) if missing else ():
         missing.pop(path, None)
-    text = part.read_bytes()
-    with open(out, "wb") as written:
-        written.write(text if text.endswith(b"\n") or not text else text + b"\n")
+    with open(part, "rb") as lines, open(out, "wb") as written:
+        written.writelines(line if line.endswith(b"\n") else line + b"\n" for line in lines)
         written.writelines(jsonl.line_bytes({"path": path, "kind": tree.kinds[path]}) for path in missing)
 
 

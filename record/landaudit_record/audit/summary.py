@@ -181,8 +181,8 @@ class Summaries:
         self._places: dict[str, dict[_Abis, Counter[NamedSubject]]] = {"refused": {}, "moot": {}}
 
     def take(self, parts: Iterable[Counted], abis: range) -> None:
-        """Counts the answers of some ABIs to all parts of the recording. What several parts have is decoded once, and so
-        are kinds that differ in nothing but their path.
+        """Counts the answers of some ABIs to all parts of the recording. What several parts have is decoded once, and
+        so are kinds that differ in nothing but their path.
         """
         known: dict[Alike, list[_Entry]] = {}
         on_any_path: dict[Alike, list[_Entry] | None] = {}

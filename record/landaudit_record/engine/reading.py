@@ -158,8 +158,8 @@ class Alike(NamedTuple):
 
     @property
     def path(self) -> bytes | None:
-        """The path of calls on a path, in its quotes, if landaudit-record wrote them, nothing in it is escaped, and no other
-        is shown in its place.
+        """The path of calls on a path, in its quotes, if landaudit-record wrote them, nothing in it is escaped, and no
+        other is shown in its place.
         """
         if not _BEGINS.get(self.members[:HEAD], _READ) & _ON_PATH or _SHOWN in self.members:
             return None
@@ -168,7 +168,7 @@ class Alike(NamedTuple):
 
     def without(self, path: bytes) -> Alike:
         """The same with `ANY_PATH` in the place of a path."""
-        return self._replace(members=self.members.replace(path, _ANY_PATH), answers=self.answers.replace(path, _ANY_PATH))
+        return Alike(self.standing, self.members.replace(path, _ANY_PATH), self.answers.replace(path, _ANY_PATH))
 
     @property
     def alike(self) -> Alike:
