@@ -170,6 +170,18 @@ class Written(WrittenLogs):
         self.assertEqual(self.counted(*bound, "close(5<socket:[7]>) = 0", *other), {ABSTRACT: 1})
         self.assertEqual(self.reached(*bound, "close(5<socket:[7]>) = 0", *other), [])
 
+    def test_a_name_may_be_anothers_in_another_network_namespace(self) -> None:
+        unshared = "unshare(0x40000000 /* CLONE_NEWNET */) = 0"
+        forked = "clone(child_stack=NULL, flags=0x40000011 /* CLONE_NEWNET|SIGCHLD */) = 11"
+        entered = "setns(5<net:[4026531840]>, 0) = 0"
+        for moved in (unshared, forked, entered):
+            with self.subTest(moved):
+                self.assertEqual(self.counted(UNIX, BOUND, moved, CONNECTED), {ABSTRACT: 1})
+                self.assertEqual(self.reached(UNIX, BOUND, moved, CONNECTED), [])
+                self.assertEqual(self.reached(UNIX, moved, CONNECTED), [(ABSTRACT, 10, [], "@name")])
+        refused = unshared.replace("= 0", f"= {EPERM}")
+        self.assertEqual(self.counted(UNIX, BOUND, refused, CONNECTED), {})
+
     def test_datagrams(self) -> None:
         """strace hides what is sent, and with it the address of sendmsg(2)."""
         letters = UNIX.replace("0x1 /* SOCK_STREAM */", "0x2 /* SOCK_DGRAM */")

@@ -98,6 +98,7 @@ class Scene:
     readlink(2) was traced, and `hides` whether all of a process in /proc is only for those who may trace it, and for
     the group `hides_not_from`. `sockets` has the makers of UNIX sockets, each with the moment, and `abstract` which are
     the sockets that have an abstract name (None if nobody knows who made it); `ended` are the processes that ended last.
+    `networks` says that a process went to another network namespace, which has abstract names of its own.
     """
 
     def __init__(
@@ -129,6 +130,7 @@ class Scene:
         self.hides_not_from: int | None = None
         self.sockets: dict[str, tuple[int, int]] = {}
         self.abstract: dict[str, str | None] = {}
+        self.networks = False
         self.ended: dict[int, Process] = {}
         self.ruled: list[tuple[str, Node]] = []
         self.handles: dict[str, str] = {}
@@ -477,7 +479,7 @@ class Scene:
             user=maker.process.user if not birth.flags & CLONE_NEWUSER else NOBODY_KNOWN,
         )
         if birth.flags & CLONE_NEWNET:
-            self.names.renew(NETWORK)
+            self.to_other_network()
         process.table = {number: handle.copy() for number, handle in maker.process.table.items()}
         process.next_made_up = maker.process.next_made_up
         self._join(Thread(tid, process, directories, maker.layers))
@@ -485,6 +487,11 @@ class Scene:
         if birth.flags & CLONE_FILES:
             self.recording.leave_out(SHARED_TABLE, line, maker.process.pid, text, asks=True)
         self.recording.write("fork", maker.process.pid, line, child=tid)
+
+    def to_other_network(self) -> None:
+        """A process goes to another network namespace: it has other objects in /proc/sys/net, and other abstract names."""
+        self.names.renew(NETWORK)
+        self.networks = True
 
     def doubt(self, maker: Thread) -> None:
         """Doubts the result of a fork after which its thread was killed: strace may show a wrong value."""

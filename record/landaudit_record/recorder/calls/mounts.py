@@ -9,7 +9,7 @@ from __future__ import annotations
 from .. import values
 from ..unwritten import CannotSay, NotAsked
 from ..processes import Handle, Thread
-from ..scene import CLONE_NEWNET, CLONE_NEWNS, CLONE_NEWUSER, NETWORK, Handler, Scene
+from ..scene import CLONE_NEWNET, CLONE_NEWNS, CLONE_NEWUSER, Handler, Scene
 from ..strace_log import Call
 from . import arguments, ptrace, users
 
@@ -115,13 +115,13 @@ def from_a_place(handler: Handler, base: int | None) -> Handler:
 
 
 def _setns(scene: Scene, thread: Thread, call: Call) -> None:
-    """Another mount namespace has other objects under the same names; another network namespace in /proc/sys/net."""
+    """Another mount namespace has other objects under the same names, another network namespace some of them."""
     behind = values.descriptor(call.arguments[0]).behind or ""
     ptrace.by_pidfd(scene, thread, call)
     if call.ok and (behind.startswith("user:") or _has(call, 1, CLONE_NEWUSER)):
         users.lose(thread)
     if call.ok and (behind.startswith("net:") or _has(call, 1, CLONE_NEWNET)):
-        scene.names.renew(NETWORK)
+        scene.to_other_network()
     if call.ok and (behind.startswith("mnt:") or _has(call, 1, CLONE_NEWNS)):
         raise CannotSay(OTHER_NAMESPACE)
 

@@ -9,7 +9,7 @@ from ..disk import MOST_INTERPRETERS, Program
 from ..names import UnknownWay
 from ..unwritten import CannotSay, NotAsked
 from ..processes import Thread
-from ..scene import CLONE_FILES, CLONE_FS, CLONE_NEWNET, CLONE_NEWNS, CLONE_NEWUSER, NETWORK, Scene, Spot
+from ..scene import CLONE_FILES, CLONE_FS, CLONE_NEWNET, CLONE_NEWNS, CLONE_NEWUSER, Scene, Spot
 from ..strace_log import Call
 from . import arguments, users
 from .descriptors import OWN_TABLE
@@ -181,7 +181,7 @@ def _unshared(scene: Scene, thread: Thread, call: Call) -> None:
     if call.ok and flags & CLONE_NEWUSER:
         users.lose(thread)
     if call.ok and flags & CLONE_NEWNET:
-        scene.names.renew(NETWORK)
+        scene.to_other_network()
     if call.ok and flags & (CLONE_FS | CLONE_NEWNS | CLONE_NEWUSER):
         thread.directories = replace(thread.directories)
     if call.ok and flags & CLONE_FILES and len(thread.process.threads) > 1:

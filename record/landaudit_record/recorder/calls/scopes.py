@@ -81,12 +81,13 @@ def bound(scene: Scene, thread: Thread, call: Call) -> None:
 def connected(scene: Scene, thread: Thread, call: Call) -> None:
     """A connection to an abstract name: of a socket of the recording, or of one outside of it.
 
-    A name is free when no process has its socket open any more: then it may be that of any other.
+    A name is free when no process has its socket open any more: then it may be that of any other, as it may be in
+    another network namespace (network_namespaces(7)).
     """
     name = _abstract(call)
     if name is None or not _is_asked(thread, call):
         return
-    named = scene.abstract.get(name)
+    named = scene.abstract.get(name) if not scene.networks else None
     maker = scene.sockets.get(named) if named is not None and _is_open(scene, named) else None
     if maker is None and (name in scene.abstract or _CHOSEN.fullmatch(name)):
         _count(scene, thread, call, ABSTRACT)
