@@ -40,6 +40,25 @@ class Moments(WrittenLogs):
             told(trace, "op", "fd", "path"), [("open", 3, "/w/f"), ("close", 3, None), ("open", 3, "/w/g")]
         )
 
+    def test_an_open_that_a_signal_ends_asked_where_it_begins(self) -> None:
+        """An open of a pipe waits for its writer: the path may lead to another object when it ends."""
+        for result in (
+            "? ERESTARTSYS (To be restarted if SA_RESTART is set)",
+            "-1 EINTR (Interrupted system call)",
+            "?",
+        ):
+            with self.subTest(result):
+                trace = self.convert(
+                    'symlink("f", "/w/l") = 0',
+                    MADE,
+                    f'10  openat({CWD}, "l", 0 /* O_RDONLY */ <unfinished ...>',
+                    '11  unlink("/w/l") = 0',
+                    '11  symlink("g", "/w/l") = 0',
+                    f"10  <... openat resumed>)    = {result}",
+                )
+                opened = [record["path"] for record in trace if record["op"] == "open"]
+                self.assertEqual(opened, ["/w/f"])
+
     def test_a_range_of_numbers_is_free_where_close_range_begins(self) -> None:
         trace = self.convert(
             MADE,

@@ -3,8 +3,9 @@
 A call that another process's line interrupts is written in two halves, "<unfinished ...>" and
 "<... resumed>", which are put together here. Most calls take effect at their end: for example, nobody sees
 a new number before. Those of AT_BEGINNING take effect at their beginning: close(2) frees its number at once,
-and another thread may have it before the call has ended. So a first reading looks up the ends of these
-calls, and the children of all forks, since a child may run before its parent's fork has ended.
+and another thread may have it before the call has ended. So do those of OPENING that a signal ends. So a first
+reading looks up the ends of these calls, and the children of all forks, since a child may run before its
+parent's fork has ended.
 """
 
 from __future__ import annotations
@@ -25,7 +26,11 @@ from .looks import DROPPED, Near
 
 #: Calls that take effect at their beginning: they free numbers, or look up what a number stands for.
 AT_BEGINNING = frozenset({"close", "close_range", "ftruncate", "ftruncate64", "ioctl"})
-_BEGINNINGS = tuple(f"{name}(" for name in sorted(AT_BEGINNING))
+#: Calls that open files: they may wait, as for the writer of a pipe, after the kernel has asked Landlock. One that a
+#: signal ends takes effect at its beginning: what is at its path at its end may be another object.
+OPENING = frozenset({"open", "openat", "openat2", "creat"})
+_MAY_BEGIN = AT_BEGINNING | OPENING
+_INTERRUPTED = re.compile(r"\)\s*= (?:\?|-1 EINTR)(?: |$)")
 #: The ends of the first half of a call; the second is for a thread that is not the leader and runs a program.
 UNFINISHED = " <unfinished ...>"
 _PID_CHANGED = re.compile(r" <pid changed to \d+ \.\.\.>$")
@@ -59,8 +64,8 @@ _FORK = re.compile(
     rf"(\d+) +(?:{_FORKS}\(.*|<\.\.\. {_FORKS} resumed>.*)\)\s*= (\d+)(?:{_IN_OUR_NAMESPACE.pattern})?$"
 )
 _FORK_BEGINS = re.compile(rf"(\d+) +{_FORKS}\(.*<unfinished \.\.\.>$")
-_BEGINS = re.compile(rf"(\d+) +({'|'.join(sorted(AT_BEGINNING))})\(.* <unfinished \.\.\.>$")
-_ENDS = re.compile(rf"(\d+) +<\.\.\. (?:{'|'.join(sorted(AT_BEGINNING))}) resumed>(.*)$")
+_BEGINS = re.compile(rf"(\d+) +({'|'.join(sorted(_MAY_BEGIN))})\(.* <unfinished \.\.\.>$")
+_ENDS = re.compile(rf"(\d+) +<\.\.\. ({'|'.join(sorted(_MAY_BEGIN))}) resumed>(.*)$")
 _MOVE_BEGINS = re.compile(r"(\d+) +f?chdir\(.* <unfinished \.\.\.>$")
 _FLAGS = re.compile(r"flags=([^,}]+)")
 
@@ -213,8 +218,8 @@ class _Ends:
         """Follows a second half, if it is that of such a call."""
         if ends := _ENDS.match(line):
             first = self.wanted.pop(ends[1], None)
-            if first is not None:
-                self._found.ends[first] = sys.intern(ends[2])
+            if first is not None and (ends[2] not in OPENING or _INTERRUPTED.match(ends[3])):
+                self._found.ends[first] = sys.intern(ends[3])
 
 
 class _Moves:
@@ -314,9 +319,7 @@ class _StraceReader:
 
     def _begins(self, number: int, tid: int, text: str) -> Event | None:
         """The first half of a call: the whole call, if it takes effect here."""
-        end = None
-        if text.startswith(_BEGINNINGS):
-            end = self._ends.get(number, _NO_END if text.startswith("close(") else None)
+        end = self._ends.get(number, _NO_END if text.startswith("close(") else None)
         if end is None:
             self._begun[tid] = number, text
             return None
