@@ -168,6 +168,11 @@ class Mounts(WrittenLogs):
         self.assertEqual(self.asked('mount("x", "/w/d", "tmpfs", 0, NULL) = 0'), ["ok"])
         self.assertEqual(self.unsaid(), [(mounts.CHANGES_THE_TREE, True)])
 
+    def test_a_namespace_that_is_mounted_on_a_file_may_be_of_any_kind(self) -> None:
+        self.assert_hole(mounts.OTHER_NAMESPACE, "setns(7</w/f>, 0) = 0")
+        trace = self.convert("setns(7</w/f>, 0x40000000 /* CLONE_NEWNET */) = 0", 'unlink("f") = 0')
+        self.assertEqual([record["op"] for record in trace], ["unlink"])
+
     def test_mounts_without_a_place_and_other_namespaces(self) -> None:
         self.assert_hole(mounts.WITHOUT_PLACE, "fsmount(6<anon_inode:[fscontext]>, 0, 0) = 7</>")
         self.assert_hole(mounts.WITHOUT_PLACE, f'open_tree({CWD}, "d", 0x1 /* OPEN_TREE_CLONE */) = 7</>')

@@ -116,14 +116,20 @@ def from_a_place(handler: Handler, base: int | None) -> Handler:
 
 def _setns(scene: Scene, thread: Thread, call: Call) -> None:
     """Another mount namespace has other objects under the same names, another network namespace some of them."""
-    behind = values.descriptor(call.arguments[0]).behind or ""
     ptrace.by_pidfd(scene, thread, call)
-    if call.ok and (behind.startswith("user:") or _has(call, 1, CLONE_NEWUSER)):
+    if _goes_to(call, "user", CLONE_NEWUSER):
         users.lose(thread)
-    if call.ok and (behind.startswith("net:") or _has(call, 1, CLONE_NEWNET)):
+    if _goes_to(call, "net", CLONE_NEWNET):
         scene.to_other_network()
-    if call.ok and (behind.startswith("mnt:") or _has(call, 1, CLONE_NEWNS)):
+    if _goes_to(call, "mnt", CLONE_NEWNS):
         raise CannotSay(OTHER_NAMESPACE)
+
+
+def _goes_to(call: Call, kind: str, flag: int) -> bool:
+    """Whether a setns(2) may lead to a namespace of a kind: the name of a file on which one is mounted does not tell."""
+    behind = values.descriptor(call.arguments[0]).behind or ""
+    may_be_any = behind.startswith("/") and not arguments.number_at(call, 1)
+    return call.ok and (may_be_any or behind.startswith(f"{kind}:") or _has(call, 1, flag))
 
 
 HANDLERS = {
