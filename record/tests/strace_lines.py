@@ -21,6 +21,7 @@ DISK: list[jsonl.Record] = [
     {"path": "/w/d", "kind": "dir"},
     {"path": "/w/d/in", "kind": "reg"},
     {"path": "/w/e", "kind": "dir"},
+    {"path": "/w/closed", "kind": "dir", "mode": [0o700, 0, 0]},
     {"path": "/w/f", "kind": "reg"},
     {"path": "/w/p", "kind": "reg", "runs": True},
     {"path": "/w/text", "kind": "reg"},

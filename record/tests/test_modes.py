@@ -7,6 +7,7 @@ from typing import Any
 
 from landaudit_record.recorder import modes
 from landaudit_record.recorder.modes import READ, RUN, WRITE, Credentials, Mode
+from landaudit_record.recorder.scene import BEFORE_MODES, BY_MODES
 
 from .strace_lines import CONFINED, CWD, StraceLines
 
@@ -69,6 +70,19 @@ class Calls(StraceLines):
         )
         self.assertEqual([record["path"] for record in trace if record["op"] == "open"], ["/w/f"])
         self.assertEqual(self.unsaid(), ["EACCES by file modes, whatever a policy says"])
+
+
+    def test_a_move_to_another_directory_is_asked_before_the_modes_of_directories(self) -> None:
+        """Linux 6.18 says EXDEV where a layer does not grant `refer`, and else EACCES."""
+        moved = 'rename("f", "{}/f") = -1 EACCES (Permission denied)'
+        asked, otherwise = self.convert(moved.format("d"))
+        self.assertEqual((asked["from"], asked["unknown"]), ("/w/f", BEFORE_MODES))
+        self.assertEqual((otherwise["shown"], otherwise["otherwise"]), ("/w/f", True))
+        self.assertNotIn(otherwise["from"], self.tree())
+        self.assertEqual(len(self.convert('link("f", "d/f") = -1 EACCES (Permission denied)')), 2)
+        self.assertEqual(self.convert(moved.format(".")), [])
+        self.assertEqual(self.convert(moved.format("closed")), [])
+        self.assertEqual(self.unsaid(), [BY_MODES])
 
 
 class Privileged(StraceLines):

@@ -76,11 +76,14 @@ def refuse(
 ) -> bool:
     """Whether modes refuse a call on paths; `runs` says that a file is opened to be run."""
     for path, wanted in _wanted(op, members, runs):
-        if not asker.may(mode_of(path), wanted):
-            return True
-        if path != ROOT and any(not asker.may(mode_of(over), RUN) for over in upwards(directory_of(path))):
+        if not asker.may(mode_of(path), wanted) or not let_through(asker, mode_of, path):
             return True
     return False
+
+
+def let_through(asker: Credentials, mode_of: Callable[[str], Mode | None], path: str) -> bool:
+    """Whether modes let a path lead to its last name."""
+    return path == ROOT or all(asker.may(mode_of(over), RUN) for over in upwards(directory_of(path)))
 
 
 def _wanted(op: str, members: Mapping[str, Any], runs: bool) -> Iterator[tuple[str, int]]:

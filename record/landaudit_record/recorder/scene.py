@@ -46,6 +46,9 @@ DEVICES = ("char", "block")
 _TERMINAL = re.compile(r"/dev/pts/\d+")
 #: The class of EACCES in a process without layers, and of EACCES that the mode of an object explains.
 BY_MODES = "EACCES by file modes, whatever a policy says"
+#: What is not known of a move to another directory that file modes refuse: on the way to its names they come before
+#: Landlock, which is not asked then, and at the directories after it, which may have said EXDEV first.
+BEFORE_MODES = "asked before file modes or not"
 _OF_PROCESS = re.compile(r"/proc/(\d+)(?:/task/(\d+))?/(?:fd/(\d+)|(exe|cwd|root)|(?:map_files|ns)/[^/]+)")
 
 
@@ -154,7 +157,7 @@ class Scene:
         process, error = thread.process, call.error
         if thread.layers < len(process.restricted):
             raise CannotSay("a call of a thread with fewer layers than its process")
-        if error == "EACCES" and (not process.confined or self._modes_refuse(process, call, op, members)):
+        if members.get("unknown") != BEFORE_MODES and self._is_by_modes(process, call, op, members):
             raise NotAsked(BY_MODES)
         if process.unseen_layer and error in ERRORS_OF_LAYERS:
             raise CannotSay(BY_UNSEEN_LAYER)
@@ -205,10 +208,20 @@ class Scene:
         is_one = self.names.places.are_one(over, to) if over != to else True
         return not is_one if is_one is not None else not process.confined
 
-    def _modes_refuse(self, process: Process, call: Call, op: str, members: Members) -> bool:
-        """Whether file modes refuse a call, as far as they are known."""
+    def _is_by_modes(self, process: Process, call: Call, op: str, members: Members) -> bool:
+        """Whether file modes refuse a call, as far as they are known; no layer does where there is none."""
+        if call.error != "EACCES":
+            return False
         runs, asker = call.name in ("execve", "execveat"), process.user.asker
-        return asker is not None and modes.refuse(asker, self.disk.mode, op, members, runs)
+        return not process.confined or (asker is not None and modes.refuse(asker, self.disk.mode, op, members, runs))
+
+    def may_ask_before_modes(self, process: Process, call: Call, op: str, start: Spot, end: Spot) -> bool:
+        """Whether Landlock may have been asked about a move that file modes refuse, and may say EXDEV in their place."""
+        if start.real.rpartition("/")[0] == end.real.rpartition("/")[0]:
+            return False
+        asker = process.user.asker
+        ways = asker is None or all(modes.let_through(asker, self.disk.mode, one.real) for one in (start, end))
+        return ways and self._is_by_modes(process, call, op, {"from": start.real, "to": end.real})
 
     def note(self, thread: Thread, call: Call, op: str, **members: Any) -> None:
         """Writes a record that only keeps the state right, without the kernel's answer."""

@@ -7,7 +7,7 @@ from typing import Any
 from ..unwritten import CannotSay, NotAsked
 from ..names import KINDS, NO_DIRECTORIES, OF_KIND, REPLACED_OR_NOT, Node
 from ..processes import Thread
-from ..scene import Scene, Spot
+from ..scene import BEFORE_MODES, Scene, Spot
 from ..strace_log import Call
 from . import arguments
 
@@ -161,9 +161,14 @@ def _as_seen_later(scene: Scene, call: Call, spot: Spot, at: str) -> Spot:
 
 
 def _say_move(scene: Scene, thread: Thread, call: Call, op: str, start: Spot, end: Spot, exchange: bool) -> None:
-    scene.say(
-        thread, call, op, **{"from": start.path}, to=end.path, exchange=exchange, **arguments.shown(start, end)
-    )
+    members: dict[str, Any] = {"from": start.path, "to": end.path, "exchange": exchange, **arguments.shown(start, end)}
+    if not scene.may_ask_before_modes(thread.process, call, op, start, end):
+        scene.judged(thread, call, op, members)
+        return
+    members["unknown"] = BEFORE_MODES
+    gap = scene.missing(start.real)
+    scene.judged(thread, call, op, members)
+    scene.say_instead(thread, call, op, {**members, "from": gap.path, "shown": gap.shown})
 
 
 def _link(scene: Scene, thread: Thread, call: Call) -> None:
