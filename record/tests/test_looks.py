@@ -7,6 +7,7 @@ from __future__ import annotations
 
 from pathlib import Path
 
+from landaudit_record.common import finished, jsonl
 from landaudit_record.recorder import recordings
 from landaudit_record.recorder.calls import ptrace
 from landaudit_record.recorder.calls.path_arguments import PATH_ARGUMENTS
@@ -116,10 +117,42 @@ class Looks(WrittenLogs):
 
     def test_what_failed(self) -> None:
         call = 'stat("/proc/1/root/nothere", 0x7ffd)'
-        self.assertEqual(self.counted(f"{call} = {ENOENT}"), [])
         self.assertEqual(self.counted(f"{call} = {EACCES}"), [])
         self.confined(f"{call} = {EACCES}")
         self.assertEqual(self.unsaid(), [LOOK])
+
+    def test_what_failed_behind_a_link(self) -> None:
+        """A layer refuses to follow the link before the kernel finds what else is wrong (tried on Linux 6.18)."""
+        for call in (
+            f'getxattr("/proc/1/cwd", "user.x", 0x7ffd, 100) = {ENODATA}',
+            'open("/proc/1/exe", 0x1 /* O_WRONLY */) = -1 ETXTBSY (Text file busy)',
+            'open("/proc/1/cwd", 0x1 /* O_WRONLY */) = -1 EISDIR (Is a directory)',
+            'chdir("/proc/1/exe") = -1 ENOTDIR (Not a directory)',
+            'mkdir("/proc/1/root/w", 0755) = -1 EEXIST (File exists)',
+            'chmod("/proc/1/cwd", 0755) = -1 EPERM (Operation not permitted)',
+        ):
+            with self.subTest(call):
+                self.assertIn(LOOK, self.counted(call))
+                self.assertEqual(self.reached(), [[1]])
+        for call in (
+            'open("/proc/1/mem", 0) = -1 EIO (Input/output error)',
+            'open("/proc/1/exe", 0x20000 /* O_NOFOLLOW */) = -1 ELOOP (Too many levels of symbolic links)',
+            'stat(0x8, 0x7ffd) = -1 EFAULT (Bad address)',
+        ):
+            with self.subTest(call):
+                self.assertNotIn(LOOK, self.counted(call))
+
+    def test_a_link_may_be_missing_since_its_process_has_ended(self) -> None:
+        call = f'stat("/proc/{{}}/root/nothere", 0x7ffd) = {ENOENT}'
+        self.assertEqual(self.counted(call.format(1)), [LOOK])
+        self.assertEqual(self.reached(), [])
+        self.assertEqual(self.counted("fork() = 11", "11  " + call.format(10)), [LOOK])
+        self.assertEqual(self.reached(), [[10]])
+        self.assertEqual(self.counted("fork() = 11", "11  +++ exited with 0 +++", call.format(11)), [])
+
+    def reached(self) -> list[list[int]]:
+        """The processes that the calls of the last log reach."""
+        return [said["to"] for _, said in jsonl.numbered(self.out / finished.REACH)]
 
     def test_looks_at_anything_else_tell_nothing(self) -> None:
         lines = (

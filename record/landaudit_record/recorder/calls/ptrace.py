@@ -75,19 +75,20 @@ def look(scene: Scene, thread: Thread, call: Call) -> bool:
 
     A call that failed under a layer gets no record: the kernel may have refused it by the rule on ptrace.
     """
-    if not _may_be_refused(scene, thread, call):
+    failed = _failed_after(scene, thread, call)
+    if not failed and not _may_be_refused(scene, thread, call):
         return False
     led = [(argument, _led(scene, thread, call, argument, path)) for argument, path in _paths(call)]
     opened = _opened(scene, call)
     pids = {pid for argument, path in led for pid in _kept(call, path, follows=argument.follows_last(call))}
     pids |= scene.through | _numbers([_OPENED.fullmatch(opened)])
-    if scene.hides_from(thread.process):
+    if not failed and scene.hides_from(thread.process):
         pids |= _numbers(_OF_PROCESS.match(path) for path in [opened, *(path for _, path in led)])
     if any(may_refuse(scene, thread, pid) for pid in pids):
         _count(scene, thread, call, pids)
         return True
     reached(scene, thread, call, PTRACE, pids, error=OF_PATHS)
-    if not scene.reads_links and not thread.process.looks:
+    if not failed and not scene.reads_links and not thread.process.looks:
         named = _numbers(_OF_PROCESS.match(path) for _, path in led)
         named |= _numbers(_LINK.finditer(call.text)) if call.name in _RUNS else set()
         if opened == _LISTED or any(may_refuse(scene, thread, pid) for pid in named):
@@ -97,11 +98,13 @@ def look(scene: Scene, thread: Thread, call: Call) -> bool:
 
 
 def _count(scene: Scene, thread: Thread, call: Call, pids: Iterable[int]) -> None:
-    """Counts a call that leads into other processes."""
+    """Counts a call that leads into other processes; with ENOENT, it may not lead there since one has ended."""
     if call.error is not None and thread.layers:
         raise CannotSay(INTO_ANOTHER)
-    reached(scene, thread, call, PTRACE, pids, error=OF_PATHS)
-    scene.leave_out(thread, call, INTO_ANOTHER, asks=True, reach=True)
+    known = call.error != "ENOENT" or scene.threads.keys() >= set(pids)
+    if known:
+        reached(scene, thread, call, PTRACE, pids, error=OF_PATHS)
+    scene.leave_out(thread, call, INTO_ANOTHER, asks=True, reach=known)
 
 
 def reached(
@@ -123,8 +126,19 @@ def _process(scene: Scene, pid: int) -> int:
 
 def passed_by_links(scene: Scene, thread: Thread, call: Call) -> None:
     """Counts a call whose path does not name /proc, and leads there by links."""
-    if _may_be_refused(scene, thread, call) and any(may_refuse(scene, thread, pid) for pid in scene.through):
+    asked = _failed_after(scene, thread, call) or _may_be_refused(scene, thread, call)
+    if asked and any(may_refuse(scene, thread, pid) for pid in scene.through):
         _count(scene, thread, call, scene.through)
+
+
+def _failed_after(scene: Scene, thread: Thread, call: Call) -> bool:
+    """Whether a call failed with another error than a layer's, after the kernel had followed the links on its path.
+
+    ELOOP says that it has not followed the last one (O_NOFOLLOW).
+    """
+    hidden = scene.hides_from(thread.process) or thread.process.confined
+    others = ("EACCES", "EPERM", "ELOOP") if hidden else ("EACCES", "ELOOP")
+    return call.error is not None and call.error not in others and not arguments.is_before_paths(call)
 
 
 def _may_be_refused(scene: Scene, thread: Thread, call: Call) -> bool:
@@ -170,7 +184,8 @@ def _kept(call: Call, path: str, *, follows: bool) -> set[int]:
         return _numbers([link]) if is_followed else set()
     opens = call.name in opening.GIVEN and not opening.flags_of(call) & opening.O_PATH
     searched = path.endswith("/fdinfo") and call.name in _SEARCHES
-    return _numbers([_REACHED.match(path), _OPENED.fullmatch(path) if opens or searched else None])
+    looked = (opens or searched) and call.error in (None, OF_PATHS, OF_CALLS)
+    return _numbers([_REACHED.match(path), _OPENED.fullmatch(path) if looked else None])
 
 
 def _numbers(matches: Iterable[re.Match[str] | None]) -> set[int]:
