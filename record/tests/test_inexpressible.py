@@ -213,6 +213,7 @@ class OtherProcesses(WrittenLogs):
             "process_vm_readv(1, [], 1, [], 1, 0) = -1 EFAULT (Bad address)",
             "process_vm_writev(1, [], 1, [], 1, 0) = -1 EFAULT (Bad address)",
             "move_pages(1, 1, 0x8, NULL, 0x8, 0) = -1 EFAULT (Bad address)",
+            f"migrate_pages(1, 0, NULL, NULL) = {EINVAL}",
             "get_robust_list(1, 0x8, 0x8) = -1 EFAULT (Bad address)",
             "kcmp(10, 1, 0 /* KCMP_FILE */, 500, 500) = -1 EBADF (Bad file descriptor)",
             f"kcmp(10, 1, 0x63 /* KCMP_??? */) = {EINVAL}",

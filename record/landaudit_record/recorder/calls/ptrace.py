@@ -48,6 +48,7 @@ _AFTER: dict[str, tuple[str, ...]] = {
     "process_vm_readv": ("EFAULT",),
     "process_vm_writev": ("EFAULT",),
     "move_pages": ("EFAULT",),
+    "migrate_pages": ("EINVAL",),
     "get_robust_list": ("EFAULT",),
     "kcmp": ("EBADF", "EINVAL"),
     "pidfd_getfd": ("EBADF",),
