@@ -88,6 +88,31 @@ class Applying(unittest.TestCase):
             with self.subTest(name=name):
                 self.assertEqual(self.before(trace, name), {4: 11, 6: 11})
 
+    def test_parents_of_which_the_run_takes_the_objects_before_a_program(self) -> None:
+        """A sandboxer that runs the program puts the rules on what is there then."""
+        taken: list[Record] = [
+            {"op": "rename", "from": "/usr/ls", "to": "/usr/old"},
+            {"op": "unlink", "path": "/bin"},
+            {"op": "rename", "from": "/usr", "to": "/var"},
+            {"op": "rename", "from": "/x", "to": "/usr/ls", "exchange": True},
+        ]
+        run = {**RUN, "path": "/usr/dash", "call": 9}
+        for parent, number in (("/usr/ls", 0), ("/bin/ls", 0), ("/bin/dash", 1), ("/usr/dash", 2), ("/usr/ls", 3)):
+            took = {"pid": 10, "call": 7, "kernel": "ok", **taken[number]}
+            with self.subTest(parent, taken=taken[number]):
+                self.assertEqual(self.moved(parent, [START, took, run], "dash"), (parent,))
+                self.assertEqual(self.moved(parent, [START, run, took], "dash"), ())
+                self.assertEqual(self.moved(parent, [START, {**took, "kernel": "EACCES"}, run], "dash"), ())
+                self.assertEqual(self.moved(parent, [START, took, run], None), ())
+                self.assertEqual(self.moved("/var/x", [START, took, run], "dash"), ())
+                self.assertEqual(self.moved(parent, [START, took], "dash", [START, run]), (parent,))
+                self.assertEqual(self.moved(parent, [START, run], "dash", [START, took]), ())
+
+    def moved(self, parent: str, trace: list[Record], program: str | None, *more: list[Record]) -> tuple[str, ...]:
+        """The parents of a policy with one at which another object may be when a program begins."""
+        parts = [write_lines(Path(self.folder, f"{number}.jsonl"), part) for number, part in enumerate([trace, *more])]
+        return applying.moved(policy(parent), TREE, applying.plans(parts, TREE, program))
+
     def test_a_program_that_never_runs(self) -> None:
         with self.assertRaisesRegex(Problem, "never runs dahs, did you mean dash.*it runs /usr/dash, /usr/ls"):
             self.before([START, RUN, {**RUN, "path": "/usr/dash", "call": 6}], "dahs")

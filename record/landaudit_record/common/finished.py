@@ -137,7 +137,8 @@ class Finished:
     """The folder of a recording with all its parts.
 
     Of the policy that is tried on it, `scoped` has the scopes, and `unknown` the parents for which it is not known
-    where they led on the machine that recorded. `mixed` counts moves under layers with and without rights for files.
+    where they led on the machine that recorded, and `moved` those at which another object may be when a named program
+    begins. `mixed` counts moves under layers with and without rights for files.
     Of a distilled recording, `left` has the files that the run left
     behind, and `scratch` stands for its folder as long as that is needed.
     """
@@ -151,6 +152,7 @@ class Finished:
     untraced: tuple[str, ...] = ()
     scoped: tuple[str, ...] = ()
     unknown: tuple[str, ...] = ()
+    moved: tuple[str, ...] = ()
     mixed: int = 0
     too_large: tuple[str, ...] = ()
     left: frozenset[str] | None = None
@@ -173,6 +175,10 @@ class Finished:
         if self.unknown:
             parents = f"{counted(len(self.unknown), 'parent')} of the policy led on the machine that recorded"
             told.append(f"it is not known where {parents}, so no rule is put there: {some_of(self.unknown)}")
+        if self.moved:
+            parents = f"{counted(len(self.moved), 'parent')} of the policy"
+            told.append(f"another object may be at {parents} when the program begins, and the rules are on those that "
+                        f"were there when the run began: {some_of(self.moved)}")
         if self.mixed:
             moves = counted(self.mixed, "move")
             told.append(f"{moves} to another directory may fail with EXDEV: one layer of a process "

@@ -36,6 +36,8 @@ MOST_RECORDS = 1_000_000
 MOST_LINES_OF_A_CALL = 1_000
 #: The beginnings of lines that are not about programs, processes and rulesets.
 _TELL_NOTHING = heads(OPERATIONS.keys() - {"start", "exec", "exit", "create"})
+#: The operations that take an object from a name.
+_TAKING = ("rename", "unlink", "rmdir")
 
 
 class Handled(NamedTuple):
@@ -57,6 +59,8 @@ class Plan:
     `before` has the lines before which it goes, each with the process; `behind` has the lines after which it goes,
     since they repeat for a process what it had when it ran a program. `rs` is a ruleset number that the trace never
     uses, `lines` the number of its lines, and `programs` the programs that it runs. `own` has what its rulesets handle.
+    Before a named program, `gone` has the names that the trace takes from objects before it runs, and `all_gone` all
+    that it takes from any.
     """
 
     before: dict[int, int]
@@ -65,6 +69,8 @@ class Plan:
     behind: dict[int, list[int]] = field(default_factory=dict)
     programs: frozenset[str] = frozenset()
     own: frozenset[Handled] = frozenset()
+    gone: frozenset[str] = frozenset()
+    all_gone: frozenset[str] = frozenset()
 
     @property
     def times(self) -> int:
@@ -89,6 +95,7 @@ class _Planning:
         self._tree = tree
         self._program = program
         self._named = None if program is None else _paths_of(program, tree)
+        self._skipped = _TELL_NOTHING if program is None else _TELL_NOTHING - heads(_TAKING)
         self._starting: set[int] = set()
         self._last: list[bytes] = []
         self._first = 1
@@ -97,6 +104,8 @@ class _Planning:
         self._behind: dict[int, list[int]] = {}
         self._rs = 0
         self._own: set[Handled] = set()
+        self._all_gone: set[str] = set()
+        self._gone: frozenset[str] = frozenset()
 
     def found(self) -> Plan:
         """Where the policy goes."""
@@ -107,11 +116,12 @@ class _Planning:
                 again = sum(1 for _ in takewhile(lambda line: AGAIN in line, block)) if are_again else 0
                 are_again = again == len(block)
                 for index in [index for index, line in enumerate(block)
-                              if line[:HEAD] not in _TELL_NOTHING or index < again]:
+                              if line[:HEAD] not in self._skipped or index < again]:
                     if block[index].strip(jsonl.BLANKS):
                         self._take(known + index + 1, block[index])
                 known, before = known + len(block), block
-        return Plan(self._before, self._rs + 1, known, self._behind, frozenset(self._programs), frozenset(self._own))
+        return Plan(self._before, self._rs + 1, known, self._behind, frozenset(self._programs), frozenset(self._own),
+                    self._gone, frozenset(self._all_gone))
 
     def _take(self, number: int, line: bytes) -> None:
         record = jsonl.read(self._trace, number, line)
@@ -119,6 +129,9 @@ class _Planning:
         if "rs" in record:
             self._rs = max(self._rs, _number(self._trace, number, record, "rs"))
         about = record.get("child", pid)
+        if record.get("op") in _TAKING and record.get("kernel") == "ok" and self._named is not None:
+            ends = ("path", "from", "to") if record.get("exchange") else ("path", "from")
+            self._all_gone.update(record[end] for end in ends if end in record)
         if record.get("op") == "create":
             self._own.add(Handled.of(record))
         if (record.get("op") == "start" and "again" not in record) or "starting" in record:
@@ -128,11 +141,13 @@ class _Planning:
         for ran in record.get("ran", ()):
             if "first" in ran if self._named is None else self._is_named(ran["path"]):
                 self._behind.setdefault(number, []).append(about)
+                self._gone = frozenset(self._all_gone)
         path = program_run(record)
         if path is not None:
             self._programs.add(self._tree.real(path))
             if pid in self._starting if self._named is None else self._is_named(path):
                 self._before[self._first_line(number, pid, record.get("call"))] = pid
+                self._gone = frozenset(self._all_gone)
             self._starting.discard(pid)
 
     def _is_named(self, path: str) -> bool:
@@ -218,6 +233,20 @@ def _nowhere(trace: Path, program: str | None, programs: list[str]) -> str:
 def not_known(policy: Policy, tree: Tree) -> tuple[str, ...]:
     """The parents for which it is not known where they led when the run began, each once."""
     return tuple(dict.fromkeys(it.written for it in parents.each(policy, tree) if it.led.unknown is not None))
+
+
+def moved(policy: Policy, tree: Tree, plans: Sequence[Plan]) -> tuple[str, ...]:
+    """The parents at which another object may be when a named program begins than when the run does, each once: the run
+    takes what is there, or is on the way to it, from its name before.
+
+    A sandboxer that runs the program puts the rule on the other one.
+    """
+    gone, earlier = set[str](), set[str]()
+    for one in plans:
+        gone |= one.gone | earlier if one.times else set()
+        earlier |= one.all_gone
+    return tuple(dict.fromkeys(it.written for it in parents.each(policy, tree)
+                               if not gone.isdisjoint((*upwards(it.led.path), *upwards(it.written)))))
 
 
 def notes_on_way(parent: Parent) -> Iterator[str]:
