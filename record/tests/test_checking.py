@@ -205,12 +205,28 @@ class Checking(unittest.TestCase):
                 self.assertIn(f'"layer 1: {asked} when it was opened"', lines[3])
 
     def test_a_case_about_which_the_policy_is_not_asked(self) -> None:
-        status, lines, errors = self.checked('[[refused]]\ncall = "rmdir"\npath = "@/open/file"\n')
+        status, lines, errors = self.checked('[[refused]]\ncall = "truncate"\npath = "@/open"\n')
         self.assertEqual((status, lines), (3, []))
         self.assertEqual(
             errors,
-            "landaudit-policy: @/cases.toml: rmdir @/open/file: Landlock is not asked: @/open/file is a regular file\n",
+            "landaudit-policy: @/cases.toml: truncate @/open: Landlock is not asked: @/open is a directory\n",
         )
+
+    def test_removing_an_object_of_another_kind_than_the_call_is_for(self) -> None:
+        """The kernel asks about the directory before it says EISDIR or ENOTDIR (tried on Linux 6.18)."""
+        policy = '''[[layer]]
+handled_access_fs = ["remove_file", "remove_dir"]
+[[layer.path_beneath]]
+allowed_access = ["{}"]
+parent = "@"
+'''
+        for call, path, asked, other in (("rmdir", "@/open/file", "remove_dir", "remove_file"),
+                                         ("unlink", "@/open", "remove_file", "remove_dir")):
+            case = f'call = "{call}"\npath = "{path}"\n'
+            with self.subTest(call):
+                self.assertEqual(self.point("[[allowed]]\n" + case, policy.format(asked))[0], 0)
+                self.assertEqual(self.point("[[refused]]\n" + case, policy.format(other))[0], 0)
+                self.assertEqual(self.point("[[allowed]]\n" + case, policy.format(other))[0], 1)
 
     def test_random_cases_about_files_of_this_disk(self) -> None:
         cases = []

@@ -49,7 +49,7 @@ CALLS = tuple(word + rest for of in OPERATIONS.values() if of.name in JUDGED
               for word in ((of.name, EXCHANGE) if EXCHANGE in of.optional else (of.name,))
               for rest in WORDS.get(word, [""]))
 KEYS = ("call", "path", "kind", "from", "to", "to_kind", "port", "abi")
-NEW_NAME = "~new~"
+NEW_NAME, OTHER_KIND = "~new~", "~other kind~"
 #: The place of a call that has none.
 NO_PLACE = "-"
 
@@ -165,6 +165,8 @@ class _CaseReader:
         if op in MAKING:
             return ({"op": op, "path": self._new("path"), **dict(zip(OPERATIONS[op].values, words))},)
         path = self._there("path", "kind", follows=op not in REMOVING)
+        if op in REMOVING and path != ROOT and (self.tree.kinds[path] == "dir") != (op == "rmdir"):
+            path = self._stand_in(path, "dir" if op == "rmdir" else "reg")
         if op == "ftruncate":
             return opening(path, "w"), {"op": op}
         if op == "ioctl":
@@ -216,6 +218,14 @@ class _CaseReader:
         directory = directory_of(path)
         self._list(directory, "dir", key)
         return joined(directory, path.rpartition("/")[2] + NEW_NAME)
+
+    def _stand_in(self, path: str, kind: str) -> str:
+        """An object of another kind beside one: the kernel asks Landlock about the directory, as if a directory could
+        be unlinked, before it sees that the call is not for this object.
+        """
+        stands = joined(directory_of(path), path.rpartition("/")[2] + OTHER_KIND)
+        self._list(stands, kind, "path")
+        return stands
 
     def _real(self, key: str, *, follows: bool) -> str:
         """A path without links, as the kernel walks it."""
