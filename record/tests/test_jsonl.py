@@ -2,6 +2,7 @@
 
 from __future__ import annotations
 
+import json
 import tempfile
 import unittest
 from pathlib import Path
@@ -20,6 +21,14 @@ class Values(unittest.TestCase):
 
     def test_lists(self) -> None:
         self.assertEqual(jsonl.value(["read", "b c"]), '["read","b c"]')
+
+
+class Lines(unittest.TestCase):
+    def test_a_record_is_what_json_says_of_it(self) -> None:
+        record = {"path": '/é"\\\n', "new": None, "runs": True, "again": False, "fd": 3, "ran": [{"first": 0.5}]}
+        for one in (record, {}, {'a"': "b"}):
+            said = json.dumps(one, ensure_ascii=False, separators=(",", ":"))
+            self.assertEqual(jsonl.line(one), said + "\n")
 
 
 class Files(unittest.TestCase):

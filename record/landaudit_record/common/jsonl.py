@@ -57,8 +57,14 @@ def value(of: Any) -> str:
 
 
 def line(record: Record) -> str:
-    """A record as a line, with its line feed."""
-    return _encode(record) + "\n"
+    """A record as a line, with its line feed; only what is no text, number or flag needs an encoder to be set up."""
+    said = []
+    for name, of in record.items():
+        if type(of) is int:
+            said.append(f"{text(name)}:{of}")
+        else:
+            said.append(f"{text(name)}:{'true' if of is True else _encode(of)}")
+    return f"{{{','.join(said)}}}\n"
 
 
 def line_bytes(record: Record) -> bytes:

@@ -16,7 +16,7 @@ KEPT = 16_384
 
 _OUR_PID = re.compile(r"/\* (\d+) in strace's PID NS \*/")
 _NUMBER = re.compile(r"\s*(-?0x[0-9a-f]+|-?\d+)")
-_DESCRIPTOR = re.compile(r"(-?\d+)(?: /\*[^*]*\*/)?(?:<((?:[^<>]|<[^<>]*>)*)>(\(deleted\))?)?")
+_DESCRIPTOR = re.compile(r"(-?\d+)(?: /\*[^*]*\*/)?(?:<([^<>]*+(?:<[^<>]*+>[^<>]*+)*+)>(\(deleted\))?)?")
 _DEVICE = re.compile(r"<(char|block) \d+:\d+>$")
 
 
