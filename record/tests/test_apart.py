@@ -6,7 +6,7 @@ import os
 import signal
 import time
 import unittest
-from collections.abc import Callable
+from collections.abc import Callable, Iterator
 from functools import partial
 
 from landaudit_record.common import apart
@@ -22,7 +22,7 @@ def _is_killed() -> int:
     return 0
 
 
-def _late(number: int) -> int:
+def _late(number: float) -> float:
     time.sleep(0.2 / number)
     return number
 
@@ -65,4 +65,38 @@ class Each(unittest.TestCase):
         works: list[Callable[[], object]] = [os.getpid, partial(time.sleep, 60), partial(time.sleep, 60)]
         for _ in apart.each(works, 2):
             break
+        self.assertLess(time.monotonic() - began, 30)
+
+
+def _counts(most: int) -> Iterator[list[int]]:
+    yield from ([number] for number in range(most))
+
+
+def _counts_and(end: Callable[[], int]) -> Iterator[list[int]]:
+    yield [1]
+    end()
+
+
+class Pieces(unittest.TestCase):
+    def test_pieces_are_in_their_order(self) -> None:
+        for most in (0, 1, 100_000):
+            self.assertEqual([one for (one,) in apart.pieces(partial(_counts, most))], list(range(most)))
+
+    def test_what_the_work_raises_is_raised_after_its_pieces(self) -> None:
+        found = apart.pieces(partial(_counts_and, _fails))
+        self.assertEqual(next(found), [1])
+        with self.assertRaisesRegex(Problem, "so it is"):
+            next(found)
+
+    def test_a_killed_work_is_a_problem(self) -> None:
+        found = apart.pieces(partial(_counts_and, _is_killed))
+        self.assertEqual(next(found), [1])
+        with self.assertRaisesRegex(Problem, "was killed: is there enough memory"):
+            next(found)
+
+    def test_a_work_ends_with_the_one_who_asked(self) -> None:
+        began = time.monotonic()
+        found = apart.pieces(partial(_counts_and, partial(_late, 0.002)))
+        next(found)
+        del found
         self.assertLess(time.monotonic() - began, 30)

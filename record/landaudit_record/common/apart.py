@@ -3,12 +3,14 @@
 from __future__ import annotations
 
 import contextlib
+import marshal
 import multiprocessing
 import signal
 from collections import deque
 from collections.abc import Callable, Iterable, Iterator
+from functools import partial
 from multiprocessing.connection import Connection
-from typing import Generic, TypeVar
+from typing import Any, Generic, TypeVar
 
 from . import stopping
 from .problems import WANTING, Problem
@@ -28,7 +30,7 @@ def each(works: Iterable[Callable[[], Result]], most: int) -> Iterator[Result]:
     begun: deque[_Apart[Result]] = deque()
     try:
         for work in works:
-            begun.append(_Apart(work))
+            begun.append(_Apart(partial(_whole, work)))
             if len(begun) == most:
                 yield begun.popleft().result()
         while begun:
@@ -38,10 +40,23 @@ def each(works: Iterable[Callable[[], Result]], most: int) -> Iterator[Result]:
             one.stop()
 
 
+def pieces(work: Callable[[], Iterable[Any]]) -> Iterator[Any]:
+    """Does a work in a process of its own, and yields piece after piece of what it gives. The pieces are what marshal
+    writes; the process waits while some of them have not been taken.
+    """
+    begun: _Apart[None] = _Apart(partial(_give, work))
+    try:
+        while piece := begun.piece():
+            yield marshal.loads(piece)
+        begun.result()
+    finally:
+        begun.stop()
+
+
 class _Apart(Generic[Result]):
     """One work in its process."""
 
-    def __init__(self, work: Callable[[], Result]) -> None:
+    def __init__(self, work: Callable[[Connection], Result]) -> None:
         self._receives, sends = _FORKING.Pipe(duplex=False)
         self._process = _FORKING.Process(target=_do, args=(work, sends), daemon=True)
         self._process.start()
@@ -53,12 +68,19 @@ class _Apart(Generic[Result]):
         try:
             given, raised = self._receives.recv()
         except EOFError:
-            raise Problem("a process of this program was killed: is there enough memory?", WANTING) from None
+            raise _killed() from None
         finally:
             self.stop()
         if raised is not None:
             raise raised
         return given
+
+    def piece(self) -> bytes:
+        """Waits for the next piece of what the work gives; nothing after the last one."""
+        try:
+            return self._receives.recv_bytes()
+        except EOFError:
+            raise _killed() from None
 
     def stop(self) -> None:
         """Ends the process, if it has not ended."""
@@ -67,14 +89,31 @@ class _Apart(Generic[Result]):
         self._receives.close()
 
 
-def _do(work: Callable[[], Result], sends: Connection) -> None:
+def _killed() -> Problem:
+    return Problem("a process of this program was killed: is there enough memory?", WANTING)
+
+
+def _whole(work: Callable[[], Result], _: Connection) -> Result:
+    return work()
+
+
+def _give(work: Callable[[], Iterable[Any]], sends: Connection) -> None:
+    """Sends the pieces of a work, and nothing as the last one, whatever ends it."""
+    try:
+        for piece in work():
+            sends.send_bytes(marshal.dumps(piece))
+    finally:
+        sends.send_bytes(b"")
+
+
+def _do(work: Callable[[Connection], Result], sends: Connection) -> None:
     """Does a work, and sends what it gives, or what it raised; this process ends when the one that waits ends it."""
     signal.signal(signal.SIGINT, signal.SIG_IGN)
     for number in stopping.SIGNALS:
         signal.signal(number, signal.SIG_DFL)
     given, raised = None, None
     try:
-        given = work()
+        given = work(sends)
     except Exception as error:
         raised = error
     with contextlib.suppress(BrokenPipeError):

@@ -2,13 +2,14 @@
 
 from __future__ import annotations
 
+from contextlib import closing
 from pathlib import Path
 from typing import Any
 
 from ..common.finished import Converted
 from ..common.problems import Problem
 from ..common.progress import Progress
-from . import disk, hearing, strace_log, unrecorded
+from . import disk, hearing, log_apart, strace_log, unrecorded
 from .calls import HANDLERS, arguments, ptrace
 from .unwritten import NOT_UNDERSTOOD, CannotSay
 from .modes import NOBODY_KNOWN
@@ -60,14 +61,15 @@ def _convert(
         births = strace_log.births(log)
         scene = Scene(names, kept, recording, births, ports, reads_links=about.readlink)
         scene.hides, scene.hides_not_from = about.hidepid, about.hidepid_group
-        for event in strace_log.events(log, births.ends, scene.near):
-            if isinstance(event, Call):
-                _take_call(scene, about, event)
-            else:
-                _take(scene, event)
-            recording.commit()
-            if event.line % LINES_APART == 0:
-                progress.show(recording.records)
+        with closing(log_apart.events(log, births.ends, scene.near)) as events:
+            for event in events:
+                if isinstance(event, Call):
+                    _take_call(scene, about, event)
+                else:
+                    _take(scene, event)
+                recording.commit()
+                if event.line % LINES_APART == 0:
+                    progress.show(recording.records)
         if recording.unsaid[NOT_UNDERSTOOD] > recording.records:
             raise Problem(f"{log} is not a log that 'landaudit-record run' wrote: record the program with it")
         if recording.records == 0:
@@ -105,7 +107,9 @@ def _take_call(scene: Scene, about: About, call: Call) -> None:
         scene.call = call
         if scene.through:
             scene.through.clear()
-        looked = scene.near.is_look(call.text) and ptrace.look(scene, thread, call)
+        near, text = scene.near, call.text
+        may_look = "proc" in text or near.relative or near.elsewhere
+        looked = may_look and near.is_look(text) and ptrace.look(scene, thread, call)
         if handler is not None:
             handler(scene, thread, call)
         if scene.through and not looked:

@@ -37,7 +37,3 @@ class Near:
         if self.elsewhere and any(name in text for name in self.elsewhere):
             return True
         return "proc/" in text or "/proc>" in text or (self.relative and '("/' not in text)
-
-    def drops(self, text: str) -> bool:
-        """Whether a line can be dropped: it is a call that only looks, and not into /proc."""
-        return text[: text.find("(")] in DROPPED and not self.is_look(text)

@@ -17,7 +17,7 @@ from collections.abc import Iterator, Mapping
 from dataclasses import dataclass, field
 from functools import lru_cache
 from pathlib import Path
-from typing import TextIO
+from typing import Any, TextIO
 
 from ..common.problems import Problem
 from . import values
@@ -82,6 +82,13 @@ class Arguments(dict[int, str]):
         raise NotUnderstood
 
 
+@dataclass(slots=True, eq=False)
+class Understood:
+    """What a handler has found out from the text of a call: it is the same for all calls of this text."""
+
+    of: Any = None
+
+
 @dataclass(slots=True)
 class Call:
     """A system call that took effect: its thread, where it began, its arguments as strace wrote them, its result.
@@ -100,6 +107,7 @@ class Call:
     note: str
     text: str
     end: int = 0
+    understood: Understood = field(default_factory=Understood, compare=False)
 
     @property
     def ok(self) -> bool:
@@ -275,33 +283,39 @@ def events(path: Path, ends: Mapping[int, str] | None = None, near: Near | None 
 
     Calls that only look are left out, but for those of which `near` says that they may look into another process.
     """
-    reader = _StraceReader(ends or {}, near or Near())
-    read = reader.read
+    near = near or Near()
+    _said.cache_clear()
+    read, is_look = _StraceReader(ends or {}).read, near.is_look
     with open_log(path) as lines:
         for number, line in enumerate(lines, start=1):
             tid, space, text = line.removesuffix("\n").partition(" ")
             if not space or not tid.isdecimal():
                 yield UnreadLine(number, 0, line.rstrip("\n"))
                 continue
-            event = read(number, int(tid), text.lstrip(" "))
-            if event is not None:
-                yield event
+            text = text.lstrip(" ")
+            if text[: text.find("(")] in DROPPED and not is_look(text):
+                continue
+            if text[:1] in _NO_CALL or text[-4:] == "...>":
+                event = read(number, int(tid), text)
+                if event is not None:
+                    yield event
+            elif (said := _said(text)) is not None:
+                yield Call(number, int(tid), *said[0], text, number, said[1])
+            else:
+                yield UnreadLine(number, int(tid), text)
 
 
 class _StraceReader:
-    """Reads line after line: of each thread it keeps the first half of the call that has not ended."""
+    """Reads lines that are no whole calls: of each thread it keeps the first half of the call that has not ended."""
 
-    def __init__(self, ends: Mapping[int, str], near: Near) -> None:
+    def __init__(self, ends: Mapping[int, str]) -> None:
         self._ends = ends
-        self._drops = near.drops
         self._begun: dict[int, tuple[int, str]] = {}
         self._told: set[int] = set()
         self._superseding: set[int] = set()
 
     def read(self, number: int, tid: int, text: str) -> Event | None:
         """What a line tells, if it tells something by itself."""
-        if self._drops(text):
-            return None
         if text[-4:] == "...>":
             first = text.removesuffix(UNFINISHED)
             if first is text:
@@ -359,8 +373,7 @@ def _call(number: int, tid: int, text: str, end: int | None = None) -> Event:
     said = _said(text)
     if said is None:
         return UnreadLine(number, tid, text)
-    name, arguments, value, error, note = said
-    return Call(number, tid, name, arguments, value, error, note, text, number if end is None else end)
+    return Call(number, tid, *said[0], text, number if end is None else end, said[1])
 
 
 #: The parts of a call's text, as `Call` has them: name, arguments, value, error and note.
@@ -368,7 +381,7 @@ _Said = tuple[str, Arguments, int | None, str | None, str]
 
 
 @lru_cache(values.KEPT)
-def _said(text: str) -> _Said | None:
+def _said(text: str) -> tuple[_Said, Understood] | None:
     """The parts of a text, if it is the text of a call that ended."""
     parts = _parts(text)
     if parts is None:
@@ -381,7 +394,8 @@ def _said(text: str) -> _Said | None:
     ours = _IN_OUR_NAMESPACE.match(note)
     error = _ERROR.match(note) if value is None or value == -1 else None
     value = int(ours[1]) if ours is not None else value
-    return name, Arguments(enumerate(arguments)), value, error[1] if error is not None else None, note
+    said = (name, Arguments(enumerate(arguments)), value, error[1] if error is not None else None, note)
+    return said, Understood()
 
 
 def _parts(text: str) -> tuple[str, list[str], str, str] | None:

@@ -1,0 +1,174 @@
+"""Logs that are read by another process: what they tell is what one process reads."""
+
+from __future__ import annotations
+
+import os
+import signal
+import tempfile
+import unittest
+from collections.abc import Iterator
+from dataclasses import fields
+from pathlib import Path
+from typing import Any
+from unittest import mock
+
+from landaudit_record.common.problems import Problem
+from landaudit_record.recorder import converting, log_apart, recordings, strace_log, values
+from landaudit_record.recorder.log_apart import _Numbers
+from landaudit_record.recorder.looks import Near
+from landaudit_record.recorder.ports import Ports
+
+from .kept_logs import LOGS, KeptLogs
+from .written_logs import FIRST, THREAD, WrittenLogs, told
+
+#: A thread goes to /proc, between calls that look at what relative paths name.
+GOING = [
+    FIRST,
+    f"10  {THREAD} = 11",
+    '10  stat("1/exe", 0x1) = 0',
+    '11  stat("1/root/a",  <unfinished ...>',
+    '10  chdir("/proc" <unfinished ...>',
+    '11  <... stat resumed>0x1) = 0',
+    '11  stat("1/cwd",  <unfinished ...>',
+    "10  <... chdir resumed>) = 0",
+    '11  <... stat resumed>0x1) = 0',
+    *['10  stat("1/exe", 0x1) = 0', '10  lstat("/etc", 0x1) = 0', "10  close(3</w/f>) = 0", "no line of strace"] * 3,
+    "11  +++ exited with 0 +++",
+    "10  +++ killed by SIGKILL (core dumped) +++",
+]
+
+
+def said(event: strace_log.Event) -> tuple[str, ...]:
+    """All that an event says."""
+    names = [of.name for of in fields(event) if of.compare]
+    return (type(event).__name__, *(str(getattr(event, name)) for name in names))
+
+
+class Apart(KeptLogs):
+    """Tests in which another process reads all logs, and sends a few events at once."""
+
+    def setUp(self) -> None:
+        super().setUp()
+        self.enterContext(mock.patch.object(log_apart, "LEAST", 0))
+        self.enterContext(mock.patch.object(log_apart, "AT_ONCE", 2))
+        self.enterContext(mock.patch.object(os, "sched_getaffinity", return_value={0, 1}))
+
+    def written(self, *lines: str) -> Path:
+        log = Path(self._folder) / "strace.txt"
+        log.write_text("".join(line + "\n" for line in lines), encoding="latin-1")
+        return log
+
+
+class Events(Apart):
+    def test_kept_logs_tell_the_same(self) -> None:
+        for log in LOGS.glob("*/strace.txt"):
+            ends = strace_log.births(log).ends
+            apart = [said(event) for event in log_apart.events(log, ends, Near())]
+            self.assertEqual(apart, [said(event) for event in strace_log.events(log, ends)], log)
+
+    def test_lines_that_come_again_have_numbers_of_their_own(self) -> None:
+        log = self.written(*["10  close(3</w/f>) = 0", "11  close(4) = 0", "10  +++ exited with 0 +++"] * 3)
+        events = [(type(event).__name__, event.line, event.tid) for event in log_apart.events(log, {}, Near())]
+        kinds = ("Call", "Call", "Ended")
+        self.assertEqual(events, [(kinds[at % 3], at + 1, (10, 11, 10)[at % 3]) for at in range(9)])
+
+    def test_what_looks_is_told_from_the_call_on_that_leads_to_proc(self) -> None:
+        log = self.written(*GOING)
+        ends = strace_log.births(log).ends
+        apart, alone = (list(self._to_proc(read, log, ends)) for read in (log_apart.events, strace_log.events))
+        self.assertEqual(apart, alone)
+        self.assertEqual(len(apart), len(set(apart)))
+        self.assertIn("stat", [one[3] for one in apart])
+
+    def _to_proc(self, read: Any, log: Path, ends: dict[int, str]) -> Iterator[tuple[Any, ...]]:
+        """What is told to one who notes that a thread goes to /proc."""
+        near = Near()
+        for event in read(log, ends, near):
+            yield said(event)
+            near.relative = near.relative or getattr(event, "name", "") == "chdir"
+
+    def test_a_killed_reader_is_a_problem(self) -> None:
+        log = self.written(*["10  close(3</w/f>) = 0"] * 10)
+        real = strace_log.events
+
+        def killed(*given: Any) -> Iterator[strace_log.Event]:
+            for event in real(*given):
+                if event.line == 7:
+                    os.kill(os.getpid(), signal.SIGKILL)
+                yield event
+
+        taken = []
+        with mock.patch.object(strace_log, "events", killed), self.assertRaisesRegex(Problem, "was killed"):
+            taken.extend(event.line for event in log_apart.events(log, {}, Near()))
+        self.assertEqual(taken, [1, 2, 3, 4, 5, 6])
+
+    def test_what_the_reader_raises_is_raised(self) -> None:
+        log = self.written("10  close(3</w/f>) = 0")
+        with mock.patch.object(strace_log, "events", side_effect=Problem("so it is")):
+            with self.assertRaisesRegex(Problem, "so it is"):
+                list(log_apart.events(log, {}, Near()))
+
+    def test_one_processor_reads_itself(self) -> None:
+        log = self.written("10  close(3</w/f>) = 0")
+        with mock.patch.object(os, "sched_getaffinity", return_value={0}):
+            with mock.patch.object(log_apart, "_received", side_effect=AssertionError):
+                self.assertEqual(len(list(log_apart.events(log, {}, Near()))), 1)
+
+
+class Conversions(Apart):
+    def test_a_conversion_whose_reader_is_killed_leaves_the_recording_as_it_was(self) -> None:
+        self.convert("moves")
+        folder = Path(self._folder) / "moves"
+        before = {file.name: file.read_bytes() for file in folder.iterdir()}
+        with mock.patch.object(log_apart, "_pieces", lambda *_: os.kill(os.getpid(), signal.SIGKILL)):
+            with self.assertRaisesRegex(Problem, "was killed"):
+                converting.convert(folder, Ports())
+        self.assertEqual({file.name: file.read_bytes() for file in folder.iterdir()}, before)
+
+    def test_all_files_are_the_same(self) -> None:
+        for log in LOGS.glob("*/strace.txt"):
+            found = []
+            for processors in ({0}, {0, 1}):
+                with mock.patch.object(os, "sched_getaffinity", return_value=processors):
+                    self.convert(log.parent.name)
+                files = sorted((Path(self._folder) / log.parent.name).iterdir())
+                found.append([(file.name, file.read_bytes()) for file in files])
+            self.assertEqual(found[0], found[1], log)
+
+
+class Numbers(unittest.TestCase):
+    def test_a_text_keeps_its_number_while_it_comes_again(self) -> None:
+        with mock.patch.object(values, "KEPT", 8):
+            numbers = _Numbers()
+            first, is_new = numbers.of("often")
+            self.assertTrue(is_new)
+            for at in range(100):
+                self.assertEqual(numbers.of("often"), (first, False))
+                number, is_new = numbers.of(f"once {at}")
+                self.assertTrue(is_new)
+                self.assertTrue(number != first and number < 8)
+            self.assertTrue(numbers.of("once 3")[1])
+
+
+class Reopened(WrittenLogs):
+    """Files that are opened again by a call of the same text, which is not understood anew."""
+
+    OPEN = 'openat(-100 /* AT_FDCWD */</w>, "/w/f", 0x80000 /* O_RDONLY|O_CLOEXEC */) = 3</w/f>'
+
+    def test_each_opening_is_a_record_and_closes_what_had_its_number(self) -> None:
+        trace = self.convert(self.OPEN, "close(3</w/f>) = 0", self.OPEN, self.OPEN)
+        expected = [("open", 2), ("close", 3), ("open", 4), ("close", 5), ("open", 5)]
+        self.assertEqual(told(trace, "op", "call"), expected)
+        self.assertEqual([record.get("path") for record in trace], ["/w/f", None, "/w/f", None, "/w/f"])
+
+    def test_another_object_at_the_path_has_a_name_of_its_own(self) -> None:
+        trace = self.convert(self.OPEN, 'rename("/w/g", "/w/f") = 0', self.OPEN)
+        self.assertEqual([one["path"] for one in trace if one["op"] == "open"], ["/w/f", "/w/f~2~"])
+
+    def test_a_relative_path_is_resolved_from_where_the_process_is(self) -> None:
+        opened = 'open("f", 0 /* O_RDONLY */) = 3</w/f>'
+        failed = 'open("f", 0 /* O_RDONLY */) = -1 ENOENT (No)'
+        trace = self.convert(opened, opened, 'chdir("/w/d") = 0', opened, failed)
+        paths = [(one["path"], one["call"]) for one in trace if one["op"] == "open"]
+        self.assertEqual(paths[:3], [("/w/f", 2), ("/w/f", 3), ("/w/f", 5)])
+        self.assertTrue(paths[3][0].startswith("/w/d/f~new~"))
