@@ -10,7 +10,7 @@ from typing import Any
 
 from landaudit_record.common import trace_lines
 from landaudit_record.common.operations import OPERATIONS
-from landaudit_record.common.trace_lines import HEAD, body, closing, head, heads, line_of, told, written
+from landaudit_record.common.trace_lines import HEAD, body, closing, head, heads, line_of, opening, text_of, told, written
 
 
 def whole(op: str, kernel: str | None = None, **members: Any) -> Any:
@@ -33,6 +33,10 @@ class Written(unittest.TestCase):
 
     def test_a_close_is_written_as_any_record(self) -> None:
         self.assertEqual(closing(10, 3, 7), written("close", 10, {"fd": 3}, 7, None))
+
+    def test_an_open_that_is_written_by_its_text_is_written_as_any_other(self) -> None:
+        members = {"path": '/a"', "fd": 3, "mode": "r", "create": None, "trunc": True, "shown": "/b"}
+        self.assertEqual(opening(10, text_of(members), 7), written("open", 10, members, 7, "ok"))
 
     def test_a_record_begins_with_its_operation_or_says_that_it_is_in_doubt(self) -> None:
         for op in OPERATIONS:

@@ -135,6 +135,12 @@ class Living:
         elif op in ("start", "fork", "exit", "exec"):
             self._follow_process(op, pid, members, kernel)
 
+    def closes(self, pid: int, fd: int) -> None:
+        """Follows a close as `follow` does."""
+        living = self._by_pid.get(pid)
+        if living is not None:
+            living.descriptors.pop(fd, None)
+
     def _follow_process(self, op: str, pid: int, members: Members, kernel: str | None) -> None:
         """Follows the beginning or the end of a process, or a program that it runs."""
         living = self._by_pid.get(pid)

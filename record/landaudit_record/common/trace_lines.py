@@ -87,15 +87,27 @@ def written(op: str, pid: int, members: Mapping[str, Any], call: int, kernel: st
         marks = {name: members[name] for name in IN_DOUBT if name in members}
         line = f"{jsonl.value(marks)[:-1]},{line[1:]}"
         members = {name: of for name, of in members.items() if name not in marks}
-    for name, value in members.items():
-        if type(value) is str:
-            line += f',"{name}":{jsonl.text(value)}'
-        elif type(value) is int:
-            line += f',"{name}":{value}'
-        elif value is not None and value is not False:
-            line += f',"{name}":{jsonl.value(value)}'
+    line += text_of(members)
     line += f',"call":{call}' if kernel is None else f',"call":{call},"kernel":"{kernel}"'
     return line + (',"driver":false}\n' if op == "ioctl" and members["driver"] is False else "}\n")
+
+
+def text_of(members: Mapping[str, Any]) -> str:
+    """Members as a line has them, each after a comma, without those that are None or false."""
+    said = ""
+    for name, value in members.items():
+        if type(value) is str:
+            said += f',"{name}":{jsonl.text(value)}'
+        elif type(value) is int:
+            said += f',"{name}":{value}'
+        elif value is not None and value is not False:
+            said += f',"{name}":{jsonl.value(value)}'
+    return said
+
+
+def opening(pid: int, said: str, call: int) -> str:
+    """An open that the kernel allowed as `written` writes it; `said` is what `text_of` makes of its members."""
+    return f'{{"op":"open","pid":{pid}{said},"call":{call},"kernel":"ok"}}\n'
 
 
 def closing(pid: int, fd: int, call: int) -> str:

@@ -268,6 +268,8 @@ class Limits:
 LIMITS = Limits()
 #: The records that are kept free for the last call of a part; a call has far fewer.
 MOST_OF_A_CALL = 2_000
+#: How many lines of a trace are kept, to be written at once.
+LINES_KEPT = 500
 _WITHOUT_PATH = frozenset({"start", "fork", "rename", "link"})
 #: A record that waits for the rest of its call: operation, process, members, the kernel's answer, and the line.
 _Waiting = tuple[str, int, Members, str | None, str]
@@ -325,6 +327,10 @@ class Recording:
         """Adds a close as `add` does."""
         self._call.append(("close", pid, {"fd": fd}, None, trace_lines.closing(pid, fd, call)))
 
+    def add_open(self, pid: int, call: int, members: Members, said: str) -> None:
+        """Adds an open that the kernel allowed as `add` does; `said` are its members by `trace_lines.text_of`."""
+        self._call.append(("open", pid, members, "ok", trace_lines.opening(pid, said, call)))
+
     def commit(self) -> None:
         """Keeps the records of a call, in one part."""
         call = self._call
@@ -333,22 +339,34 @@ class Recording:
         if self._in_part >= self._most or len(self._objects) > self._limits.objects:
             self._end_part()
             self._begin_part()
-        self._in_part += len(call)
-        self._committed += len(call)
-        objects, others, follow, write = self._objects, self._others, self._living.follow, self._trace.write
+        count = len(call)
+        self._in_part += count
+        self._committed += count
+        living, lines = self._living, self._lines
         for op, pid, members, kernel, line in call:
-            write(line)
+            lines.append(line)
+            if op == "close":
+                if (fd := members["fd"]) < FIRST_MADE_UP:
+                    living.closes(pid, fd)
+                continue
             path = members.get("path")
             if path is None:
                 if op in _WITHOUT_PATH:
                     self._count(op, members)
-            elif path not in objects and path not in others:
+            elif path not in self._objects and path not in self._others:
                 self._need(path)
             if members.get("fd", 0) < FIRST_MADE_UP:
-                follow(op, pid, members, kernel)
+                living.follow(op, pid, members, kernel)
         call.clear()
+        if len(lines) > LINES_KEPT:
+            self._write_lines()
         if self.tree.fresh:
             self._list_fresh()
+
+    def _write_lines(self) -> None:
+        """Writes the records that were kept to be written at once."""
+        self._trace.write("".join(self._lines))
+        self._lines.clear()
 
     def drop(self) -> None:
         """Drops the records of a call that turns out not to be writable.
@@ -391,6 +409,7 @@ class Recording:
     def written(self) -> Iterator[jsonl.Record]:
         """The records so far, in their order and once each."""
         self.commit()
+        self._write_lines()
         self._trace.flush()
         for part in [*(made.part for made in self._parts), self._part]:
             yield from (record for _, record in jsonl.numbered(part.trace) if "again" not in record)
@@ -441,6 +460,7 @@ class Recording:
         """Begins a part, with what all living processes have."""
         self._part = Part(self._undone, len(self._parts) + 1)
         self._trace = open(self._part.trace, "w", encoding="utf-8")
+        self._lines: list[str] = []
         self._objects: set[str] = set()
         self._others: set[str] = {ROOT}
         self._started = 0
@@ -484,6 +504,7 @@ class Recording:
 
     def _end_part(self) -> None:
         self._list_fresh()
+        self._write_lines()
         self._trace.close()
         self._parts.append(_PartInMaking(self._part, self._objects, self._in_part, self._again))
 
