@@ -194,7 +194,7 @@ class Names:
         self._not_run: dict[str, set[int]] = {}
         self._disk = disk
         self._before = before
-        self._watched = [top.rstrip("/") + "/" for top in watched]
+        self._watched = tuple(top.rstrip("/") + "/" for top in watched)
         self._unlisted = tuple(top.rstrip("/") + "/" for top in unlisted)
         self._linked: dict[str, Node] = {}
         self.root = Node("dir", origin="", start="", first="/")
@@ -417,6 +417,8 @@ class Names:
 
     def _is_watched(self, path: str) -> bool:
         """Whether what was at a path was listed before the run: the nearest directory above that says so counts."""
+        if not path.startswith(self._watched):
+            return False
         listed = max((len(top) for top in self._watched if path.startswith(top)), default=0)
         return listed > max((len(top) for top in self._unlisted if path.startswith(top)), default=0)
 
@@ -452,6 +454,18 @@ class Names:
             if not over.startswith(_IN_PROC):
                 self._reached[over] = directory
         return self.child(directory, name)
+
+    def meets(self, over: str, name: str, node: Node) -> bool:
+        """Whether an object is at a name in a directory to which a walk has led, as a call shows; false too if nobody
+        knows without another walk.
+        """
+        directory = self._reached.get(over)
+        if directory is None or directory.children.get(name) is not node:
+            return False
+        path = f"{over}/{name}"
+        if (late := self._late.get(path if not self.places.are_several else self._looked_up(path))) is not None:
+            late.is_there = True
+        return True
 
     def below_root(self, names: Sequence[str]) -> Node | None:
         """The object of the names of a real path."""

@@ -163,6 +163,9 @@ class Scene:
             raise CannotSay(BY_UNSEEN_LAYER)
         if error == "EXDEV" and self._between_mounts(process, members):
             raise NotAsked("EXDEV before Landlock is asked")
+        if not self.tree.doubted:
+            self.recording.add(op, process.pid, call.line, error or "ok", members)
+            return
         members, *others = self.each(members)
         if others and "unknown" not in members:
             members = {**members, "unknown": others[0]["unknown"]}
@@ -183,8 +186,6 @@ class Scene:
 
     def each(self, members: Members) -> list[Members]:
         """A record, and what it would be with the other objects that may be at its paths."""
-        if not self.tree.doubted:
-            return [members]
         found: list[Members] = [members]
         for member, shown in (("path", "shown"), ("from", "shown"), ("to", "shown_to")):
             doubted = self.tree.doubted.get(members.get(member, ""))
@@ -292,6 +293,11 @@ class Scene:
             if last >= 0 and moves[last][1] > call.line:
                 return True
         return False
+
+    def has_walked(self, thread: Thread, over: str | None, path: str) -> bool:
+        """Whether the links on the way of a path are listed, from the directory `over` or the working directory."""
+        directory = over if over is not None else thread.directories.directory
+        return (thread.directories.root, "" if path.startswith("/") else directory, path) in self._walked
 
     def list_links(self, thread: Thread, base: Descriptor | None, path: str) -> None:
         """Lists the symbolic links on the way of a path, once for each directory and path."""
@@ -438,7 +444,7 @@ class Scene:
             if not thread.process.holds(handle.ruleset):
                 self.note(thread, call, "close_rs", rs=handle.ruleset)
         elif handle.in_trace:
-            self.note_close(thread, call, number)
+            self.recording.add_close(thread.process.pid, call.line, number)
 
     def note_close(self, thread: Thread, call: Call, number: int) -> None:
         """Writes that a descriptor is closed."""

@@ -75,7 +75,9 @@ FOREIGN = "a descriptor that came from elsewhere: what Landlock kept with it is 
 
 def _close(scene: Scene, thread: Thread, call: Call) -> None:
     if call.error != "EBADF":
-        scene.close(thread, call, values.descriptor(call.arguments[0]).number)
+        if call.understood.of is None:
+            call.understood.of = values.descriptor(call.arguments[0]).number
+        scene.close(thread, call, call.understood.of)
 
 
 def _close_range(scene: Scene, thread: Thread, call: Call) -> None:

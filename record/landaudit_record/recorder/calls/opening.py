@@ -7,11 +7,12 @@ from contextlib import suppress
 from dataclasses import dataclass, replace
 from typing import Any
 
+from ...common import trace_lines
 from .. import values
 from ..unwritten import CannotSay, NotAsked
 from ..names import KINDS, MADE_OR_THERE, OF_KIND, Node, join, split
 from ..processes import Handle, Thread
-from ..scene import PROC, Scene, Spot
+from ..scene import DEVICES, PROC, Scene, Spot
 from ..strace_log import Call
 from ..values import Descriptor
 from ..writing import TOO_LONG
@@ -44,12 +45,56 @@ _TAKING_PATHS = re.compile(
     r"|/sys/kernel/config/usb_gadget/.*/lun\.\d+/file"
 )
 BY_WRITING = "a file that the kernel opens because its path is written into another one"
+#: Openings with these flags do more than open a file to read it.
+_NOT_KEPT = ACCESS_MODE | O_CREAT | O_TRUNC | O_PATH | O_TMPFILE
 #: The name of a file that O_TMPFILE would have made if it had been allowed.
 UNNAMED = "#tmpfile"
 
 
+@dataclass(slots=True, eq=False)
+class _Reopened:
+    """A file that was opened only to be read, and what the opening became: programs open the same files over and over.
+
+    `members` are those of the record, and `said` is their text. `walk` is by which path it was opened, and from which
+    directory, if that was not the path of the file; `turns` are those of `Names` at that time.
+    """
+
+    number: int
+    path: str
+    over: str
+    name: str
+    close_on_exec: bool
+    node: Node
+    turns: int
+    members: dict[str, Any]
+    said: str
+    walk: tuple[str | None, str] | None
+
+
 def _open(scene: Scene, thread: Thread, call: Call) -> None:
-    _opened(scene, thread, call, *GIVEN[call.name], flags_of(call))
+    again = call.understood.of
+    if again is None or not _opened_again(scene, thread, call, again):
+        _opened(scene, thread, call, *GIVEN[call.name], flags_of(call))
+
+
+def _opened_again(scene: Scene, thread: Thread, call: Call, again: _Reopened) -> bool:
+    """Opens a file as `_opened` does, which a call of the same text has opened before; false if anything about it may
+    have changed since.
+    """
+    names, process, node, number = scene.names, thread.process, again.node, again.number
+    if names.turns != again.turns or node.others or node.kind in DEVICES:
+        return False
+    if thread.layers < len(process.restricted) or (scene.tree.doubted and again.members["path"] in scene.tree.doubted):
+        return False
+    if again.walk is not None and not scene.has_walked(thread, *again.walk):
+        return False
+    if not names.meets(again.over, again.name, node):
+        return False
+    if number in process.table:
+        scene.close(thread, call, number)
+    process.table[number] = Handle(again.path, node, True, "other", again.close_on_exec)
+    scene.recording.add_open(process.pid, call.line, again.members, again.said)
+    return True
 
 
 def _openat2(scene: Scene, thread: Thread, call: Call) -> None:
@@ -99,8 +144,30 @@ def _opened(scene: Scene, thread: Thread, call: Call, base: int | None, path: in
         elif not flags & O_PATH:
             _list_links(scene, thread, call, base, path, result.path)
         succeeded(scene, thread, call, result, flags, gone)
+        if not flags & _NOT_KEPT and result.device is None and not result.deleted:
+            _keep(scene, thread, call, base, path, result, flags)
     elif not flags & O_PATH:
         _failed(scene, thread, call, base, path, flags)
+
+
+def _keep(
+    scene: Scene, thread: Thread, call: Call, base: int | None, path: int, result: Descriptor, flags: int
+) -> None:
+    """Keeps what an opening became; under /proc names change all the time."""
+    handle, real = thread.process.table[result.number], result.path
+    node = handle.node
+    if node is None or node.others or real is None or real[:5] == "/proc" or not handle.in_trace:
+        return
+    walk = None
+    if (text := values.text(call.arguments[path])) != real:
+        if text is None:
+            return
+        of = arguments.descriptor_at(call, base)
+        walk = (of.path if of is not None else None, text)
+    members = _members(scene.there(real, node), result.number, flags, False)
+    over, _, name = real.rpartition("/")
+    said, cloexec, turns = trace_lines.text_of(members), bool(flags & O_CLOEXEC), scene.names.turns
+    call.understood.of = _Reopened(result.number, real, over, name, cloexec, node, turns, members, said, walk)
 
 
 def succeeded(
