@@ -108,6 +108,13 @@ class Events(Apart):
             with self.assertRaisesRegex(Problem, "so it is"):
                 list(log_apart.events(log, {}, Near()))
 
+    def test_where_no_process_can_be_started_this_one_reads(self) -> None:
+        log = self.written(*GOING)
+        ends = strace_log.births(log).ends
+        apart = list(self._to_proc(log_apart.events, log, ends))
+        with mock.patch.object(os, "fork", side_effect=BlockingIOError):
+            self.assertEqual(list(self._to_proc(log_apart.events, log, ends)), apart)
+
     def test_one_processor_reads_itself(self) -> None:
         log = self.written("10  close(3</w/f>) = 0")
         with mock.patch.object(os, "sched_getaffinity", return_value={0}):

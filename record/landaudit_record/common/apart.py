@@ -44,7 +44,11 @@ def pieces(work: Callable[[], Iterable[Any]]) -> Iterator[Any]:
     """Does a work in a process of its own, and yields piece after piece of what it gives. The pieces are what marshal
     writes; the process waits while some of them have not been taken.
     """
-    begun: _Apart[None] = _Apart(partial(_give, work))
+    return _taken(_Apart(partial(_give, work)))
+
+
+def _taken(begun: _Apart[None]) -> Iterator[Any]:
+    """The pieces that a process sends, which ends with the one who takes them."""
     try:
         while piece := begun.piece():
             yield marshal.loads(piece)

@@ -9,7 +9,7 @@ from __future__ import annotations
 
 import os
 from collections.abc import Generator, Iterator, Mapping
-from dataclasses import astuple
+from dataclasses import astuple, replace
 from functools import partial
 from pathlib import Path
 from typing import Any
@@ -34,19 +34,28 @@ def events(path: Path, ends: Mapping[int, str], near: Near) -> Generator[Event, 
         yield from strace_log.events(path, ends, near)
         return
     relative = near.relative
-    taken = yield from _received(partial(_pieces, path, ends, near, 0), near)
+    taken = yield from _received(_sent(path, ends, near, 0), near)
     if near.relative is not relative:
-        yield from _received(partial(_pieces, path, ends, near, taken), near)
+        yield from _received(_sent(path, ends, near, taken), near)
 
 
-def _received(work: partial[Iterator[list[Any]]], near: Near) -> Generator[Event, None, int]:
-    """The events that another process sends, until relative paths may lead through /proc; gives the number of events.
+def _sent(path: Path, ends: Mapping[int, str], near: Near, taken: int) -> Iterator[list[Any]]:
+    """The pieces that another process sends, or this one makes if none can be started."""
+    work = partial(_pieces, path, ends, replace(near), taken)
+    try:
+        return apart.pieces(work)
+    except OSError:
+        return work()
+
+
+def _received(pieces: Iterator[list[Any]], near: Near) -> Generator[Event, None, int]:
+    """The events that a reader sends, until relative paths may lead through /proc; gives the number of events.
 
     A call whose text was sent before has a number alone.
     """
     calls: dict[int, Call] = {}
     relative, taken = near.relative, 0
-    for piece in apart.pieces(work):
+    for piece in pieces:
         for count, said in enumerate(piece, start=1):
             if len(said) == _KNOWN:
                 line, tid, end, number = said
