@@ -454,8 +454,10 @@ impl Compared<'_> {
         somewhere: bool,
         kind: Kind,
     ) -> Result<Vec<Option<MovedTo>>, AllocError>
-        requires old { somewhere ≡ false → MovesNowhere parents.now (map rules_of self.now.old.now) }
-        requires new { somewhere ≡ false → MovesNowhere parents.now (map rules_of self.now.new.now) }
+        requires old { somewhere ≡ false
+            → MovesNowhere parents.now (map rules_of self.now.old.now) }
+        requires new { somewhere ≡ false
+            → MovesNowhere parents.now (map rules_of self.now.new.now) }
         ensures { IfOk result (TellsMoves asked (is_file_in self.now.files.now) parents.now
             (map rules_of self.now.old.now) (map rules_of self.now.new.now) kind) }
     {
