@@ -25,6 +25,10 @@ pub fn complain<E: Write>(fault: ReadFault, err: &mut E) -> u8
         let _ = writeln!(err, "landaudit-rules: no memory");
         return 4;
     }
-    let _ = writeln!(err, "landaudit-rules: line {}: {:?}", fault.line, fault.cause);
+    let _ = writeln!(
+        err,
+        "landaudit-rules: line {}: {:?}",
+        fault.line, fault.cause
+    );
     3
 }
