@@ -19,6 +19,8 @@ _RENAME_FLAGS = frozenset({0, 1, 2, 4, 5})
 _LEAST_SIZE, _OPEN_FLAGS, _ALL_MODES, _RESOLVE_FLAGS, _BENEATH_AND_IN_ROOT = 24, 0o37777703, 0o7777, 0x3F, 0x18
 _LONGEST = (1 << 63) - 1
 _LINK_FLAGS, _UNLINK_FLAGS, _EXEC_FLAGS = 0x1400, 0x200, 0x11100
+#: What some version of name_to_handle_at(2) takes; it looks at the size of the handle once it has followed the path.
+_HANDLE_FLAGS = 0x1603
 _KINDS = frozenset({0, stat.S_IFREG, stat.S_IFCHR, stat.S_IFBLK, stat.S_IFIFO, stat.S_IFSOCK})
 #: Calls without arguments that could be invalid.
 _PLAIN = frozenset(
@@ -60,6 +62,7 @@ _INVALID: Mapping[str, Callable[[Call], bool]] = {
     "renameat2": lambda call: _number(call, 4) not in _RENAME_FLAGS,
     "linkat": lambda call: bool(_number(call, 4) & ~_LINK_FLAGS),
     "unlinkat": lambda call: bool(_number(call, 2) & ~_UNLINK_FLAGS),
+    "name_to_handle_at": lambda call: bool(_number(call, 4) & ~_HANDLE_FLAGS),
     "ftruncate": lambda call: not 0 <= _number(call, 1) <= _LONGEST,
     "ftruncate64": lambda call: not 0 <= _number(call, 1) <= _LONGEST,
     "truncate": lambda call: not 0 <= _number(call, 1) <= _LONGEST,
