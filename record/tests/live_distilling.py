@@ -78,8 +78,14 @@ class LiveDistilling(InFolder):
         said = standing.audited([recording, "--policy", policy])
         assert not isinstance(said, str), said
         self.assertEqual(standing.audited([file, "--policy", policy]), said)
-        self.assertEqual(standing.audited([file, "--policy", policy, "--program", "sh", "--abi", "3"]),
-                         standing.audited([recording, "--policy", policy, "--program", "sh", "--abi", "3"]))
+        program = "--policy", policy, "--program", "sh", "--abi", "3"
+        of_file, of_recording = standing.audited([file, *program]), standing.audited([recording, *program])
+        assert not isinstance(of_file, str) and not isinstance(of_recording, str), (of_file, of_recording)
+        # The calls of a file are in no order, so what the run moves at any time may be moved before the program begins.
+        self.assertLessEqual(set(of_recording["not judged"]), set(of_file["not judged"]))
+        for one in (of_file, of_recording):
+            del one["not judged"], one["status"]
+        self.assertEqual(of_file, of_recording)
         for command, words in (("suggest", []), ("suggest", ["--style", "base"]),
                                ("tighten", []), ("tighten", ["--list"])):
             self.assertEqual(standing.printed(command, [file, "--policy", policy, *words]),

@@ -107,11 +107,15 @@ class Applying(unittest.TestCase):
                 self.assertEqual(self.moved("/var/x", [START, took, run], "dash"), ())
                 self.assertEqual(self.moved(parent, [START, took], "dash", [START, run]), (parent,))
                 self.assertEqual(self.moved(parent, [START, run], "dash", [START, took]), ())
+                self.assertEqual(self.moved(parent, [START, run, took], "dash", in_order=False), (parent,))
+                self.assertEqual(self.moved(parent, [START, run], "dash", [START, took], in_order=False), (parent,))
 
-    def moved(self, parent: str, trace: list[Record], program: str | None, *more: list[Record]) -> tuple[str, ...]:
+    def moved(
+        self, parent: str, trace: list[Record], program: str | None, *more: list[Record], in_order: bool = True
+    ) -> tuple[str, ...]:
         """The parents of a policy with one at which another object may be when a program begins."""
         parts = [write_lines(Path(self.folder, f"{number}.jsonl"), part) for number, part in enumerate([trace, *more])]
-        return applying.moved(policy(parent), TREE, applying.plans(parts, TREE, program))
+        return applying.moved(policy(parent), TREE, applying.plans(parts, TREE, program), in_order=in_order)
 
     def test_a_program_that_never_runs(self) -> None:
         with self.assertRaisesRegex(Problem, "never runs dahs, did you mean dash.*it runs /usr/dash, /usr/ls"):

@@ -123,7 +123,8 @@ def tried(recording: Finished, policy: Policy, program: str | None) -> TriedPoli
     """A policy on a recording, before the first program of each process that it starts or before each run of one."""
     tree = tree_of(recording)
     places = applying.plans([part.trace for part in recording.parts], tree, program, _at_once(recording))
-    known = replace(recording, unknown=applying.not_known(policy, tree), moved=applying.moved(policy, tree, places))
+    moved = applying.moved(policy, tree, places, in_order=not recording.is_distilled)
+    known = replace(recording, unknown=applying.not_known(policy, tree), moved=moved)
     return TriedPolicy(known, policy, program, tree, places)
 
 

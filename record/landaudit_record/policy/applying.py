@@ -235,9 +235,10 @@ def not_known(policy: Policy, tree: Tree) -> tuple[str, ...]:
     return tuple(dict.fromkeys(it.written for it in parents.each(policy, tree) if it.led.unknown is not None))
 
 
-def moved(policy: Policy, tree: Tree, plans: Sequence[Plan]) -> tuple[str, ...]:
+def moved(policy: Policy, tree: Tree, plans: Sequence[Plan], *, in_order: bool = True) -> tuple[str, ...]:
     """The parents at which another object may be when a named program begins than when the run does, each once: the run
-    takes what is there, or is on the way to it, from its name before.
+    takes what is there, or is on the way to it, from its name before. If the calls are not in their order, it may do so
+    whenever it does.
 
     A sandboxer that runs the program puts the rule on the other one.
     """
@@ -245,6 +246,7 @@ def moved(policy: Policy, tree: Tree, plans: Sequence[Plan]) -> tuple[str, ...]:
     for one in plans:
         gone |= one.gone | earlier if one.times else set()
         earlier |= one.all_gone
+    gone = gone if in_order else earlier
     return tuple(dict.fromkeys(it.written for it in parents.each(policy, tree)
                                if not gone.isdisjoint((*upwards(it.led.path), *upwards(it.written)))))
 
