@@ -81,12 +81,10 @@ fn on_tree<R: Clock + Files + Print + AllocGlobal + Threads + Wait + Sync>(
         .ok()
         .context("the trace")?;
     watch.lap("make the trace")?;
-    let places = Vec::new(rt.alloc());
-    let located = Located {
-        tree,
-        trace,
-        places,
-    };
+    let located = Located::of(rt.alloc(), tree, trace)
+        .ok()
+        .context("the places")?;
+    watch.lap("find the places")?;
     settling(rt, watch, input, &located)
 }
 

@@ -10,11 +10,11 @@ ghost use Rattle.ll_pool.specs.Gathered.{ArePiecesOf, processes_in};
 use crate::ground::Ground;
 use crate::keeper::{Keeper, Wanted};
 use crate::order::judge_greatest_first;
-use crate::tests::judging::worked::{V4, expect_answers, is_told, worked_ground};
+use crate::tests::judging::worked::{V4, expect_answers, ground_on, is_told, worked_ground};
 use ll_fixtures::TREE;
 use ll_pool::{assemble, judge_alone};
 use ll_process::{Answer, Case, Job, Piece, judge};
-use ll_trace::{Located, ProcessId, Trace};
+use ll_trace::{ProcessId, Trace};
 use ll_tree::Tree;
 use std::alloc::{AllocError, Global};
 use std::process::Abort;
@@ -64,14 +64,11 @@ fn trace_again(alloc: Global) -> Result<Trace, Fail> {
 }
 
 /// The ground of the case of the trace at version 4. Its tree and its trace are read again where the first reading met
-/// the refusal, and both where settling did, since they went with it.
+/// the refusal, and both where what comes after did, since they went with it.
 fn ground_again(alloc: Global) -> Result<Ground, Fail> {
-    let located = Located {
-        tree: tree_again(alloc)?,
-        trace: trace_again(alloc)?,
-        places: Vec::new(alloc),
-    };
-    match Ground::new(alloc, located, V4) {
+    let tree = tree_again(alloc)?;
+    let trace = trace_again(alloc)?;
+    match ground_on(alloc, tree, trace, V4) {
         Ok(ground) => Ok(ground),
         Err(AllocError) => worked_ground(alloc, TRACE.as_bytes()),
     }

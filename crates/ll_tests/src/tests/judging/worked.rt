@@ -10,7 +10,7 @@ use ll_rights::Abi;
 use ll_rules::{Errno, LayerSet};
 use ll_trace::{Effort, Kernel, Located, Trace};
 use ll_tree::Tree;
-use std::alloc::Global;
+use std::alloc::{AllocError, Global};
 use std::io::Write;
 use std::process::Abort;
 use std::test::Fail;
@@ -61,14 +61,22 @@ pub(crate) const V4: Kernel = Kernel {
     effort: Effort::AsRecorded,
 };
 
-/// The ground of the case of a trace under a kernel.
+/// The ground of the case of a tree and a trace under a kernel.
+pub(crate) fn ground_on(
+    alloc: Global,
+    tree: Tree,
+    trace: Trace,
+    kernel: Kernel,
+) -> Result<Ground, AllocError> {
+    let located = Located::of(alloc, tree, trace)?;
+    Ground::new(alloc, located, kernel)
+}
+
+/// The same of the worked tree.
 fn ground_under(alloc: Global, trace: &[u8], kernel: Kernel) -> Result<Ground, Fail> {
-    let located = Located {
-        tree: Tree::read(alloc, TREE.as_bytes())?,
-        trace: Trace::read(alloc, trace)?,
-        places: Vec::new(alloc),
-    };
-    Ok(Ground::new(alloc, located, kernel)?)
+    let tree = Tree::read(alloc, TREE.as_bytes())?;
+    let trace = Trace::read(alloc, trace)?;
+    Ok(ground_on(alloc, tree, trace, kernel)?)
 }
 
 /// The same at version 4.
