@@ -143,6 +143,28 @@ class Conversions(Apart):
             self.assertEqual(found[0], found[1], log)
 
 
+class Unseen(WrittenLogs):
+    """A process whose start was not seen begins by a call that another process has made before."""
+
+    FAILS = "= -1 ENOENT (No such file or directory)"
+
+    def test_the_first_call_of_a_process_moves_no_directory(self) -> None:
+        whole, first = f'open("n", 0 /* O_RDONLY */) {self.FAILS}', 'open("n", 0 /* O_RDONLY */ <unfinished ...>'
+        lines = [whole, f"11  {first}", 'stat("/w", 0x1) = 0', f"11  <... open resumed>) {self.FAILS}"]
+        for least in (0, log_apart.LEAST):
+            with mock.patch.object(log_apart, "LEAST", least):
+                with mock.patch.object(os, "sched_getaffinity", return_value={0, 1}):
+                    trace = self.convert(*lines)
+            self.assertEqual(self.unsaid(), [(converting.NOT_SEEN_TO_START, True)], least)
+            self.assertEqual(told(trace, "op", "call"), [("open", 2), ("start", 3), ("open", 3)], least)
+
+    def test_a_call_that_ends_during_it_moves_none_either(self) -> None:
+        first = '11  open("n", 0 /* O_RDONLY */ <unfinished ...>'
+        trace = self.convert(first, "close(7) = 0", f"11  <... open resumed>) {self.FAILS}")
+        self.assertEqual(self.unsaid(), [(converting.NOT_SEEN_TO_START, True)])
+        self.assertEqual(told(trace, "op", "call"), [("start", 2), ("open", 2)])
+
+
 class Numbers(unittest.TestCase):
     def test_a_text_keeps_its_number_while_it_comes_again(self) -> None:
         with mock.patch.object(values, "KEPT", 8):

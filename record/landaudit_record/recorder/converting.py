@@ -121,7 +121,11 @@ def _take_call(scene: Scene, about: About, call: Call) -> None:
 
 
 def _started(scene: Scene, about: About, call: Call) -> Thread:
-    """A thread that no fork made: that of the first process, or of a process whose start was not seen."""
+    """A thread that no fork made: that of the first process, or of a process whose start was not seen.
+
+    It is where it is since before this call, whatever call there was before.
+    """
+    scene.call = None
     process = Process(call.tid, user=NOBODY_KNOWN if scene.recording.records else about.user)
     thread = Thread(call.tid, process, Directories("/", "/"))
     scene.go_to(thread, about.directory)
