@@ -275,6 +275,37 @@ class Calls(StraceLines):
         self.convert(call.replace("0x6", "0x2").replace("0x4,", "0,"))
         self.assertEqual(self.unsaid(), ["scopes of a ruleset"])
 
+    def test_a_ruleset_of_scopes_alone_restricts_under_each_of_its_numbers(self) -> None:
+        """Linux 6.18 restricts by it, also by a duplicate, and gives a next ruleset the number that is free again."""
+        attributes = "{handled_access_fs=0, handled_access_net=0, scoped=0x2 /* LANDLOCK_SCOPE_SIGNAL */}"
+        for attached, copy in (("3<anon_inode:[landlock-ruleset]>", "7<anon_inode:[landlock-ruleset]>"), ("3", "7")):
+            with self.subTest(attached):
+                trace = self.convert(
+                    "landlock_create_ruleset({handled_access_fs=0x4}, 8, 0) = 3<anon_inode:[landlock-ruleset]>",
+                    "dup2(3<anon_inode:[landlock-ruleset]>, 5) = 5<anon_inode:[landlock-ruleset]>",
+                    "close(3) = 0",
+                    f"landlock_create_ruleset({attributes}, 24, 0) = {attached}",
+                    f"dup2({attached}, 7) = {copy}",
+                    f"landlock_add_rule({attached}, 0x1, {{allowed_access=0x4, parent_fd=4</w>}}, 0) = -1 EINVAL (X)",
+                    f"landlock_restrict_self({attached}, 0) = 0",
+                    f"close({attached}) = 0",
+                    f"landlock_restrict_self({copy}, 0) = 0",
+                    f"close({copy}) = 0",
+                    "landlock_restrict_self(5, 0) = 0",
+                )
+                self.assertEqual([(one["op"], one["rs"]) for one in trace], [("create", 3), ("restrict", 3)])
+
+    def test_a_number_that_is_another_rulesets_in_the_trace(self) -> None:
+        """The descriptor is no ruleset (landlock_restrict_self(2), EBADFD)."""
+        *_, restrict = self.convert(
+            "landlock_create_ruleset({handled_access_fs=0x4}, 8, 0) = 3<anon_inode:[landlock-ruleset]>",
+            "dup2(3<anon_inode:[landlock-ruleset]>, 5) = 5<anon_inode:[landlock-ruleset]>",
+            "close(3) = 0",
+            f'openat({CWD}, "f", 0) = 3</w/f>',
+            "landlock_restrict_self(3</w/f>, 0) = -1 EBADFD (File descriptor in bad state)",
+        )
+        self.assertGreater(restrict["rs"], 1_000_000)
+
     def test_a_ruleset_that_no_number_names(self) -> None:
         restrict = self.one("landlock_restrict_self(-1, 0) = -1 EBADF (Bad file descriptor)")
         self.assertEqual(restrict["op"], "restrict")

@@ -8,6 +8,9 @@ from ..common.trace_lines import FIRST_MADE_UP
 from .modes import NOBODY_KNOWN, User
 from .names import Node
 
+#: What stands for a ruleset that the trace does not have, in a descriptor and in the layers of a process.
+UNSEEN = -1
+
 
 @dataclass(slots=True)
 class Handle:
@@ -15,11 +18,11 @@ class Handle:
 
     `node` is the object that it is open on, if that has a path and is known. `in_trace` says whether a record opened
     or adopted it; `adopted` is the kind with which it is adopted when it is first needed; `ruleset` is the
-    number that the trace has for the Landlock ruleset that it is; `tcp` is the family of a TCP socket. `foreign` says
-    that the process did not open it, so nobody knows what Landlock kept with it; `placeless` says that it is in a mount
-    that has no place in the tree, `unsure` that nothing says whether it is open on a device, `letters` that it is a UNIX
-    socket for datagrams, `socket` which UNIX socket it is. `terminal` is the path of the terminal of which it is the
-    master, if that was asked for.
+    number that the trace has for the Landlock ruleset that it is, or UNSEEN; `tcp` is the family of a TCP socket.
+    `foreign` says that the process did not open it, so nobody knows what Landlock kept with it; `placeless` says that
+    it is in a mount that has no place in the tree, `unsure` that nothing says whether it is open on a device, `letters`
+    that it is a UNIX socket for datagrams, `socket` which UNIX socket it is. `terminal` is the path of the terminal of
+    which it is the master, if that was asked for.
     """
 
     path: str | None = None

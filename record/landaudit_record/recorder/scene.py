@@ -17,7 +17,7 @@ from .looks import Near
 from .modes import NOBODY_KNOWN
 from .names import OWN_FILES, Found, Names, Node, join, split
 from .ports import Ports
-from .processes import Directories, Handle, Process, Thread
+from .processes import UNSEEN, Directories, Handle, Process, Thread
 from .recordings import RULESET
 from .strace_log import Birth, Births, Call
 from .values import Descriptor
@@ -441,7 +441,7 @@ class Scene:
         if handle is None:
             return
         if handle.ruleset is not None:
-            if not thread.process.holds(handle.ruleset):
+            if handle.ruleset != UNSEEN and not thread.process.holds(handle.ruleset):
                 self.note(thread, call, "close_rs", rs=handle.ruleset)
         elif handle.in_trace:
             self.recording.add_close(thread.process.pid, call.line, number)

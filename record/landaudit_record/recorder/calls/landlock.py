@@ -6,7 +6,7 @@ from ...common.finished import FOREIGN_RULESET, OF_SCOPES
 from ...common.rights import FS, NET, SCOPES, Family
 from .. import values
 from ..unwritten import CannotSay, NotAsked
-from ..processes import Handle, Thread
+from ..processes import UNSEEN, Handle, Thread
 from ..scene import Scene
 from ..strace_log import Call
 from . import arguments, users
@@ -18,8 +18,6 @@ RULE_NET_PORT = 2
 #: The sizes of landlock_ruleset_attr: with rights for files (ABI 1), for ports (ABI 4), with scopes (ABI 6).
 SIZES = (8, 16, 24)
 
-#: What stands for a ruleset of which nothing is known, in the layers of a process.
-UNSEEN = -1
 WITH_FLAGS = "a call of Landlock's with flags"
 #: The flags of landlock_restrict_self(2) that say what the kernel logs (ABI 7). Without a ruleset they make no layer.
 LOGGING = 0b111
@@ -74,7 +72,7 @@ def _create_ruleset(scene: Scene, thread: Thread, call: Call) -> None:
     if call.ok and call.value is not None:
         scene.close(thread, call, call.value)
         number = call.value if not thread.process.holds(call.value) else number
-        scene.put(thread, call, call.value, Handle(close_on_exec=True, ruleset=number if can_be_said else None))
+        scene.put(thread, call, call.value, Handle(close_on_exec=True, ruleset=number if can_be_said else UNSEEN))
     if not can_be_judged(scoped, alone=not can_be_said):
         scene.leave_out(thread, call, OF_SCOPES, asks=True)
     if can_be_said:
@@ -89,7 +87,8 @@ def _unsaid(call: Call, reason: str) -> CannotSay:
 def _ruleset(thread: Thread, call: Call, flags: int, known: int = 0) -> int:
     """The number of the ruleset of a call without flags; a number that names no ruleset gets one of its own.
 
-    Flags that are `known` change no answer if the kernel takes them.
+    It is UNSEEN if the trace does not have the ruleset. Flags that are `known` change no answer if the kernel takes
+    them.
     """
     number, given = values.descriptor(call.arguments[0]).number, arguments.number_at(call, flags)
     if given and number < 0:
@@ -99,7 +98,7 @@ def _ruleset(thread: Thread, call: Call, flags: int, known: int = 0) -> int:
     handle = thread.process.table.get(number)
     if handle is not None and handle.ruleset is not None:
         return handle.ruleset
-    return number if number >= 0 else thread.process.made_up()
+    return number if number >= 0 and not thread.process.holds(number) else thread.process.made_up()
 
 
 def _is_foreign(scene: Scene, thread: Thread, call: Call) -> bool:
@@ -113,6 +112,8 @@ def _add_rule(scene: Scene, thread: Thread, call: Call) -> None:
         raise NotAsked("a rule of a ruleset that came from elsewhere")
     number = _ruleset(thread, call, 3)
     kind = arguments.number_at(call, 1)
+    if number == UNSEEN:
+        raise NotAsked("a rule of a ruleset without a record")
     if call.error == "EFAULT":
         return
     if kind == RULE_PATH_BENEATH:
@@ -164,7 +165,8 @@ def _restrict_self(scene: Scene, thread: Thread, call: Call) -> None:
             raise CannotSay("a thread that restricts itself otherwise than its siblings")
         thread.layers += 1
         return
-    scene.say(thread, call, "restrict", rs=number)
+    if number != UNSEEN:
+        scene.say(thread, call, "restrict", rs=number)
     if call.ok:
         restricted.append(number)
         thread.layers += 1
