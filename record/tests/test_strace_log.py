@@ -98,6 +98,22 @@ class Lines(unittest.TestCase):
         self.assertEqual([*cut.arguments.values()], ["3</a>", "0"])
         self.assertEqual(close.name, "close")
 
+    def test_halves_of_two_calls_are_no_call(self) -> None:
+        """A line between them is missing."""
+        opens, closes, reads = 'openat(3</w>, "f", 0x2', "close(3</f>", "read(3</f>"
+        for first, second in ((opens, "close"), (closes, "openat"), (reads, "openat")):
+            with self.subTest(first):
+                *_, last = read(f"1  {first} <unfinished ...>", "2  getpid() = 2", f"1  <... {second} resumed>) = 0")
+                self.assertEqual(last, UnreadLine(3, 1, f"<... {second} resumed>) = 0"))
+
+    def test_a_move_ends_with_its_own_second_half(self) -> None:
+        with tempfile.TemporaryDirectory() as folder:
+            log = Path(folder) / "strace.txt"
+            lines = ('1  chdir("d" <unfinished ...>', "2  getpid() = 2", "1  <... chdir resumed>) = -1 ENOENT (X)",
+                     "1  fsync(3 <unfinished ...>", "2  getpid() = 2", "1  <... fsync resumed>) = 0")
+            log.write_text("".join(line + "\n" for line in lines), encoding="ascii")
+            self.assertEqual(strace_log.births(log).moves, {})
+
     def test_a_call_that_is_restarted_has_no_value(self) -> None:
         (call,) = read('1  openat(-100, "p", 0) = ? ERESTARTSYS (To be restarted if SA_RESTART is set)')
         assert isinstance(call, Call)

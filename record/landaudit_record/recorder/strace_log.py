@@ -215,17 +215,17 @@ class _Ends:
 
     def __init__(self, found: Births) -> None:
         self._found = found
-        self.wanted: dict[str, int] = {}
+        self.wanted: dict[tuple[str, str], int] = {}
 
     def begin(self, number: int, line: str) -> None:
         """Follows a first half, if it is that of such a call."""
         if begins := _BEGINS.match(line):
-            self.wanted[begins[1]] = number
+            self.wanted[begins[1], begins[2]] = number
 
     def end(self, line: str) -> None:
         """Follows a second half, if it is that of such a call."""
         if ends := _ENDS.match(line):
-            first = self.wanted.pop(ends[1], None)
+            first = self.wanted.pop((ends[1], ends[2]), None)
             if first is not None and (ends[2] not in OPENING or _INTERRUPTED.match(ends[3])):
                 self._found.ends[first] = sys.intern(ends[3])
 
@@ -243,10 +243,11 @@ class _Moves:
             self.begun[begins[1]] = number
 
     def end(self, number: int, line: str) -> None:
-        """Follows a second half: it is that of the thread's last call."""
+        """Follows a second half, if it is that of such a call."""
         tid = line.partition(" ")[0]
-        if tid in self.begun and line.endswith("= 0\n"):
-            self._found.moves.setdefault(int(tid), []).append((self.begun.pop(tid), number))
+        first = self.begun.pop(tid, None) if "chdir resumed>" in line else None
+        if first is not None and line.endswith("= 0\n"):
+            self._found.moves.setdefault(int(tid), []).append((first, number))
 
 
 class _Forks:
@@ -311,7 +312,7 @@ class _StraceReader:
     def __init__(self, ends: Mapping[int, str]) -> None:
         self._ends = ends
         self._begun: dict[int, tuple[int, str]] = {}
-        self._told: set[int] = set()
+        self._told: dict[int, str] = {}
         self._superseding: set[int] = set()
 
     def read(self, number: int, tid: int, text: str) -> Event | None:
@@ -337,16 +338,15 @@ class _StraceReader:
         if end is None:
             self._begun[tid] = number, text
             return None
-        self._told.add(tid)
+        self._told[tid] = text[: text.find("(")]
         return _call(number, tid, text + end)
 
     def _resumes(self, number: int, tid: int, text: str, resumed: re.Match[str]) -> Event | None:
         """The second half of a call, if the call did not take effect at its beginning."""
-        if tid in self._told:
-            self._told.discard(tid)
+        if self._told.pop(tid, None) == resumed[1]:
             return None
         begun = self._begun.pop(tid, None)
-        if begun is None:
+        if begun is None or begun[1][: begun[1].find("(")] != resumed[1]:
             return None if resumed[1] in DROPPED else UnreadLine(number, tid, text)
         end = _DONE if tid in self._superseding else text[resumed.end() :]
         self._superseding.discard(tid)
@@ -357,7 +357,7 @@ class _StraceReader:
 
         That exec has succeeded, whatever strace writes: the other threads end only when it can't fail any more.
         """
-        self._told.discard(tid)
+        self._told.pop(tid, None)
         superseded = _SUPERSEDED.search(text)
         if superseded is None:
             self._begun.pop(tid, None)
