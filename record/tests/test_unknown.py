@@ -287,7 +287,7 @@ class Others(Unknown):
         self.assertEqual(found[-1]["path"], "/s/v2/y~new~")
 
     def test_a_path_that_leads_nowhere_is_no_question(self) -> None:
-        calls = ('mkdir("/s/no/sub", 0755) = -1 ENOENT (No such file or directory)', 'mkdir("/s/no", 0755) = 0')
+        calls = ('mkdir("/s/no/sub", 0755) = -1 ENOENT (No such file or directory)', 'rename("/s/d", "/s/no") = 0')
         self.run_over([seen("/s/no", "dir", new=True)], *calls)
         self.assertEqual(self.unsaid(), [(UNKNOWN_WAY, False)])
 
@@ -339,6 +339,32 @@ class Programs(Unknown):
             with self.subTest(disk):
                 self.assertEqual(self.run_over(disk, run, 'mkdir("/s/x", 0700) = 0')[0]["op"], "exec")
                 self.assertEqual(self.unsaid(), [])
+
+    def test_a_run_of_a_name_at_which_a_later_call_shows_that_nothing_was(self) -> None:
+        """Such calls end in EEXIST or ENOTEMPTY else (open(2), mkdir(2), link(2), rename(2), rmdir(2))."""
+        run, there = self.RUNS.replace("= 0", "= -1 ENOENT (No such file or directory)"), seen("/s/y", "reg", 0)
+        for kind, later in (
+            ("reg", opens("/s/x", "0xc1 /* O_WRONLY|O_CREAT|O_EXCL */, 0755")),
+            ("dir", 'mkdir("/s/x", 0755) = 0'),
+            ("sym", 'symlink("/bin/sh", "/s/x") = 0'),
+            ("reg", 'link("/s/y", "/s/x") = 0'),
+            ("reg", f'renameat2({CWD}, "/s/y", {CWD}, "/s/x", 0x1 /* RENAME_NOREPLACE */) = 0'),
+        ):
+            for disk in ([seen("/s/x", kind, runs=True)], [seen("/s/x", None)]):
+                with self.subTest(later, disk=disk):
+                    self.assertEqual(self.run_over([*disk, there], run, later)[0]["op"], "exec")
+                    self.assertEqual(self.unsaid(), [])
+        for kind, later in ((None, 'rmdir("/s/e") = 0'), ("dir", 'mkdir("/s/e", 0755) = 0')):
+            with self.subTest(later):
+                disk = [seen("/s/e", kind), seen("/s/e/x", "reg" if kind else None, runs=True)]
+                found = self.run_over(disk, run.replace("/s/x", "/s/e/x"), later)
+                self.assertEqual([record["op"] for record in found], ["exec", later[:5]])
+                self.assertEqual(self.unsaid(), [])
+
+    def test_a_later_call_shows_nothing_of_a_name_that_another_one_changed(self) -> None:
+        run, made = self.RUNS.replace("= 0", "= -1 ENOENT (No such file or directory)"), 'mkdir("/s/x", 0755) = 0'
+        self.run_over([seen("/s/x", None)], run, 'unlink("/s/x") = 0', made)
+        self.assertIn((programs.UNKNOWN_PROGRAM, True), self.unsaid())
 
     def test_a_file_that_was_not_to_be_run_when_it_was_first_seen(self) -> None:
         refused = 'execve("/s/x", ["x"], 0x1 /* 2 vars */) = -1 EACCES (Permission denied)'

@@ -49,16 +49,18 @@ class Doubts:
 
     `objects` are the paths at which something else was seen than what was there at first, `programs` the runs of files
     that were read too late, each with its line. `kinds` are the kinds that an object may have had by what later calls
-    did with it.
+    did with it. `shown` has what such a call has shown to have been at one of the paths from the first: a directory, or
+    nothing; each with the line since which the directory above is there.
     """
 
     objects: set[str] = field(default_factory=set)
     programs: set[tuple[str, int]] = field(default_factory=set)
     kinds: dict[str, tuple[str, ...]] = field(default_factory=dict)
+    shown: dict[tuple[str, int], Seen | None] = field(default_factory=dict)
 
     def size(self) -> int:
         """How much there is: it grows until nothing is taken to be known that is not."""
-        return len(self.objects) + len(self.programs) + len(self.kinds)
+        return len(self.objects) + len(self.programs) + len(self.kinds) + len(self.shown)
 
 
 @dataclass(slots=True)
@@ -268,6 +270,8 @@ class Names:
         if origin is None:
             return None
         path = f"{origin}/{name}"
+        if (path, arrived) in self.doubts.shown:
+            return self.doubts.shown[path, arrived]
         observed = self._disk.observed(path)
         if path in self.doubts.objects or observed.until < arrived:
             self._unknown.add(path)
@@ -370,6 +374,28 @@ class Names:
             self.doubts.objects.add(path)
         self._unknown.discard(path)
 
+    def shows(self, path: str, seen: Seen | None) -> None:
+        """Notes what a call has shown to be at a path: if nobody knew it, and no call has changed it, it was there from
+        the first. The next conversion knows it.
+        """
+        of = self._as_first(path)
+        if of[0] in self._unknown:
+            self.doubts.shown[of] = seen
+
+    def shows_empty(self, path: str) -> None:
+        """Notes that a call has shown that a path is one of a directory in which there is nothing."""
+        self.shows(path, Seen("dir"))
+        directory = self.at(path)
+        origin, arrived = directory.looked_up() if directory is not None else (None, 0)
+        self.doubts.shown |= {(one, arrived): None for one in self._unknown if one.rpartition("/")[0] == origin}
+
+    def _as_first(self, path: str) -> tuple[str, int]:
+        """The path at which a name is looked up, and the line since which its directory is there."""
+        over, _, name = path.rpartition("/")
+        directory = self.at(over)
+        origin, arrived = directory.looked_up() if directory is not None else (None, 0)
+        return path if origin is None else f"{origin}/{name}", arrived
+
     def program(self, path: str) -> Program:
         """How the file at a path said that it is run, as the current call runs it."""
         found = self._disk.program(path, self.line)
@@ -390,6 +416,8 @@ class Names:
         late = self._late.get(self._looked_up(path))
         if late is not None and self.line <= late.until:
             self._not_run.setdefault(path, set()).add(self.line)
+        if self._as_first(path) in self.doubts.shown:
+            return False
         return (path, self.line) in self.doubts.programs or self.is_unknown(path)
 
     def changed(self, path: str) -> None:

@@ -20,6 +20,8 @@ AF_UNIX = 1
 def _made(scene: Scene, thread: Thread, call: Call, op: str, spot: Spot, node: Node, **members: str) -> None:
     """A call that makes an object under a name."""
     arguments.led_on(scene, call, spot)
+    if call.ok:
+        scene.names.shows(spot.real, None)
     if call.ok and spot.node is not None:
         spot = scene.absent(spot.real)
     elif call.error == "EEXIST" and spot.node is None and spot.in_directory:
@@ -72,7 +74,10 @@ def _remove(scene: Scene, thread: Thread, call: Call) -> None:
     op = call.name
     if op == "unlinkat":
         op = "rmdir" if arguments.number_at(call, 2) & AT_REMOVEDIR else "unlink"
-    spot = _removed(scene, call, op, _name(scene, thread, call))
+    named = _name(scene, thread, call)
+    if call.ok and op == "rmdir":
+        scene.names.shows_empty(named.real)
+    spot = _removed(scene, call, op, named)
     scene.say(thread, call, op, path=spot.path, **arguments.shown(spot))
     if call.ok and spot.node is not None:
         scene.names.is_of(spot.node, *(("dir",) if op == "rmdir" else NO_DIRECTORIES))

@@ -47,6 +47,7 @@ def _rename(scene: Scene, thread: Thread, call: Call) -> None:
         target = _as_seen_later(scene, call, target, moved.real)
         target = arguments.object_at(scene, call, target, "reg", KINDS)
     elif call.ok and flags & RENAME_NOREPLACE:
+        scene.names.shows(target.real, None)
         target = scene.absent(target.real)
     if moved.node is not None and moved.node is target.node and moved.real == target.real:
         _say_move(scene, thread, call, "rename", moved, scene.missing(target.real), False)
@@ -181,6 +182,8 @@ def _link(scene: Scene, thread: Thread, call: Call) -> None:
         raise CannotSay("a link of a file that has no name")
     if not (call.error == "ENOENT" and _has_no_name(scene, source)):
         source = _source(scene, call, source, target, False)
+    if call.ok:
+        scene.names.shows(target.real, None)
     if call.ok and target.node is not None:
         target = scene.absent(target.real)
     elif call.error == "EEXIST" and target.node is None and target.in_directory:

@@ -284,6 +284,7 @@ def _opened_spot(scene: Scene, path: str, result: Descriptor, flags: int) -> _Op
     if flags & O_TMPFILE == O_TMPFILE:
         return _Opened(_without_name(scene, path))
     if flags & O_CREAT and flags & O_EXCL:
+        scene.names.shows(path, None)
         return _Opened(scene.missing(path) if node is None else scene.absent(path), made=True)
     device = scene.device(result)
     if flags & O_CREAT and device is None and scene.names.may_be_made(path):

@@ -42,7 +42,8 @@ def _spot(scene: Scene, thread: Thread, call: Call, base: int | None, path: int,
         spot = arguments.spot_at(scene, thread, call, base, path, follow)
     except UnknownWay as reason:
         raise CannotSay(UNKNOWN_PROGRAM) if call.error == "ENOENT" else reason from None
-    if call.error == "ENOENT" and spot.node is None and scene.names.may_be_program(spot.real):
+    is_missing = call.error == "ENOENT" and spot.node is None and spot.in_directory
+    if is_missing and scene.names.may_be_program(spot.real):
         raise CannotSay(UNKNOWN_PROGRAM)
     return spot
 
