@@ -49,6 +49,7 @@ class StraceLines(unittest.TestCase):
     uid: int | None = None
     euid: int | None = None
     mounts: list[list[str]] = []
+    protected_hardlinks = False
 
     def setUp(self) -> None:
         self.out = Path(self.enterContext(tempfile.TemporaryDirectory()))
@@ -56,7 +57,7 @@ class StraceLines(unittest.TestCase):
     def convert(self, *calls: str) -> list[jsonl.Record]:
         """The records that calls become, without those of the start and of the first program."""
         about = recordings.About(["p"], "/w", 0.0, False, True, {}, errata=self.errata, uid=self.uid, euid=self.euid,
-                                 mounts=self.mounts)
+                                 mounts=self.mounts, protected_hardlinks=self.protected_hardlinks)
         if self.watched:
             about.watched.append("/w")
             jsonl.write(self.out / recordings.BEFORE, [line for line in DISK if line["path"].startswith("/w/")])

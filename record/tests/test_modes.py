@@ -85,6 +85,33 @@ class Calls(StraceLines):
         self.assertEqual(self.unsaid(), [BY_MODES])
 
 
+class Links(StraceLines):
+    """Links that a kernel with protected hard links refuses: Linux 6.18 says EPERM also under a layer that would refuse
+    them, and EACCES there of the others.
+    """
+
+    uid = 1000
+    protected_hardlinks = True
+
+    def test_which_files_are_not_safe(self) -> None:
+        for bits, kind, uid, forbidden in (
+            (0o644, "reg", 0, True), (0o666, "reg", 0, False), (0o4666, "reg", 0, True), (0o2676, "reg", 0, True),
+            (0o2666, "reg", 0, False), (0o600, "reg", 1000, False), (0o777, "sym", 0, True), (0o666, "fifo", 0, True),
+        ):
+            with self.subTest(bits=oct(bits), kind=kind, uid=uid):
+                self.assertEqual(modes.forbid_link(ME, Mode(bits, uid, 0), kind), forbidden)
+        self.assertFalse(modes.forbid_link(ME, None, "reg"))
+        self.assertTrue(modes.forbid_link(ME, None, "sym"))
+
+    def test_they_are_no_question_to_landlock(self) -> None:
+        link = 'link("/w/{}", "/w/n") = -1 EPERM (Operation not permitted)'
+        self.assertEqual(self.convert(link.format("theirs")), [])
+        self.assertEqual(self.unsaid(), ["EPERM of a protected hard link, before Landlock is asked"])
+        self.assertEqual([record["op"] for record in self.convert(link.format("f"))], ["link"])
+        self.protected_hardlinks = False
+        self.assertEqual([record["op"] for record in self.convert(link.format("theirs"))], ["link"])
+
+
 class Privileged(StraceLines):
     def test_modes_do_not_count_for_who_has_privileges(self) -> None:
         trace = self.convert(

@@ -61,6 +61,7 @@ def _convert(
         births = strace_log.births(log)
         scene = Scene(names, kept, recording, births, ports, reads_links=about.readlink)
         scene.hides, scene.hides_not_from = about.hidepid, about.hidepid_group
+        scene.protects_links = about.protected_hardlinks
         with closing(log_apart.events(log, births.ends, scene.near)) as events:
             for event in events:
                 if isinstance(event, Call):

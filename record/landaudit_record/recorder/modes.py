@@ -2,6 +2,7 @@
 
 from __future__ import annotations
 
+import stat
 from collections.abc import Callable, Iterator, Mapping
 from dataclasses import dataclass, replace
 from typing import Any
@@ -79,6 +80,19 @@ def refuse(
         if not asker.may(mode_of(path), wanted) or not let_through(asker, mode_of, path):
             return True
     return False
+
+
+def forbid_link(asker: Credentials, mode: Mode | None, kind: str) -> bool:
+    """Whether nobody but its owner and root may link an object (proc_sys_fs(5), `protected_hardlinks`): a regular file
+    only if who links it may read and write it, and does not get a program that runs as another user or group by it.
+
+    Nobody knows who owns a symbolic link; on file systems that have these, its owner may link it.
+    """
+    if kind == "sym" or mode is None or asker.uid in (mode.uid, ROOT_USER):
+        return kind == "sym" and asker.uid != ROOT_USER
+    runs_as_group = stat.S_ISGID | stat.S_IXGRP
+    runs_as_other = mode.bits & stat.S_ISUID or mode.bits & runs_as_group == runs_as_group
+    return kind != "reg" or bool(runs_as_other) or not asker.may(mode, READ | WRITE)
 
 
 def let_through(asker: Credentials, mode_of: Callable[[str], Mode | None], path: str) -> bool:

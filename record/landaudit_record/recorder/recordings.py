@@ -52,7 +52,7 @@ class About:
     systems that were taken from their servers during the run. `too_large` are directories that were to be listed and
     hold too many objects. `machine` tells the machine from others, "" if it is not known. `mounts` are those of the
     command's namespace when the run began, each with its place, its device, the directory of the file system that it
-    shows, and its type.
+    shows, and its type. `protected_hardlinks` is what the kernel's setting of this name was.
     `by` is the recorder: STRACE or WITNESS.
     """
 
@@ -81,6 +81,7 @@ class About:
     machine: str = ""
     by: str = STRACE
     mounts: list[list[str]] = field(default_factory=list)
+    protected_hardlinks: bool = False
 
     @property
     def untraced(self) -> tuple[str, ...]:
@@ -186,6 +187,14 @@ def hides_processes(mounts: Path = mounted.MOUNTS) -> tuple[bool, int | None]:
     hides = options.get("hidepid", "off") not in ("0", "off")
     has_group = hides and options["hidepid"] not in ("4", "ptraceable")
     return hides, int(options.get("gid", ROOT_USER)) if has_group else None
+
+
+def protects_hardlinks(setting: Path = Path("/proc/sys/fs/protected_hardlinks")) -> bool:
+    """Whether the kernel lets nobody link what others own and what is not safe (proc_sys_fs(5))."""
+    try:
+        return setting.read_text(encoding="ascii").strip() == "1"
+    except OSError:
+        return False
 
 
 def is_admin() -> bool:

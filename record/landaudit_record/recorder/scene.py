@@ -99,7 +99,7 @@ class Scene:
     `placeless` says whether there was a descriptor that is in a mount without a place. `through` are the processes
     whose links in /proc a path of this call goes through, `near` says which paths may, `reads_links` whether
     readlink(2) was traced, and `hides` whether all of a process in /proc is only for those who may trace it, and for
-    the group `hides_not_from`. `sockets` has the makers of UNIX sockets, each with the moment, and `abstract` which are
+    the group `hides_not_from`. `protects_links` says whether file modes count for links (proc_sys_fs(5)). `sockets` has the makers of UNIX sockets, each with the moment, and `abstract` which are
     the sockets that have an abstract name (None if nobody knows who made it); `ended` are the processes that ended last.
     `networks` says that a process went to another network namespace, which has abstract names of its own.
     """
@@ -131,6 +131,7 @@ class Scene:
         self.reads_links = reads_links
         self.hides = False
         self.hides_not_from: int | None = None
+        self.protects_links = False
         self.sockets: dict[str, tuple[int, int]] = {}
         self.abstract: dict[str, str | None] = {}
         self.networks = False

@@ -343,4 +343,5 @@ def _about(command: list[str], seen: recordings.Watched, strace: str = "") -> re
         hidepid_group=group,
         machine=surroundings.machine(),
         mounts=[[it.place, it.device, it.root, it.kind] for it in mounted.mounts() if not it.hidden],
+        protected_hardlinks=recordings.protects_hardlinks(),
     )

@@ -4,6 +4,7 @@ from __future__ import annotations
 
 from typing import Any
 
+from .. import modes
 from ..unwritten import CannotSay, NotAsked
 from ..names import KINDS, NO_DIRECTORIES, OF_KIND, REPLACED_OR_NOT, Node
 from ..processes import Thread
@@ -182,6 +183,8 @@ def _link(scene: Scene, thread: Thread, call: Call) -> None:
         raise CannotSay("a link of a file that has no name")
     if not (call.error == "ENOENT" and _has_no_name(scene, source)):
         source = _source(scene, call, source, target, False)
+    if call.error == "EPERM" and _is_protected(scene, thread, source):
+        raise NotAsked("EPERM of a protected hard link, before Landlock is asked")
     if call.ok:
         scene.names.shows(target.real, None)
     if call.ok and target.node is not None:
@@ -195,6 +198,14 @@ def _link(scene: Scene, thread: Thread, call: Call) -> None:
     if call.ok:
         scene.names.put(target.real, source.node)
         scene.names.stays(target.real)
+
+
+def _is_protected(scene: Scene, thread: Thread, source: Spot) -> bool:
+    """Whether the kernel lets a process link no such object of another user, which it finds before it asks Landlock."""
+    asker, node = thread.process.user.asker, source.node
+    if asker is None or node is None or not scene.protects_links:
+        return False
+    return modes.forbid_link(asker, scene.disk.mode(source.real), node.kind)
 
 
 def _has_no_name(scene: Scene, source: Spot) -> bool:
