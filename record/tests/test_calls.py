@@ -8,7 +8,7 @@ from __future__ import annotations
 
 from unittest import mock
 
-from landaudit_record.common import jsonl
+from landaudit_record.common import finished, jsonl
 from landaudit_record.common.trace_lines import FIRST_MADE_UP
 from landaudit_record.recorder import recordings
 from landaudit_record.recorder.calls import descriptors
@@ -294,6 +294,12 @@ class Calls(StraceLines):
                     "landlock_restrict_self(5, 0) = 0",
                 )
                 self.assertEqual([(one["op"], one["rs"]) for one in trace], [("create", 3), ("restrict", 3)])
+
+    def test_a_layer_that_the_trace_does_not_have_is_one(self) -> None:
+        for beside in ("scoped=0x2", "..."):
+            made = f"landlock_create_ruleset({{handled_access_fs=0, {beside}}}, 24, 0) = 3<anon_inode:[landlock-ruleset]>"
+            self.assertEqual(self.convert(made, "landlock_restrict_self(3<anon_inode:[landlock-ruleset]>, 0) = 0"), [])
+            self.assertTrue(finished.opened(str(self.out)).has_layers())
 
     def test_a_number_that_is_another_rulesets_in_the_trace(self) -> None:
         """The descriptor is no ruleset (landlock_restrict_self(2), EBADFD)."""

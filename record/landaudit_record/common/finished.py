@@ -35,6 +35,10 @@ REACH = "reach.jsonl"
 FOREIGN_RULESET = "a layer of a ruleset that came from elsewhere"
 #: The class of what a ruleset has beside rights; its `create` has the names, unless it has nothing else.
 OF_SCOPES = "scopes of a ruleset"
+#: The classes of rulesets that a trace does not have, as of those that it does not have whole.
+NOT_DECODED = " (strace before 6.7 does not decode it: see --port-rules)"
+BESIDE_FILES = "what a ruleset handles beside files" + NOT_DECODED
+_OF_RULESETS = frozenset({FOREIGN_RULESET, OF_SCOPES, BESIDE_FILES})
 #: The files that `landaudit-record run` writes and from which a recording can be converted.
 RECORDED = ("recording.json", "strace.txt", "strace.txt.gz")
 
@@ -190,7 +194,7 @@ class Finished:
     def has_layers(self) -> bool:
         """Whether a process of the recording restricts itself, also by a layer that the trace does not have."""
         told_of = (record for part in self.parts for _, record in told(part.trace, heads({"restrict"})))
-        return FOREIGN_RULESET in self.holes or any(record.get("op") == "restrict" for record in told_of)
+        return not _OF_RULESETS.isdisjoint(self.holes) or any(record.get("op") == "restrict" for record in told_of)
 
     def _of_scopes(self) -> Iterator[str]:
         """The calls that the policy's scopes may refuse and of which it is not known whom they reach."""

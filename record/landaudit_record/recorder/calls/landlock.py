@@ -2,7 +2,7 @@
 
 from __future__ import annotations
 
-from ...common.finished import FOREIGN_RULESET, OF_SCOPES
+from ...common.finished import BESIDE_FILES, FOREIGN_RULESET, NOT_DECODED, OF_SCOPES
 from ...common.rights import FS, NET, SCOPES, Family
 from .. import values
 from ..unwritten import CannotSay, NotAsked
@@ -21,7 +21,6 @@ SIZES = (8, 16, 24)
 WITH_FLAGS = "a call of Landlock's with flags"
 #: The flags of landlock_restrict_self(2) that say what the kernel logs (ABI 7). Without a ruleset they make no layer.
 LOGGING = 0b111
-NOT_DECODED = " (strace before 6.7 does not decode it: see --port-rules)"
 
 
 def named(bits: int, family: Family) -> list[str] | None:
@@ -42,7 +41,7 @@ def _handled(scene: Scene, thread: Thread, call: Call) -> tuple[list[str] | None
     if "..." not in argument:
         return named(files, FS), named(ports, NET), scopes_of(scoped)
     if of_policy is None:
-        scene.leave_out(thread, call, "what a ruleset handles beside files" + NOT_DECODED, asks=True)
+        scene.leave_out(thread, call, BESIDE_FILES, asks=True)
     return named(files, FS), of_policy or None, scopes if arguments.number_at(call, 1) == SIZES[-1] else []
 
 
