@@ -95,9 +95,13 @@ class Applying(unittest.TestCase):
             {"op": "unlink", "path": "/bin"},
             {"op": "rename", "from": "/usr", "to": "/var"},
             {"op": "rename", "from": "/x", "to": "/usr/ls", "exchange": True},
+            {"op": "rename", "from": "/x", "to": "/usr/ls"},
+            {"op": "rename", "from": "/x", "to": "/sh"},
+            {"op": "unlink", "path": "/bin"},
         ]
         run = {**RUN, "path": "/usr/dash", "call": 9}
-        for parent, number in (("/usr/ls", 0), ("/bin/ls", 0), ("/bin/dash", 1), ("/usr/dash", 2), ("/usr/ls", 3)):
+        for parent, number in (("/usr/ls", 0), ("/bin/ls", 0), ("/bin/dash", 1), ("/usr/dash", 2), ("/usr/ls", 3),
+                               ("/usr/ls", 4), ("/sh", 5), ("/sh", 6)):
             took = {"pid": 10, "call": 7, "kernel": "ok", **taken[number]}
             with self.subTest(parent, taken=taken[number]):
                 self.assertEqual(self.moved(parent, [START, took, run], "dash"), (parent,))

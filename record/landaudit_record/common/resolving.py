@@ -11,7 +11,7 @@ import errno
 import os
 import re
 import stat
-from dataclasses import dataclass
+from dataclasses import dataclass, field
 from typing import Protocol
 
 
@@ -102,8 +102,8 @@ class Walked:
 
     `unknown` is the first path on the way where it is not known what is there, `blocked` the first one that is no
     directory although the path goes on from it: then the kernel opens nothing. `now` has the links on the way that were
-    looked up on this disk. `only_directory` says that the path leads to nothing but a directory, as one that ends with
-    a slash.
+    looked up on this disk, `links` has all of them. `only_directory` says that the path leads to nothing but a
+    directory, as one that ends with a slash.
     """
 
     path: str
@@ -111,6 +111,7 @@ class Walked:
     blocked: str | None = None
     now: tuple[str, ...] = ()
     only_directory: bool = False
+    links: tuple[str, ...] = field(default=(), compare=False)
 
     @property
     def is_sure(self) -> bool:
@@ -130,10 +131,11 @@ def walked(path: str, known: KnownObjects) -> Walked:
     """
     todo = path.split("/")[::-1]
     only_directory = todo[0] in ("", ".", "..")
-    here, at, links = ROOT, DIRECTORY, 0
+    here, at = ROOT, DIRECTORY
     unknown: str | None = None
     blocked: str | None = None
     now: list[str] = []
+    links: list[str] = []
     while todo:
         name = todo.pop()
         if _ends(at, name):
@@ -149,13 +151,13 @@ def walked(path: str, known: KnownObjects) -> Walked:
         if found is None or found.target is None:
             here, at = there, found or DIRECTORY
             continue
-        links += 1
-        if links > MOST_LINKS:
+        links.append(there)
+        if len(links) > MOST_LINKS:
             raise LinkLoop(path)
         now += [there] if found.now else []
         here = ROOT if found.target.startswith("/") else here
         todo.extend(found.target.split("/")[::-1])
-    return Walked(here, unknown, blocked, tuple(now), only_directory)
+    return Walked(here, unknown, blocked, tuple(now), only_directory, tuple(links))
 
 
 def _ends(at: Met, name: str) -> bool:

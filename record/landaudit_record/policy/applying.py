@@ -59,8 +59,8 @@ class Plan:
     `before` has the lines before which it goes, each with the process; `behind` has the lines after which it goes,
     since they repeat for a process what it had when it ran a program. `rs` is a ruleset number that the trace never
     uses, `lines` the number of its lines, and `programs` the programs that it runs. `own` has what its rulesets handle.
-    Before a named program, `gone` has the names that the trace takes from objects before it runs, and `all_gone` all
-    that it takes from any.
+    Before a named program, `gone` has the names that the trace takes from objects, or gives to others in their place,
+    before it runs, and `all_gone` all of these.
     """
 
     before: dict[int, int]
@@ -130,8 +130,8 @@ class _Planning:
             self._rs = max(self._rs, _number(self._trace, number, record, "rs"))
         about = record.get("child", pid)
         if record.get("op") in _TAKING and record.get("kernel") == "ok" and self._named is not None:
-            ends = ("path", "from", "to") if record.get("exchange") else ("path", "from")
-            self._all_gone.update(record[end] for end in ends if end in record)
+            taken = (record[end] for end in ("path", "from", "to") if end in record)
+            self._all_gone.update(path for path in taken if path in self._tree.kinds)
         if record.get("op") == "create":
             self._own.add(Handled.of(record))
         if (record.get("op") == "start" and "again" not in record) or "starting" in record:
@@ -247,8 +247,8 @@ def moved(policy: Policy, tree: Tree, plans: Sequence[Plan], *, in_order: bool =
         gone |= one.gone | earlier if one.times else set()
         earlier |= one.all_gone
     gone = gone if in_order else earlier
-    return tuple(dict.fromkeys(it.written for it in parents.each(policy, tree)
-                               if not gone.isdisjoint((*upwards(it.led.path), *upwards(it.written)))))
+    ways = ((it.written, (it.written, it.led.path, *it.led.links)) for it in parents.each(policy, tree))
+    return tuple(dict.fromkeys(written for written, way in ways if any(not gone.isdisjoint(upwards(on)) for on in way)))
 
 
 def notes_on_way(parent: Parent) -> Iterator[str]:
