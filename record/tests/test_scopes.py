@@ -114,6 +114,8 @@ class Written(WrittenLogs):
         for pid in ("0", "-1", "-7", "-10"):
             self.assertEqual(self.counted(f"kill({pid}, 15 /* SIGTERM */) = 0"), {SIGNAL: 1})
             self.assertEqual(self.reached(f"kill({pid}, 15 /* SIGTERM */) = 0"), [])
+        by_descriptor = "pidfd_send_signal(3<pid:1>, 15 /* SIGTERM */, NULL, 0x4) = 0"
+        self.assertEqual((self.counted(by_descriptor), self.reached(by_descriptor)), ({SIGNAL: 1}, []))
 
     def test_signals_of_a_descriptor(self) -> None:
         for pid, times in (("1", 1), ("-7", 1), ("10", 0), ("0", 0)):

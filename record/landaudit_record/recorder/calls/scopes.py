@@ -19,6 +19,8 @@ from . import arguments, ptrace
 _AT = "@"
 _CHOSEN = re.compile("@[0-9a-f]{5}")
 _REFUSED = "EPERM"
+#: With it, a signal by a descriptor of a process is one to the process's group (pidfd_send_signal(2)).
+_TO_GROUP = 4
 #: The index of the address of sendto(2).
 _ADDRESS = 4
 
@@ -40,7 +42,9 @@ def _signals(index: int) -> Handler:
 
 def _by_pidfd(scene: Scene, thread: Thread, call: Call) -> None:
     pid = ptrace.pid_behind(call)
-    if pid is not None and _is_asked(thread, call):
+    if arguments.number_at(call, 3) & _TO_GROUP and _is_asked(thread, call):
+        _count(scene, thread, call, SIGNAL)
+    elif pid is not None and _is_asked(thread, call):
         ptrace.reached(scene, thread, call, SIGNAL, [pid])
 
 
