@@ -297,8 +297,8 @@ class Calls(StraceLines):
 
     def test_a_layer_that_the_trace_does_not_have_is_one(self) -> None:
         for beside in ("scoped=0x2", "..."):
-            made = f"landlock_create_ruleset({{handled_access_fs=0, {beside}}}, 24, 0) = 3<anon_inode:[landlock-ruleset]>"
-            self.assertEqual(self.convert(made, "landlock_restrict_self(3<anon_inode:[landlock-ruleset]>, 0) = 0"), [])
+            made = f"landlock_create_ruleset({{handled_access_fs=0, {beside}}}, 24, 0) = 3"
+            self.assertEqual(self.convert(made, "landlock_restrict_self(3, 0) = 0"), [])
             self.assertTrue(finished.opened(str(self.out)).has_layers())
 
     def test_a_number_that_is_another_rulesets_in_the_trace(self) -> None:

@@ -45,6 +45,20 @@ class Beyond(WrittenLogs):
             [("open", "/w/f", "rw", "ok"), ("open", "/w/f", "r", "EACCES"), ("close", None, None, None)],
         )
 
+    def test_a_file_that_was_moved_by_its_handle(self) -> None:
+        """Linux 6.18 opens the object of the handle, at the name that it has by now (name_to_handle_at(2))."""
+        self.disk = [{**line, "until": 0} for line in DISK]
+        handle = r'{handle_bytes=8, handle_type=1, f_handle="\x25\x6e"}'
+        known = f'name_to_handle_at({CWD}, "f", {handle}, [27], 0) = 0'
+        opened = f"open_by_handle_at(5</w>, {handle}, 0x1 /* O_WRONLY */) = 3"
+        found = self.convert(known, 'rename("/w/f", "/w/d/f") = 0', opened)
+        self.assertEqual((found[-1]["op"], found[-1]["path"]), ("open", "/w/d/f"))
+        moves = 'rename("/w/f", "/w/d/f") = 0', 'rename("/w/d", "/w/e") = 0'
+        self.assertEqual(self.convert(known, *moves, opened)[-1]["path"], "/w/e/f")
+        for gone in ('unlink("/w/f") = 0', f'name_to_handle_at({CWD}, "g", {handle}, [31], 0) = 0'):
+            self.convert(known, gone, opened)
+            self.assertEqual(self.unsaid(), [(inexpressible.BY_HANDLE, True)])
+
     def test_a_file_by_a_handle_of_which_nothing_is_known(self) -> None:
         handle = r'{handle_bytes=8, handle_type=1, f_handle="\x25\x6e"}'
         self.assert_hole(inexpressible.BY_HANDLE, f"open_by_handle_at(5</w>, {handle}, 0 /* O_RDONLY */) = 3")

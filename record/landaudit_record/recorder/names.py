@@ -483,6 +483,16 @@ class Names:
                 self._reached[over] = directory
         return self.child(directory, name)
 
+    def path_of(self, node: Node) -> str | None:
+        """The real path of an object by the name that it got last; None if it does not have that any more."""
+        names: list[str] = []
+        while node is not self.root:
+            if node.over is None or node.over.children.get(node.name) is not node:
+                return None
+            names.append(node.name)
+            node = node.over
+        return join(names[::-1])
+
     def meets(self, over: str, name: str, node: Node) -> bool:
         """Whether an object is at a name in a directory to which a walk has led, as a call shows; false too if nobody
         knows without another walk.

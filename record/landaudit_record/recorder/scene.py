@@ -137,7 +137,7 @@ class Scene:
         self.networks = False
         self.ended: dict[int, Process] = {}
         self.ruled: list[tuple[str, Node]] = []
-        self.handles: dict[str, str] = {}
+        self.handles: dict[str, Node | None] = {}
         self._opened_sockets: dict[Node, Node] = {}
         self._walked: set[tuple[str, str, str]] = set()
         self._links: ThreadLinks | None = None

@@ -48,11 +48,12 @@ def _io_uring_enter(scene: Scene, thread: Thread, call: Call) -> None:
 
 
 def _name_to_handle_at(scene: Scene, thread: Thread, call: Call) -> None:
-    """Keeps the path of a handle."""
+    """Keeps the object of a handle; nobody knows which it is if another object has the same, in another file system."""
     handle = values.member(call.arguments[2], "f_handle")
     if call.ok and handle is not None:
         follow = bool(arguments.number_at(call, 4) & arguments.AT_SYMLINK_FOLLOW)
-        scene.handles[handle] = arguments.spot_at(scene, thread, call, 0, 1, follow).real
+        node = arguments.spot_at(scene, thread, call, 0, 1, follow).node
+        scene.handles[handle] = node if scene.handles.get(handle, node) is node else None
 
 
 def _open_by_handle_at(scene: Scene, thread: Thread, call: Call) -> None:
@@ -61,8 +62,8 @@ def _open_by_handle_at(scene: Scene, thread: Thread, call: Call) -> None:
     if call.ok and call.value is not None:
         scene.close(thread, call, call.value)
     handle = values.member(call.arguments[1], "f_handle")
-    path = scene.handles.get(handle) if handle is not None else None
-    node = scene.names.at(path) if path is not None else None
+    node = scene.handles.get(handle) if handle is not None else None
+    path = scene.names.path_of(node) if node is not None else None
     if path is None or node is None:
         raise CannotSay(BY_HANDLE)
     flags = arguments.number_at(call, 2)
