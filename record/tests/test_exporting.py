@@ -301,6 +301,16 @@ class OfPrograms(Folder):
         status, _, errors = self.export(LAYER + rule('["read"]', '"/$${x}"'), "--landlockconfig")
         self.assertEqual((status, "landlockconfig can't name '/${x}'" in errors), (3, True))
 
+    def test_layers_that_are_joined_are_told(self) -> None:
+        layers = "".join(f'[[layer]]\nhandled_access_fs = ["{right}"]\n' + rule(f'["{right}"]', '"TOP/a"')
+                         for right in ("read_file", "write_file"))
+        for form in ("setpriv", "landrun", "landlockconfig"):
+            with self.subTest(form):
+                status, _, notes = self.export(layers, f"--{form}", *(["--widen"] if form == "landrun" else []))
+                said = f"note: {form} has one layer: the 2 layers of the policy are joined to it\n"
+                self.assertEqual((status, said in notes), (0, True))
+                self.assertNotIn("joined", self.export(layers.partition("[[layer]]\n")[0] + LAYER, f"--{form}")[2])
+
     def test_a_right_of_directories_on_a_file(self) -> None:
         for form in ("setpriv", "landrun", "landlockconfig"):
             status, _, errors = self.export(LAYER + rule('["read_dir"]', '"TOP/f"'), f"--{form}", "--widen")

@@ -88,6 +88,8 @@ def flat(policy: Policy, form: str, *, with_missing: bool) -> Flat:
         found.paths += [replace(on, rights=rights) for on in on_paths[layer.number] if (rights := on.rights & here)]
         found.ports += [replace(on, rights=rights) for on in _ports(layer) if (rights := on.rights & here)]
     found.scoped = tuple(scope for scope in SCOPES if scope in policy.scoped)
+    if len(layers) > 1 and not found.losses:
+        found.notes.append(f"{form} has one layer: the {len(layers)} layers of the policy are joined to it")
     return found
 
 
