@@ -4,6 +4,7 @@ from __future__ import annotations
 
 import random
 import shutil
+import socket
 import subprocess
 import sys
 import tempfile
@@ -227,6 +228,41 @@ parent = "@"
                 self.assertEqual(self.point("[[allowed]]\n" + case, policy.format(asked))[0], 0)
                 self.assertEqual(self.point("[[refused]]\n" + case, policy.format(other))[0], 0)
                 self.assertEqual(self.point("[[allowed]]\n" + case, policy.format(other))[0], 1)
+
+    def test_calls_that_end_in_errors_of_their_own_but_are_asked_about_before(self) -> None:
+        """What each asks was seen on Linux 6.18: they end in ENXIO, EPERM, EISDIR or ENOTDIR unless a layer refuses them;
+        only the moves of a path to itself succeed.
+        """
+        with socket.socket(socket.AF_UNIX) as bound:
+            bound.bind(str(self.folder / "open" / "socket"))
+        (self.folder / "open" / "in").mkdir()
+        on_file, ends = '[[{}]]\ncall = "{}"\npath = "@/open/socket"\n', '[[{}]]\ncall = "{}"\nfrom = "{}"\nto = "{}"\n'
+        for case, words, asked in (
+            (on_file, ("open r",), {"read_file"}),
+            (on_file, ("open w",), {"write_file"}),
+            (ends, ("link", "@/open/in", "@/open/new"), {"make_dir"}),
+            (ends, ("rename", "@/open/in", "@/open/file"), {"make_dir", "remove_dir", "remove_file"}),
+            (ends, ("rename", "@/open/file", "@/open/in"), {"make_reg", "remove_dir", "remove_file"}),
+            (ends, ("rename", "@/open/in", "@/closed/file"), {"make_dir", "remove_dir", "remove_file", "refer"}),
+            (ends, ("rename", "@/open/file", "@/open/file"), {"make_reg", "remove_file"}),
+            (ends, ("exchange", "@/open/in", "@/open/in"), {"make_dir", "remove_dir"}),
+        ):
+            for right in ("read_file", "write_file", "make_dir", "make_reg", "remove_dir", "remove_file", "refer"):
+                layer = f'[[layer]]\nhandled_access_fs = ["{right}"]\n'
+                if right != "refer":
+                    layer += '[[layer.path_beneath]]\nallowed_access = ["refer"]\nparent = "@"\n'
+                    layer = layer.replace('"]', '", "refer"]', 1)
+                must_be = "refused" if right in asked else "allowed"
+                with self.subTest(words, right=right):
+                    status, _, errors = self.checked(case.format(must_be, *words) + 'abi = "2-5"\n', layer)
+                    self.assertEqual((status, errors), (0, ""))
+        layer = '[[layer]]\nhandled_access_fs = ["read_file"]\n[[layer.path_beneath]]\nallowed_access = ["read_file"]\n'
+        status, *_ = self.checked(on_file.format("allowed", "open r"), layer + 'parent = "@/open/socket"\n')
+        self.assertEqual(status, 0)
+
+    def test_a_link_of_a_directory_in_another_one_is_not_judged(self) -> None:
+        status, _, errors = self.checked('[[refused]]\ncall = "link"\nfrom = "@/open"\nto = "@/work/new"\n')
+        self.assertEqual((status, "@/open is a directory: its link in another one is not judged" in errors), (3, True))
 
     def test_random_cases_about_files_of_this_disk(self) -> None:
         cases = []

@@ -23,10 +23,11 @@ from typing import Any
 
 from ..common import resolving, variables
 from ..common.documents import DocumentPlace, check_keys, tables, unknown
+from ..common.jsonl import Record
 from ..common.numbered import Numbered
 from ..common.operations import DESCRIPTOR_CALLS, EXCHANGE, JUDGED, MAKING, OPERATIONS, REMOVING
 from ..common.resolving import DISK, LinkLoop
-from ..common.trees import ROOT, Tree, directory_of, joined
+from ..common.trees import ROOT, Tree, directory_of, joined, upwards
 from ..common.variables import NOTHING_GIVEN, Given
 from ..recorder import disk
 from ..recorder.disk import MOST_INTERPRETERS
@@ -49,7 +50,7 @@ CALLS = tuple(word + rest for of in OPERATIONS.values() if of.name in JUDGED
               for word in ((of.name, EXCHANGE) if EXCHANGE in of.optional else (of.name,))
               for rest in WORDS.get(word, [""]))
 KEYS = ("call", "path", "kind", "from", "to", "to_kind", "port", "abi")
-NEW_NAME, OTHER_KIND = "~new~", "~other kind~"
+NEW_NAME, OTHER_KIND, AS_PIPE = "~new~", "~other kind~", "~pipe~"
 #: The place of a call that has none.
 NO_PLACE = "-"
 
@@ -161,6 +162,7 @@ class _CaseReader:
             mode, *flags = words
             makes = "create" in flags
             path = self._there("path", "kind", follows=True, or_new=makes)
+            path = self._as_pipe(path) if self.tree.kind(path) == "sock" else path
             return (opening(path, mode, **{flag: True for flag in flags}),)
         if op in MAKING:
             return ({"op": op, "path": self._new("path"), **dict(zip(OPERATIONS[op].values, words))},)
@@ -189,9 +191,24 @@ class _CaseReader:
     def _move(self, op: str) -> Question:
         moved = self._there("from", "kind", follows=False)
         there = self._there("to", "to_kind", follows=False, or_new=op != EXCHANGE)
+        kind, replaced, new = self.tree.kind(moved), self.tree.kind(there), f"{there}{NEW_NAME}"
+        if op == "link" and kind == "dir" and replaced is None:
+            return (self._linked_directory(moved, there),)
+        if op != "link" and moved == there != ROOT:
+            return ({"op": "rename", "from": moved, "to": new},)
         if op == EXCHANGE:
             return ({"op": "rename", "from": moved, "to": there, EXCHANGE: True},)
-        return ({"op": op, "from": moved, "to": there},)
+        unlike = replaced is not None and (kind == "dir") != (replaced == "dir")
+        if op == "link" or not unlike or moved in upwards(there) or there in upwards(moved):
+            return ({"op": op, "from": moved, "to": there},)
+        removal = {"op": "rmdir" if replaced == "dir" else "unlink", "path": there}
+        return removal, {"op": "rename", "from": moved, "to": new}
+
+    def _linked_directory(self, directory: str, new: str) -> Record:
+        """A link of a directory, which no file system makes: the kernel says so after it has asked Landlock."""
+        if directory_of(directory) != directory_of(new):
+            (self.place / "from").fault(f"{directory} is a directory: its link in another one is not judged here")
+        return {"op": "mkdir", "path": new}
 
     def _there(self, key: str, kind_key: str, *, follows: bool, or_new: bool = False) -> str:
         """The path of an object that exists, which is then listed; or of a new one if the call makes it."""
@@ -225,6 +242,14 @@ class _CaseReader:
         """
         stands = joined(directory_of(path), path.rpartition("/")[2] + OTHER_KIND)
         self._list(stands, kind, "path")
+        return stands
+
+    def _as_pipe(self, socket: str) -> str:
+        """A socket as a pipe, with the same rules on it: it can't be opened, but first the kernel asks Landlock."""
+        stands = socket + AS_PIPE
+        self._list(stands, "fifo", "path")
+        self.tree.first[stands] = socket
+        self.tree.others[socket] = [stands]
         return stands
 
     def _real(self, key: str, *, follows: bool) -> str:
