@@ -121,6 +121,36 @@ class Applying(unittest.TestCase):
         parts = [write_lines(Path(self.folder, f"{number}.jsonl"), part) for number, part in enumerate([trace, *more])]
         return applying.moved(policy(parent), TREE, applying.plans(parts, TREE, program), in_order=in_order)
 
+    def test_what_the_run_makes_before_a_program_has_its_rules(self) -> None:
+        """A sandboxer that runs the program puts the rules on it, and not on what takes its place."""
+        both = {"/usr/new", "/usr/new/x"}
+        tree = replace(TREE, kinds={**TREE.kinds, "/usr/new": "dir", "/usr/new/x": "reg"}, made=both)
+        made = {"op": "mkdir", "pid": 10, "path": "/usr/new~new~", "shown": "/usr/new", "call": 6, "kernel": "ok"}
+        opened = {"op": "open", "pid": 10, "path": "/usr/new/x~new~", "shown": "/usr/new/x", "fd": 3, "mode": "w",
+                  "create": True, "call": 7, "kernel": "ok"}
+        run, away = {**RUN, "path": "/usr/dash", "call": 8}, {"op": "rename", "pid": 10, "call": 9, "kernel": "ok"}
+        for trace, found in (
+            ([made, opened, run], both),
+            ([made, opened, run, {**RUN, "call": 9}, run], both),
+            ([made, run, opened], {"/usr/new"}),
+            ([run, made, opened], set()),
+            ([made, opened, run, opened], {"/usr/new"}),
+            ([made, opened, run, made], set()),
+            ([made, {**opened, "unknown": "made or there before"}, run], {"/usr/new"}),
+            ([{**made, "kernel": "EACCES"}, opened, run], set()),
+            ([made, opened, {"op": "unlink", "pid": 10, "path": "/usr/new/x", "kernel": "ok"}, run], {"/usr/new"}),
+            ([made, opened, run, {**away, "from": "/usr/ls", "to": "/usr/new/x"}], {"/usr/new"}),
+            ([made, opened, {**away, "from": "/usr/new", "to": "/var~new~", "shown_to": "/var"}, run], set()),
+            ([made, opened, run, {**away, "from": "/x", "to": "/usr"}], set()),
+        ):
+            with self.subTest(trace):
+                parts = [write_lines(Path(self.folder, "trace.jsonl"), [START, *trace])]
+                there = applying.made_before(tree, applying.plans(parts, tree, "dash"))
+                self.assertEqual(there, found)
+                tried = policy("/usr/new/x")
+                (added,) = (one for one in applying.records(tried, fit(tried, 5)[0], tree, 1, there) if "path" in one)
+                self.assertEqual(added["path"], "/usr/new/x" if "/usr/new/x" in found else "/~new~")
+
     def test_a_program_that_never_runs(self) -> None:
         with self.assertRaisesRegex(Problem, "never runs dahs, did you mean dash.*it runs /usr/dash, /usr/ls"):
             self.before([START, RUN, {**RUN, "path": "/usr/dash", "call": 6}], "dahs")

@@ -12,6 +12,7 @@ from unittest import mock
 
 from landaudit_record.common import options
 from landaudit_record.common.jsonl import Record
+from landaudit_record.common.problems import NOT_ALL_JUDGED
 from landaudit_record.engine.landaudit_rules import BUILT
 
 from . import pages
@@ -46,6 +47,13 @@ class Trying(StandIn):
         tree = self.recording.joinpath("tree.jsonl").rename(self.folder / "t.jsonl")
         status, _, _ = self.called("apply", self.policy, trace, "--tree", tree, "--out", out)
         self.assertEqual((status, len(out.read_text().splitlines())), (0, 8))
+
+    def test_apply_tells_of_what_the_run_moves_before_a_program(self) -> None:
+        moved = {"op": "rename", "pid": PID, "from": "/a", "to": "/b~new~", "shown_to": "/b", "call": 1, "kernel": "ok"}
+        write_lines(self.recording / "trace.jsonl", [TRACE[0], moved, *TRACE[1:]])
+        status, _, errors = self.called("apply", self.policy, self.recording, "--program", "bin", "--abi", "3")
+        said = "NOT ALL IS JUDGED: another object may be at /a when the program begins"
+        self.assertEqual((status, said in errors), (NOT_ALL_JUDGED, True))
 
     def test_apply_never_writes_over_its_trace(self) -> None:
         trace = self.recording / "trace.jsonl"

@@ -9,7 +9,7 @@ from collections import deque
 from collections.abc import Callable, Iterable, Iterator
 from contextlib import contextmanager
 from dataclasses import dataclass, field, replace
-from functools import partial
+from functools import cached_property, partial
 from pathlib import Path
 from typing import NamedTuple, TypeVar
 
@@ -100,7 +100,13 @@ class TriedPolicy:
     def inserted(self, policy: Policy, abi: int) -> list[Record]:
         """The policy's records at an ABI."""
         layers, _ = fitting.fit(policy, abi, scopes=self._scopes)
-        return applying.records(policy, layers, self.tree, max(places.rs for places in self.places))
+        return applying.records(policy, layers, self.tree, max(places.rs for places in self.places), self._there)
+
+    @cached_property
+    def _there(self) -> frozenset[str]:
+        """What the run makes before the program begins."""
+        in_order = self.program is not None and not self.recording.is_distilled
+        return applying.made_before(self.tree, self.places) if in_order else frozenset()
 
 
 def _write_trace(trace: Path, places: Plan, inserted: list[Record], tried: Path) -> None:

@@ -9,7 +9,8 @@ from __future__ import annotations
 
 import difflib
 import shutil
-from collections.abc import Iterator, Sequence
+from collections import Counter
+from collections.abc import Container, Iterator, Mapping, Sequence
 from dataclasses import dataclass, field
 from functools import partial
 from itertools import islice, takewhile
@@ -18,11 +19,11 @@ from typing import Any, BinaryIO, NamedTuple
 
 from ..common import apart, jsonl
 from ..common.jsonl import Record
-from ..common.operations import OPERATIONS
+from ..common.operations import MAKING, MOVES, OPERATIONS
 from ..common.problems import Problem
 from ..common.resolving import NOWHERE, LinkLoop, Walked
 from ..common.rights import Rights
-from ..common.trace_lines import AGAIN, HEAD, STANDS_FOR, heads
+from ..common.trace_lines import AGAIN, CREATES, HEAD, IN_DOUBT, STANDS_FOR, heads
 from ..common.trees import Tree, upwards
 from ..common.wording import some_of
 from ..engine.processes import program_run
@@ -36,8 +37,9 @@ MOST_RECORDS = 1_000_000
 MOST_LINES_OF_A_CALL = 1_000
 #: The beginnings of lines that are not about programs, processes and rulesets.
 _TELL_NOTHING = heads(OPERATIONS.keys() - {"start", "exec", "exit", "create"})
-#: The operations that take an object from a name.
+#: The operations that take an object from a name, and those that give it one; an open may do so too.
 _TAKING = ("rename", "unlink", "rmdir")
+_GIVING = (MAKING | MOVES) - {"open"}
 
 
 class Handled(NamedTuple):
@@ -60,7 +62,8 @@ class Plan:
     since they repeat for a process what it had when it ran a program. `rs` is a ruleset number that the trace never
     uses, `lines` the number of its lines, and `programs` the programs that it runs. `own` has what its rulesets handle.
     Before a named program, `gone` has the names that the trace takes from objects, or gives to others in their place,
-    before it runs, and `all_gone` all of these.
+    before it runs, and `all_gone` all of these. `put` has how often it gives a name at a real path, `put_before` the paths
+    at which it does so before it runs the program for the first time.
     """
 
     before: dict[int, int]
@@ -71,6 +74,8 @@ class Plan:
     own: frozenset[Handled] = frozenset()
     gone: frozenset[str] = frozenset()
     all_gone: frozenset[str] = frozenset()
+    put: Mapping[str, int] = field(default_factory=dict)
+    put_before: frozenset[str] = frozenset()
 
     @property
     def times(self) -> int:
@@ -95,7 +100,7 @@ class _Planning:
         self._tree = tree
         self._program = program
         self._named = None if program is None else _paths_of(program, tree)
-        self._skipped = _TELL_NOTHING if program is None else _TELL_NOTHING - heads(_TAKING)
+        self._skipped = _TELL_NOTHING if program is None else _TELL_NOTHING - heads({*_TAKING, *_GIVING})
         self._starting: set[int] = set()
         self._last: list[bytes] = []
         self._first = 1
@@ -106,6 +111,8 @@ class _Planning:
         self._own: set[Handled] = set()
         self._all_gone: set[str] = set()
         self._gone: frozenset[str] = frozenset()
+        self._put = Counter[str]()
+        self._put_before: frozenset[str] | None = None
 
     def found(self) -> Plan:
         """Where the policy goes."""
@@ -116,12 +123,16 @@ class _Planning:
                 again = sum(1 for _ in takewhile(lambda line: AGAIN in line, block)) if are_again else 0
                 are_again = again == len(block)
                 for index in [index for index, line in enumerate(block)
-                              if line[:HEAD] not in self._skipped or index < again]:
+                              if line[:HEAD] not in self._skipped or index < again or self._may_create(line)]:
                     if block[index].strip(jsonl.BLANKS):
                         self._take(known + index + 1, block[index])
                 known, before = known + len(block), block
         return Plan(self._before, self._rs + 1, known, self._behind, frozenset(self._programs), frozenset(self._own),
-                    self._gone, frozenset(self._all_gone))
+                    self._gone, frozenset(self._all_gone), self._put, self._put_before or frozenset())
+
+    def _may_create(self, line: bytes) -> bool:
+        """Whether a line may be an open that makes a file, if that counts."""
+        return self._named is not None and CREATES[0] in line
 
     def _take(self, number: int, line: bytes) -> None:
         record = jsonl.read(self._trace, number, line)
@@ -132,6 +143,8 @@ class _Planning:
         if record.get("op") in _TAKING and record.get("kernel") == "ok" and self._named is not None:
             taken = (record[end] for end in ("path", "from", "to") if end in record)
             self._all_gone.update(path for path in taken if path in self._tree.kinds)
+        if self._named is not None and record.get("kernel") == "ok":
+            self._put.update(_given(record))
         if record.get("op") == "create":
             self._own.add(Handled.of(record))
         if (record.get("op") == "start" and "again" not in record) or "starting" in record:
@@ -141,14 +154,20 @@ class _Planning:
         for ran in record.get("ran", ()):
             if "first" in ran if self._named is None else self._is_named(ran["path"]):
                 self._behind.setdefault(number, []).append(about)
-                self._gone = frozenset(self._all_gone)
+                self._begins()
         path = program_run(record)
         if path is not None:
             self._programs.add(self._tree.real(path))
             if pid in self._starting if self._named is None else self._is_named(path):
                 self._before[self._first_line(number, pid, record.get("call"))] = pid
-                self._gone = frozenset(self._all_gone)
+                self._begins()
             self._starting.discard(pid)
+
+    def _begins(self) -> None:
+        """Notes what the trace has taken and given when the policy goes in."""
+        self._gone = frozenset(self._all_gone)
+        if self._put_before is None:
+            self._put_before = frozenset(self._put)
 
     def _is_named(self, path: str) -> bool:
         real = self._tree.real(path)
@@ -172,6 +191,16 @@ class _Planning:
                     break
                 first = number
         return first
+
+
+def _given(record: Record) -> dict[str, int]:
+    """The real paths at which a record gives an object a name; twice if it is not known, or an exchange."""
+    if record["op"] not in _GIVING and not record.get("create"):
+        return {}
+    names = [("to", "shown_to")] if record["op"] in MOVES else [("path", "shown")]
+    names += [("from", "shown")] if record.get("exchange") else []
+    times = 2 if record.get("exchange") or any(one in record for one in IN_DOUBT) else 1
+    return {record.get(shown) or record[name]: times for name, shown in names}
 
 
 def plan(trace: Path, tree: Tree, program: str | None) -> Plan:
@@ -251,6 +280,18 @@ def moved(policy: Policy, tree: Tree, plans: Sequence[Plan], *, in_order: bool =
     return tuple(dict.fromkeys(written for written, way in ways if any(not gone.isdisjoint(upwards(on)) for on in way)))
 
 
+def made_before(tree: Tree, plans: Sequence[Plan]) -> frozenset[str]:
+    """What the run makes before a named program begins, and neither moves nor puts another object in its place: a
+    sandboxer that runs the program can put a rule on it.
+    """
+    first = next((number for number, one in enumerate(plans) if one.times), 0)
+    before = {path for one in plans[:first] for path in one.put} | plans[first].put_before
+    put = sum((Counter(one.put) for one in plans), Counter[str]())
+    gone = frozenset[str]().union(*(one.all_gone for one in plans))
+    return frozenset(path for path in before if tree.put.get(path) == path and tree.kinds[path] != "sym" and all(
+        put[tree.real(over)] == (over in tree.made) and over not in gone for over in upwards(path)))
+
+
 def notes_on_way(parent: Parent) -> Iterator[str]:
     """Notes on a parent that leads elsewhere than its name says, by links of this disk, or that leads nowhere."""
     led = parent.led
@@ -268,15 +309,22 @@ def _led(tree: Tree, path: str, place: str, *, whole: bool = False) -> Walked:
         raise Problem(f"{place}: {path} is a loop of symbolic links in the tree: name another path") from loop
 
 
-def records(policy: Policy, layers: tuple[FittedLayer, ...], tree: Tree, rs: int) -> list[Record]:
-    """A policy's records for one process, without a pid. The member `policy` of each names its part of the policy."""
+def records(
+    policy: Policy, layers: tuple[FittedLayer, ...], tree: Tree, rs: int, there: Container[str] = ()
+) -> list[Record]:
+    """A policy's records for one process, without a pid. The member `policy` of each names its part of the policy.
+
+    `there` are objects that the run makes, and that are there when the policy goes in.
+    """
     made: list[Record] = [{"op": "nnp", "policy": {}}]
     for layer in layers:
-        made.extend(_of_layer(policy, layer, tree, rs))
+        made.extend(_of_layer(policy, layer, tree, rs, there))
     return made
 
 
-def _of_layer(policy: Policy, layer: FittedLayer, tree: Tree, rs: int) -> Iterator[Record]:
+def _of_layer(
+    policy: Policy, layer: FittedLayer, tree: Tree, rs: int, there: Container[str]
+) -> Iterator[Record]:
     origin: dict[str, Any] = {"layer": layer.number}
     yield {"op": "create", "rs": rs, "fs": layer.handled_fs, "net": layer.handled_net, "policy": origin}
     for rule in layer.path_rules:
@@ -284,10 +332,10 @@ def _of_layer(policy: Policy, layer: FittedLayer, tree: Tree, rs: int) -> Iterat
             led = _led(tree, parent, f"{policy.path}: layer {layer.number}, {rule.place}, parent")
             path = led.path if led.is_sure or led.path not in tree.kinds else NOWHERE
             rights = rule.on(tree.kind(path))
-            if not rights or (rule.group is not None and not tree.is_there_before(path)):
+            if not rights or (rule.group is not None and not (tree.is_there_before(path) or path in there)):
                 continue
             of_rule: dict[str, Any] = {**origin, "rule": str(rule.place), "parent": parent}
-            for name, about in _on(tree, path):
+            for name, about in _on(tree, path, there):
                 yield {
                     "op": "add_path",
                     "rs": rs,
@@ -303,13 +351,16 @@ def _of_layer(policy: Policy, layer: FittedLayer, tree: Tree, rs: int) -> Iterat
     yield {"op": "close_rs", "rs": rs, "policy": origin}
 
 
-def _on(tree: Tree, path: str) -> Iterator[tuple[str, dict[str, Any]]]:
+def _on(tree: Tree, path: str, there: Container[str]) -> Iterator[tuple[str, dict[str, Any]]]:
     """The names on which the records of a rule are, each with further members for the record.
 
     A rule is on an object, so it has a record for each name of the object. An object that the run makes has no rule,
     since nobody can open it before the run: the record is on a name that no object has, and moot, and `made` names the
     directory to grant on. If the run later puts another object at the path, `replaced` names that directory.
     """
+    if path in there:
+        yield path, {}
+        return
     made = next((over for over in upwards(path) if over in tree.made), None)
     if made is None and path not in tree.kinds:
         made = tree.put.get(path)

@@ -70,12 +70,14 @@ def run(arguments: argparse.Namespace) -> int:
     )
     layers, notes = fitting.fit(policy, arguments.abi)
     places = applying.plan(trace, tree, arguments.program)
-    inserted = applying.records(policy, layers, tree, places.rs)
-    unknown = applying.not_known(policy, tree)
+    there = applying.made_before(tree, [places]) if arguments.program is not None else frozenset[str]()
+    inserted = applying.records(policy, layers, tree, places.rs, there)
+    unknown, moved = applying.not_known(policy, tree), applying.moved(policy, tree, [places])
     note(notes)
     note(text for parent in parents.each(policy, tree) for text in applying.notes_on_way(parent))
     note(f"NOT ALL IS JUDGED: it is not known where {parent} led on the machine that recorded" for parent in unknown)
-    status = NOT_ALL_JUDGED if unknown else 0
+    note(f"NOT ALL IS JUDGED: another object may be at {parent} when the program begins" for parent in moved)
+    status = NOT_ALL_JUDGED if unknown or moved else 0
     if arguments.out is None:
         applying.write(trace, places, inserted, sys.stdout.buffer)
         return status
