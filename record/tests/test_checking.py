@@ -2,6 +2,7 @@
 
 from __future__ import annotations
 
+import contextlib
 import random
 import shutil
 import socket
@@ -171,6 +172,13 @@ class Checking(unittest.TestCase):
         ):
             status, _, errors = self.checked(asked, POLICY.replace("/nowhere", parent))
             self.assertEqual((status, "leads elsewhere for each process" in errors), (wanted, bool(wanted)), parent + errors)
+
+    def test_where_a_check_runs_does_not_tell_where_a_link_of_a_process_leads(self) -> None:
+        case, policy = 'call = "open r"\npath = "@/closed/file"\n', POLICY.replace("/nowhere", "/proc/self/cwd/file")
+        for folder in (self.folder, self.folder / "closed"):
+            with self.subTest(folder), contextlib.chdir(folder):
+                self.assertEqual(self.checked(f"[[allowed]]\n{case}", policy)[0], 1)
+                self.assertEqual(self.checked(f"[[refused]]\n{case}", policy)[0], NOT_ALL_JUDGED)
 
     def test_abis_that_differ(self) -> None:
         self.assertEqual(

@@ -244,6 +244,9 @@ class Differing(InFolder):
         status, lines, errors = self.said(rule.format(os.getcwd()), rule.format("/proc/self/cwd"))
         self.assertEqual((status, lines[1]), (1, "  read_file under /proc/self/cwd"))
         self.assertIn("/proc/self/cwd: not known where it leads, so it is compared by its name", errors)
+        some = next(Path.cwd().iterdir())
+        status, lines, _ = self.said(rule.format(some), rule.format(f"/proc/self/cwd/{some.name}"))
+        self.assertEqual((status, lines[1]), (1, f"  read_file under /proc/self/cwd/{some.name}"))
 
     def test_above_what_is_behind_a_link(self) -> None:
         """`..` after a link leads to what is above the link's target, and not to what is above the link."""

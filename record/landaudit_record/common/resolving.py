@@ -32,6 +32,11 @@ class LinkLoop(Exception):
     """A path leads through more symbolic links than the kernel follows."""
 
 
+def is_of_process(path: str) -> bool:
+    """Whether a path without other links is that of another object for each process (proc(5))."""
+    return _OF_A_PROCESS.fullmatch(path) is not None
+
+
 def directory_of(path: str) -> str:
     """The directory that an object is in; the root is in itself."""
     return path.rpartition("/")[0] or ROOT
@@ -80,7 +85,7 @@ class ThisDisk:
 
     def at(self, path: str) -> Met | None:
         """What is at a path; not known if it can't be seen, or differs from process to process."""
-        if _OF_A_PROCESS.fullmatch(path):
+        if is_of_process(path):
             return None
         try:
             mode = os.lstat(path).st_mode

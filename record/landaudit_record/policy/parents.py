@@ -10,7 +10,7 @@ from dataclasses import dataclass, field, replace
 from functools import cache
 
 from ..common.problems import Problem
-from ..common.resolving import NOWHERE, ROOT, KnownObjects, LinkLoop, Met, Walked, walked
+from ..common.resolving import NOWHERE, ROOT, KnownObjects, LinkLoop, Met, Walked, is_of_process, walked
 from ..common.trees import upwards
 from ..recorder import mounted
 from .policies import PathRule, Policy
@@ -159,8 +159,10 @@ def _links(path: str) -> int:
 
 
 def _identity(path: str) -> _Identity | None:
-    """What tells an object from all others of this disk."""
+    """What tells an object from all others of this disk; at some paths there is another one for each process."""
     place = path.rstrip("/") or ROOT
+    if is_of_process(place):
+        return None
     try:
         status = os.lstat(place)
     except (OSError, ValueError):
