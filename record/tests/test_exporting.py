@@ -2,6 +2,7 @@
 
 from __future__ import annotations
 
+import contextlib
 import json
 import os
 import random
@@ -310,6 +311,14 @@ class OfPrograms(Folder):
                 said = f"note: {form} has one layer: the 2 layers of the policy are joined to it\n"
                 self.assertEqual((status, said in notes), (0, True))
                 self.assertNotIn("joined", self.export(layers.partition("[[layer]]\n")[0] + LAYER, f"--{form}")[2])
+
+    def test_where_a_form_is_written_does_not_tell_where_a_link_of_a_process_leads(self) -> None:
+        layers = "".join('[[layer]]\nhandled_access_fs = ["read_file"]\n' + rule('["read_file"]', f'"{parent}"')
+                         for parent in ("/proc/self/cwd", "TOP"))
+        for folder in (self.top, self.top / "a"):
+            with contextlib.chdir(folder):
+                self.assertIn("setpriv has one layer: for read_file the rules of layer 2 count alone",
+                              self.lost(layers, "setpriv"))
 
     def test_a_right_of_directories_on_a_file(self) -> None:
         for form in ("setpriv", "landrun", "landlockconfig"):

@@ -16,6 +16,7 @@ from dataclasses import dataclass, field, replace
 from ...common.documents import listed
 from ...common.numbered import Numbered
 from ...common.problems import Problem
+from ...common.resolving import DISK, walked
 from ...common.rights import FILE_RIGHTS, FS, LATEST_ABI, NET, NONE, REFER, SCOPES, Rights
 from ..confining import NOT_THERE
 from ..fitting import FittedLayer, FittedPathRule, in_force
@@ -29,7 +30,7 @@ ROOT = "/"
 class OnPath:
     """What a rule of a layer grants on an object, or the layer by not handling it.
 
-    `real`, the object's path without links, tells what is beneath what.
+    `real`, the object's path without links but those of a process, tells what is beneath what.
     """
 
     layer: int
@@ -109,7 +110,7 @@ def _paths(policy: Policy, layer: FittedLayer, notes: list[str], with_missing: b
                     continue
             rights = frozenset(rule.on_directory) if is_directory else _on_file(policy, rule, parent)
             if rights:
-                yield OnPath(layer.number, rule.place, parent, os.path.realpath(parent), is_directory, rights)
+                yield OnPath(layer.number, rule.place, parent, walked(parent, DISK).path, is_directory, rights)
 
 
 def _on_file(policy: Policy, rule: FittedPathRule, parent: str) -> Rights:
