@@ -134,6 +134,14 @@ class Written(unittest.TestCase):
                      "calls that the kernel refused: restrict of -: EPERM (1)"):
             self.assertIn(text, out)
 
+    def test_a_rule_on_a_link_itself_is_dropped_and_told(self) -> None:
+        """Linux 6.18 takes it from a descriptor of O_NOFOLLOW; no open is then allowed, and a policy's rule follows links."""
+        self.tree.append({"path": "/link", "kind": "sym", "target": "/etc/f"})
+        status, out, _ = self.imported(by(1, create(["read_file"]), rule("/link", "read_file") | KERNEL_OK, RESTRICT))
+        (layer,) = read(out).layers
+        self.assertEqual((status, layer.path_beneath), (0, ()))
+        self.assertIn("# left out: its rule on /link (read_file): it is on the symbolic link itself\n", out)
+
     def test_rights_of_newer_abis_and_rules_on_what_the_run_makes_are_told(self) -> None:
         status, out, _ = self.imported(by(1, create(["read_file", "bit_16"]), rule("/etc", "read_file", "bit_16"),
                                           rule("/new", "read_file"), RESTRICT))

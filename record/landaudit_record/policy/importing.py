@@ -228,6 +228,8 @@ def _with_rule(ruleset: ImportedRuleset, record: Record, tree: Tree) -> Imported
     why = _refusal(record, rights, handled, tree)
     if why is None and isinstance(on, str) and (not on.startswith("/") or len(on.encode()) > LONGEST_PATH):
         why = "a policy can't name the path"
+    if why is None and "path" in record and tree.kind(record["path"]) == "sym":
+        why = "it is on the symbolic link itself"
     if why is not None or not rights:
         named = ", ".join(family.ordered(rights)) or "no right"
         text = [f"its rule on {on} ({named}): {why}"] if why is not None else []
