@@ -333,6 +333,15 @@ class Differing(InFolder):
         # Nothing is opened, wherever it is.
         self.assertEqual(self.said(handled, not_handled)[0], 0)
 
+    def test_a_layer_of_scopes_alone_and_moves(self) -> None:
+        """From ABI 6 on it refuses moves to other directories; Linux of ABI 5 does not know it (docs/SEMANTICS.md)."""
+        scoped = '[[layer]]\nscoped = ["signal"]\n'
+        old, new = (f'[[layer]]\nhandled_access_fs = ["read_file"{more}' for more in (
+            "]\n", ', "refer"]\n[[layer.path_beneath]]\nallowed_access = ["refer"]\nparent = "/srv"\n'))
+        for abis, status in (("5", 1), ("5-7", 1), ("6", 0), ("6-7", 0)):
+            with self.subTest(abis):
+                self.assertEqual(self.said(old + scoped, new + scoped, "--abi", abis)[0], status)
+
     def test_scopes_are_sets_of_which_less_is_a_difference(self) -> None:
         scoped = '[[layer]]\nscoped = ["signal", "abstract_unix_socket"]\n'
         status, lines, errors = self.said(OLD + scoped, OLD + '[[layer]]\nscoped = ["signal"]\n')

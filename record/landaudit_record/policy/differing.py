@@ -14,9 +14,9 @@ from collections.abc import Iterator, Mapping
 from dataclasses import dataclass, field
 from itertools import chain
 
-from ..common.rights import FILE_RIGHTS, FS, NET, REFER
+from ..common.rights import FILE_RIGHTS, FS, NET, NEWEST_ABI, REFER, alone, judged
 from ..engine import landaudit_rules
-from . import anywhere, moving, sides
+from . import anywhere, fitting, moving, sides
 from .anywhere import Chain, Direction, Gain
 from .differing_layers import Abis, OfLayers
 from .moving import Move
@@ -62,8 +62,18 @@ class Differences:
 
 
 def differences(old: Policy, new: Policy, abis: range) -> Differences:
-    """All differences of two policies at some ABIs."""
-    regions = Regions.of((old, new))
+    """All differences of two policies at some ABIs. Later ones than the newest that is judged are judged as that."""
+    found = _differences(old, new, judged(abis))
+    if NEWEST_ABI in abis and any(map(fitting.refer_by_scopes, (old, new))):
+        earlier = _differences(old, new, alone(NEWEST_ABI), scopes=False)
+        for here, there in ((found.more, earlier.more), (found.less, earlier.less)):
+            here.update((subject, here.get(subject, _NONE) | at) for subject, at in there.items())
+    return found
+
+
+def _differences(old: Policy, new: Policy, abis: range, *, scopes: bool = True) -> Differences:
+    """All differences; with `scopes`, the newest ABI that is judged is one that has them."""
+    regions = Regions.of((old, new), scopes=scopes)
     objects = RuledObjects.of(regions.ruled)
     ruling = Ruling(landaudit_rules.find(), objects)
     both = [sides.at(regions, objects, abi) for abi in abis]

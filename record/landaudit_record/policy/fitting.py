@@ -72,6 +72,13 @@ def fit(policy: Policy, abi: int, *, scopes: bool = True) -> tuple[tuple[FittedL
     return tuple(it if it.handled_fs else replace(it, handled_fs=[REFER]) for it in fitted), notes
 
 
+def refer_by_scopes(policy: Policy) -> bool:
+    """Whether a layer of scopes alone refuses `refer`: the newest ABI that is judged does not know it, but later ones do."""
+    layers = policy.layers
+    return any(layer.scoped and not layer.handles_rights for layer in layers) and any(
+        layer.handled_access_fs.rights for layer in layers)
+
+
 def stands_for(policy: Policy, newer: int, older: int, *, scopes: bool = True) -> bool:
     """Whether a policy at a newer ABI is, at best effort, what it is at an older one (a law of `ll_enforcing`).
 

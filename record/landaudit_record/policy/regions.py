@@ -40,14 +40,14 @@ class Regions:
     fitted: tuple[Mapping[int, Sequence[FittedLayer]], ...] = ()
 
     @classmethod
-    def of(cls, policies: Sequence[Policy]) -> Regions:
-        """The regions of policies together."""
+    def of(cls, policies: Sequence[Policy], *, scopes: bool = True) -> Regions:
+        """The regions of policies together, with their layers as `fit` gives them."""
         layers = [layer for policy in policies for layer in policy.layers]
         rules = [rule for layer in layers for rule in layer.path_beneath]
         paths = {as_named(parent) for rule in rules for parent in rule.parents}
         together = list(map(_together, policies))
         called.ask_at_each(together, ALL_ABIS)
-        fitted = tuple({abi: fitting.fit(policy, abi)[0] for abi in ALL_ABIS} for policy in together)
+        fitted = tuple({abi: fitting.fit(policy, abi, scopes=scopes)[0] for abi in ALL_ABIS} for policy in together)
         return cls(tuple(sorted(paths | {ROOT})), _ports_alike(layers), frozenset(_directories(fitted)), fitted)
 
     @property

@@ -6,7 +6,7 @@ from collections.abc import Sequence
 from dataclasses import dataclass
 from pathlib import Path
 
-from ..common.rights import FS, NET, SCOPES
+from ..common.rights import FS, NET, SCOPES, judged
 from . import differing, differing_rows
 from .differing import Differing
 from .differing_layers import Abis, Room
@@ -69,5 +69,5 @@ def review(
         told |= first.keys()
         rows += [(one, differing_rows.rows(first, found))] if first else []
     return Review(
-        None if allowed else old.path, allowed, new.path, abis, found.tried, differing_rows.rows(more, found),
+        None if allowed else old.path, allowed, new.path, judged(abis), found.tried, differing_rows.rows(more, found),
         differing_rows.rows(found.less, found), tuple(rows), tuple(one for one, of in taken.items() if not of))

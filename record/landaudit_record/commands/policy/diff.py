@@ -12,7 +12,6 @@ from ... import POLICIES
 from ...common import layout, variables
 from ...common.options import add_abis, add_landaudit, note
 from ...common.problems import NOT_ALL_JUDGED, USAGE, Problem
-from ...common.rights import judged
 from ...common.resolving import DISK, KnownObjects
 from ...common.wording import some_of
 from ...engine import landaudit
@@ -94,7 +93,7 @@ def _review(arguments: argparse.Namespace) -> tuple[Review, Policy, list[str]]:
     *old, new = (parents.under_all_names(policy, paths) for policy in read)
     before = old[0] if old else reviewing.before(arguments.old_allows)
     unnamed = list(dict.fromkeys(path for policy in read for path in parents.with_other_names(policy, paths)))
-    review = reviewing.review(before, new, judged(arguments.abis), accepted, arguments.old_allows)
+    review = reviewing.review(before, new, arguments.abis, accepted, arguments.old_allows)
     return review, read[-1], unnamed
 
 
