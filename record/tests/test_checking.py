@@ -377,6 +377,18 @@ parent = "@"
         self.assertEqual(status, NOT_ALL_JUDGED)
         self.assertIn("NOT ALL IS ASKED: @/open/file has other names (hard links)", said)
 
+    def test_a_further_name_beside_paths_by_mounts(self) -> None:
+        """Paths by which a bind mount shows one name are no two names of a file (stat(2), st_nlink)."""
+        (self.folder / "shown").mkdir()
+        (self.folder / "shown" / "file").hardlink_to(self.folder / "open" / "file")
+        policy = POLICY.replace('["@/open", "/nowhere"]', '["@/open/file", "@/shown/file"]').replace('["read"]', '["read_file"]')
+        nothing = '[[nothing]]\nrights = ["read_file"]\nunder = "@/closed"\n'
+        top = self.folder.resolve()
+        twice = [["/", "8:1", "/", "ext4"], [f"{top}/shown", "8:1", f"{top}/open", "ext4"]]
+        self.assertEqual(self.checked(nothing, policy)[0], 0)
+        with mock.patch.object(parents, "_places", lambda: MountPlaces(twice)):
+            self.assertEqual(self.checked(nothing, policy)[0], NOT_ALL_JUDGED)
+
     def test_a_rule_on_what_is_mounted_elsewhere_too(self) -> None:
         """A directory and a file in it have other paths by a bind mount, and the rule is on them there (Linux 6.18)."""
         top = self.folder.resolve()

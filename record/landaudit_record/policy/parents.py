@@ -136,11 +136,14 @@ def shown_twice() -> list[tuple[str, str]]:
 
 
 def with_other_names(policy: Policy, paths: Iterable[str]) -> list[str]:
-    """The parents that are files of this disk with names (hard links) beside those of the policy and some paths."""
+    """The parents that are files of this disk with names (hard links) beside those of the policy and some paths.
+
+    Paths by which mounts show one name are one.
+    """
     written = dict.fromkeys(it.rstrip("/") or ROOT for layer in policy.layers for rule in layer.path_beneath
                             for it in rule.parents)
     identities = {path: _identity(path) for path in written | dict.fromkeys(paths)}
-    known = Counter(identities.values())
+    known = Counter({_places().entry(path): of for path, of in identities.items()}.values())
     return [path for path in written if (of := identities[path]) is not None and _links(path) > known[of]]
 
 

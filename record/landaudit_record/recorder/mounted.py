@@ -174,15 +174,19 @@ class MountPlaces:
         top = f"{path.rstrip('/')}/"
         return frozenset((at[len(top) :], what) for at, what in self._at.items() if at.startswith(top) and at != "/")
 
+    def entry(self, path: str) -> tuple[str, str]:
+        """The device of a path's file system and the path there, which are one wherever mounts show it."""
+        here = self._of(path)
+        device, root = self._at.get(here, ("", ""))
+        return device, _beneath(root, _inside(here, path) or "")
+
     def shown_at(self, path: str) -> list[str]:
         """All other paths of an object by mounts, whatever is mounted below it there: a rule on it is on each."""
         if not self._several:
             return []
-        here = self._of(path)
-        device, root = self._at.get(here, ("", ""))
+        here, (device, inner) = self._of(path), self.entry(path)
         if device not in self._several:
             return []
-        inner = _beneath(root, _inside(here, path) or "")
         found: list[str] = []
         for place, (on, shown) in self._at.items():
             rest = _inside(shown, inner) if on == device and place != here else None
@@ -195,9 +199,7 @@ class MountPlaces:
         found: list[str] = []
         for top in (path, *(place for place in self._at if _inside(path, place))) if self._several else ():
             found += self.shown_at(top)
-            here = self._of(top)
-            device, root = self._at.get(here, ("", ""))
-            inner = _beneath(root, _inside(here, top) or "")
+            here, (device, inner) = self._of(top), self.entry(top)
             found += (place for place, (on, shown) in self._at.items()
                       if on == device and place != here and _inside(inner, shown))
         return list(dict.fromkeys(found))
