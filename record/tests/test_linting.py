@@ -2,6 +2,7 @@
 
 from __future__ import annotations
 
+import functools
 import tempfile
 import unittest
 from pathlib import Path
@@ -120,6 +121,24 @@ class Linting(unittest.TestCase):
                 with mock.patch.object(parents, "_places", lambda: MountPlaces(mounts)):
                     self.assert_said(text, mounted)
                 self.assert_said(text, alone)
+
+    def test_a_file_with_a_further_name(self) -> None:
+        """A rule on it is on each, so that it has an effect by the other one (Linux 6.18)."""
+        (self.folder / "g").mkdir()
+        (self.folder / "g/f").hardlink_to(self.folder / "o/f")
+        layer = '[[layer]]\nhandled_access_fs = ["read_file"]\n'
+        read = functools.partial(self.rule, '"read_file"')
+        for text, said in (
+            # By o/f it may be read only by the rule on g/f, in the second case by g/f only, in the third by o/f only.
+            (layer + read("g") + read("g/f"), []),
+            (layer + read("o/f") + layer + read("g"), []),
+            (layer + read("o") + layer + read("g/f"), []),
+            # Where the other name is, lint does not know; it is no name of another file.
+            (layer + read("d/e") + layer + read("g/f"), []),
+            (layer + read("d/f") + layer + read("g/f"), ["read_file without effect: layer 2"]),
+        ):
+            with self.subTest(text):
+                self.assert_said(text + '[[layer]]\nhandled_access_fs = ["write_file"]\n', said)
 
     def assert_said(self, text: str, said: list[str]) -> None:
         """Checks that each remark has one of some texts, all of which occur."""

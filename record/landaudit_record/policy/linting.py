@@ -66,13 +66,14 @@ class LintRemark:
 @dataclass(frozen=True)
 class _RuleOnObject:
     """A rule on one object of this machine: `path` is where its parent leads, `places` are all paths of the object that
-    are known, and `rights` is what it can grant there."""
+    are known, and `rights` is what it can grant there. A file that is `linked` has further names (hard links)."""
 
     parent: Parent
     path: str
     places: tuple[str, ...]
     is_file: bool
     rights: Rights
+    linked: bool
 
     @property
     def rule(self) -> PathRule:
@@ -101,9 +102,10 @@ class _Layer:
         """The rights that it does not refuse on a path."""
         return self.granted(path) | FS.groups["all"] - self.handled
 
-    def grants_near(self, path: str, right: str) -> bool:
-        """Whether it does not refuse a right on a path, or on something beneath it."""
-        beneath = (on for on in self.rules if any(path in upwards(place) for place in on.places))
+    def grants_near(self, path: str, right: str, *, is_file: bool) -> bool:
+        """Whether it does not refuse a right on a path, or on something that may be beneath it."""
+        beneath = (on for on in self.rules
+                   if (on.linked and not is_file) or any(path in upwards(place) for place in on.places))
         return right in self.lets_pass(path) or any(right in on.rights for on in beneath)
 
 
@@ -127,7 +129,8 @@ class Linting:
         is_file = seen is not None and seen.kind != "dir"
         handled = self.policy.layers[parent.layer - 1].handled_access_fs.rights
         rights = parent.rule.allowed_access.rights & handled
-        return _RuleOnObject(parent, parent.led.path, places, is_file, rights & FILE_RIGHTS if is_file else rights)
+        return _RuleOnObject(parent, parent.led.path, places, is_file, rights & FILE_RIGHTS if is_file else rights,
+                             is_file and parents.has_names_beside(parent.led.path, places))
 
     def remarks(self) -> Iterator[LintRemark]:
         """All remarks: those on each rule in the order of the policy, then those on all of it."""
@@ -191,12 +194,13 @@ class Linting:
                 break
         else:
             names = ", ".join(dict.fromkeys(f"{one.rule.place} on {one.parent.written}" for one in others))
-            say = self._note if on.parent.led.now else self._warning
-            yield say(on.parent, IDLE, f"without effect unless it is moved or linked: {names} grants as much")
-        for other in self._layers:
+            say = self._note if on.parent.led.now or on.linked else self._warning
+            where = "by this name, but it has others (hard links)" if on.linked else "unless it is moved or linked"
+            yield say(on.parent, IDLE, f"without effect {where}: {names} grants as much")
+        for other in self._layers if not on.linked else ():
             if other is not layer:
                 none = [right for right in FS.ordered(on.rights)
-                        if not any(other.grants_near(place, right) for place in on.places)]
+                        if not any(other.grants_near(place, right, is_file=on.is_file) for place in on.places)]
                 if none:
                     yield self._warning(on.parent, IDLE, f"{', '.join(none)} without effect: layer "
                                         f"{other.layer.number} grants it neither there nor beneath")

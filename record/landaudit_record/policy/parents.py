@@ -147,6 +147,11 @@ def with_other_names(policy: Policy, paths: Iterable[str]) -> list[str]:
     return [path for path in written if (of := identities[path]) is not None and _links(path) > known[of]]
 
 
+def has_names_beside(path: str, names: Iterable[str]) -> bool:
+    """Whether an object of this disk has names (hard links) beside some of its names."""
+    return _links(path) > len({_places().entry(name) for name in names})
+
+
 def has_other_names(path: str) -> bool:
     """Whether a path leads to a file of this disk that has further names (hard links)."""
     try:
