@@ -377,6 +377,21 @@ parent = "@"
         self.assertEqual(status, NOT_ALL_JUDGED)
         self.assertIn("NOT ALL IS ASKED: @/open/file has other names (hard links)", said)
 
+    def test_a_question_on_a_file_with_another_name(self) -> None:
+        """What a directory lets pass, it lets pass by the name in it (Linux 6.18)."""
+        (self.folder / "closed" / "name").hardlink_to(self.folder / "work" / "file")
+        policy = ('[[layer]]\nhandled_access_fs = ["write_file", "execute"]\n[[layer.path_beneath]]\nallowed_access = '
+                  '["write_file"]\nparent = "@/work"\n[[layer.path_beneath]]\nallowed_access = ["execute"]\nparent = "@/closed"\n')
+        nothing, only = (f'[[{kind}]]\nrights = ["write_file"]\nunder = ' for kind in ("nothing", "only"))
+        never = '[[never]]\nboth = ["write_file", "execute"]\nunder = '
+        one, two = '"@/closed/name"\n', '["@/closed/name", "@/work/file"]\n'
+        self.assertEqual([self.checked(asked + one, policy)[0] for asked in (nothing, never)], 2 * [NOT_ALL_JUDGED])
+        self.assertIn("NOT ALL IS ASKED: @/closed/name has other names (hard links)", self.checked(nothing + one, policy)[2])
+        self.assertEqual(self.checked(only + '["@/closed/name", "@/work"]\n', policy)[0], 0)
+        self.assertEqual(self.checked(nothing + two, policy)[0], 1)
+        status, lines = self.question(never + two, policy)
+        self.assertEqual((status, lines[2:4]), (1, ['- "execute on @/closed/name as a file"', '- "write_file on @/work/file as a file"']))
+
     def test_a_further_name_beside_paths_by_mounts(self) -> None:
         """Paths by which a bind mount shows one name are no two names of a file (stat(2), st_nlink)."""
         (self.folder / "shown").mkdir()

@@ -22,6 +22,7 @@ from . import called, fitting, parents
 from .fitting import FittedLayer
 from .granting import Grant
 from .over_sets import ALL_ABIS, NEVER, SetQuestion, Together
+from .parents import Names
 from .policies import Policy
 from .regions import Area, Region, Regions, areas, as_named
 from .ruling import SINGLE, Comparison, Granting, Layers, Ruled, RuledObjects, RuleOnObjects, Ruling
@@ -62,11 +63,13 @@ def decisions(policy: Policy, questions: Sequence[SetQuestion]) -> list[Decision
     policy = parents.by_all_mounts(policy)
     questions = [replace(one, elsewhere=parents.elsewhere(one.under)) for one in questions]
     rules = [rule for layer in policy.layers for rule in layer.path_beneath]
-    several = parents.shown_twice() if any(one.kind == NEVER for one in questions) else ()
+    several: Sequence[Sequence[str]] = parents.shown_twice() if any(one.kind == NEVER for one in questions) else ()
     named = {as_named(parent) for rule in rules for parent in rule.parents}.union(*several)
     named = named.union(*((*one.under, *one.elsewhere) for one in questions))
     places = _Places.of(sorted((named | {ROOT}) - {NOWHERE}))
     policy = parents.under_all_names(policy, places.kinds)
+    names = parents.by_object(places.kinds) if any(one.kind == NEVER for one in questions) else {}
+    several = [*several, *(paths for paths in names.values() if len(paths) > 1)]
     called.ask_at_each([policy], ALL_ABIS)
     by_abi = {abi: [_Granting.of(layer, policy, places) for layer in fitting.fit(policy, abi)[0]] for abi in ALL_ABIS}
     asked = list(dict.fromkeys((abi, rights) for one in questions for abi in one.abis
@@ -80,7 +83,7 @@ def decisions(policy: Policy, questions: Sequence[SetQuestion]) -> list[Decision
     regions = objects.named
     passing = {of: frozenset(regions[number].path for number in ruling.answer(question).single[0])
                for of, question in about.items()}
-    breaches = ({abi: _breaches(one, abi, by_abi[abi], places, passing) for abi in one.abis} for one in questions)
+    breaches = ({abi: _breaches(one, abi, by_abi[abi], places, passing, names) for abi in one.abis} for one in questions)
     return [Decision(one, tuple(_together(found))) for one, found in zip(questions, breaches)]
 
 
@@ -182,7 +185,7 @@ PassingPaths = Mapping[tuple[int, Together], frozenset[str]]
 
 
 def _breaches(
-    question: SetQuestion, abi: int, layers: Sequence[_Granting], places: _Places, passing: PassingPaths
+    question: SetQuestion, abi: int, layers: Sequence[_Granting], places: _Places, passing: PassingPaths, names: Names
 ) -> tuple[Breach, ...]:
     """All that passes at an ABI although a question says that it does not."""
     by_area: defaultdict[Area, list[str]] = defaultdict(list)
@@ -195,21 +198,21 @@ def _breaches(
         for area in areas(Regions(paths, ()), regions, of_files=False):
             by_area[replace(area, as_file=places.is_file(area.path))] += rights
     if question.kind == NEVER:
-        for path, right in _by_several_paths(question, abi, places, passing):
+        for path, right in _by_several_paths(question, abi, places, passing, names):
             by_area[Area(path, as_file=places.is_file(path))].append(right)
     return tuple(Breach(tuple(rights), area, tuple(_grants(layers, area.path, rights)))
                  for area, rights in by_area.items())
 
 
 def _by_several_paths(
-    question: SetQuestion, abi: int, places: _Places, passing: PassingPaths
+    question: SetQuestion, abi: int, places: _Places, passing: PassingPaths, names: Names
 ) -> Iterator[tuple[str, str]]:
-    """Rights of which each passes on another path of an object, where mounts show it, with these paths."""
+    """Rights of which each passes on another path of an object, where mounts show it or by a hard link, with these paths."""
     (both,) = question.asked
     found: dict[tuple[str, str], None] = {}
     of_files = FILE_RIGHTS.issuperset(both)
     for path in places.kinds if (abi, both[:1]) in passing else ():
-        for there in parents.shown_at(path) if of_files or not places.is_file(path) else ():
+        for there in parents.places(path, names)[1:] if of_files or not places.is_file(path) else ():
             regions = places.region(path), places.region(there)
             if not any(map(question.is_about, (path, there))) or not passing[abi, both].isdisjoint(regions):
                 continue

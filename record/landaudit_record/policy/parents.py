@@ -18,6 +18,7 @@ from .policies import PathRule, Policy
 
 #: Device and inode of an object, and its path if another name of that inode may be another object.
 _Identity = tuple[int, int, str | None]
+Names = Mapping[_Identity, Sequence[str]]
 
 
 @dataclass(frozen=True)
@@ -113,7 +114,7 @@ def by_object(paths: Iterable[str]) -> dict[_Identity, list[str]]:
     return names
 
 
-def places(path: str, names: Mapping[_Identity, Sequence[str]]) -> tuple[str, ...]:
+def places(path: str, names: Names) -> tuple[str, ...]:
     """A path, and the others of its object: those by mounts of this machine, and those among the names of objects."""
     of = _identity(path)
     return tuple(dict.fromkeys((path, *shown_at(path), *(names.get(of, ()) if of is not None else ()))))
@@ -135,16 +136,18 @@ def shown_twice() -> list[tuple[str, str]]:
     return _places().pairs()
 
 
-def with_other_names(policy: Policy, paths: Iterable[str]) -> list[str]:
-    """The parents that are files of this disk with names (hard links) beside those of the policy and some paths.
+def with_other_names(policy: Policy, paths: Iterable[str], *, among_paths: bool = False) -> list[str]:
+    """The parents, or of the paths those, that are files with names (hard links) beside those of the policy and the paths.
 
     Paths by which mounts show one name are one.
     """
     written = dict.fromkeys(it.rstrip("/") or ROOT for layer in policy.layers for rule in layer.path_beneath
                             for it in rule.parents)
-    identities = {path: _identity(path) for path in written | dict.fromkeys(paths)}
+    further = dict.fromkeys(paths)
+    identities = {path: _identity(path) for path in written | further}
     known = Counter({_places().entry(path): of for path, of in identities.items()}.values())
-    return [path for path in written if (of := identities[path]) is not None and _links(path) > known[of]]
+    return [path for path in (further if among_paths else written)
+            if (of := identities[path]) is not None and _links(path) > known[of]]
 
 
 def has_names_beside(path: str, names: Iterable[str]) -> bool:

@@ -15,6 +15,7 @@ from ...common.wording import some_of
 from ...engine import landaudit
 from ...policy import cases, checking, checking_data, checking_text, parents, policies
 from ...policy.checking import Checked
+from ...policy.over_sets import ONLY
 from ...policy.policies import Policy
 from ...summaries import reporting
 from ...summaries.reporting import checked as checked_report
@@ -62,14 +63,20 @@ def run(arguments: argparse.Namespace) -> int:
         reporting.show(checked_report.report(checked, policy), arguments.format)
     if arguments.html is not None:
         checks.write(arguments.html, checked)
-    unasked = parents.with_other_names(policy, [path for one in given.questions for path in one.under])
-    if given.questions and unasked:
+    under = [path for one in given.questions for path in one.under]
+    unasked = parents.with_other_names(policy, under) if under else []
+    if unasked:
         note([f"NOT ALL IS ASKED: {some_of(unasked)} has other names (hard links), on which the rule is too: name them "
               "in the policy or as the path of a question"], POLICIES)
+    linked = parents.with_other_names(policy, under, among_paths=True)
+    reached = {path for one in given.questions if one.kind != ONLY for path in one.under}.intersection(linked)
+    if reached.difference(unasked):
+        note([f"NOT ALL IS ASKED: {some_of(sorted(reached.difference(unasked)))} has other names (hard links), by which a "
+              "right may pass: name them as paths of the question"], POLICIES)
     of_refusal = bool(given.questions) or any(case.refused for case in given.cases)
     if of_refusal and varying:
         note([f"NOT ALL IS ASKED: {some_of(varying)} leads elsewhere for each process: name what it leads to"], POLICIES)
-    is_whole = not (given.questions and unasked) and not (of_refusal and varying)
+    is_whole = not (unasked or reached) and not (of_refusal and varying)
     return 1 if checked.failed else 0 if is_whole else NOT_ALL_JUDGED
 
 
