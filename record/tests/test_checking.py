@@ -132,11 +132,11 @@ class Checking(unittest.TestCase):
         )
 
     def test_a_layer_without_a_right_for_files_refuses_moves(self) -> None:
-        """As Linux 6.18 answers under policies for an ABI; ABI 5 stands for those that have scopes."""
+        """As Linux 6.18 answers under policies for an ABI."""
         files = '[[layer]]\nhandled_access_fs = ["all"]\n[[layer.path_beneath]]\nallowed_access = ["all"]\nparent = "@"\n'
         ports, move = 'handled_access_net = ["bind_tcp"]\n', 'call = "rename"\nfrom = "@/open/file"\nto = "@/closed/f"\n'
         device = f'{ports}handled_access_fs = ["ioctl_dev"]\n'
-        for layer, passes, fails in ((ports, "2-3", "4-5"), (device, "2-3", "4-5"), ('scoped = ["signal"]\n', "2-4", "5")):
+        for layer, passes, fails in ((ports, "2-3", "4-5"), (device, "2-3", "4-5"), ('scoped = ["signal"]\n', "2-4", "6")):
             cases = f'[[allowed]]\n{move}abi = "{passes}"\n[[refused]]\n{move}abi = "{fails}"\n'
             with self.subTest(layer):
                 self.assertEqual(self.checked(cases, f"{files}[[layer]]\n{layer}")[0], 0)
@@ -376,6 +376,18 @@ parent = "@"
         status, _, said = self.checked(nothing.format(""), policy)
         self.assertEqual(status, NOT_ALL_JUDGED)
         self.assertIn("NOT ALL IS ASKED: @/open/file has other names (hard links)", said)
+
+    def test_a_layer_of_scopes_alone(self) -> None:
+        """From ABI 6 on it refuses all moves to other directories; Linux of ABI 5 does not know it (docs/SEMANTICS.md)."""
+        policy = ('[[layer]]\nhandled_access_fs = ["refer"]\n[[layer.path_beneath]]\nallowed_access = ["refer"]\n'
+                  'parent = "@"\n[[layer]]\nscoped = ["signal"]\n')
+        case = '[[{}]]\ncall = "rename"\nfrom = "@/closed/file"\nto = "@/open/new"\nabi = "{}"\n'
+        question = '[[nothing]]\nrights = ["refer"]\nunder = "@"\nabi = "{1}"\n'
+        for text, abis, status in ((case, "5", 1), (case, "5-7", 1), (case, "6", 0), (question, "5", 1),
+                                   (question, "5-7", 1), (question, "6", 0)):
+            with self.subTest(text=text, abis=abis):
+                self.assertEqual(self.checked(text.format("refused", abis), policy)[0], status)
+        self.assertEqual([self.checked(case.format("allowed", abis), policy)[0] for abis in ("4", "6")], [0, 1])
 
     def test_a_question_on_a_file_with_another_name(self) -> None:
         """What a directory lets pass, it lets pass by the name in it (Linux 6.18)."""

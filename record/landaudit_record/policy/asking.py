@@ -32,9 +32,9 @@ def opening(path: str, mode: str, **flags: bool) -> Record:
     return {"op": "open", "path": path, "mode": mode, **flags}
 
 
-def under(policy: Policy, abi: int, tree: Tree) -> list[Record]:
+def under(policy: Policy, abi: int, tree: Tree, *, scopes: bool = True) -> list[Record]:
     """The records by which a process confines itself with a policy; the record of a rule names the rule."""
-    layers, _ = fitting.fit(policy, abi)
+    layers, _ = fitting.fit(policy, abi, scopes=scopes)
     return applying.records(policy, layers, tree, RULESET)
 
 

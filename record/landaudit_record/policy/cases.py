@@ -27,6 +27,7 @@ from ..common.jsonl import Record
 from ..common.numbered import Numbered
 from ..common.operations import DESCRIPTOR_CALLS, EXCHANGE, JUDGED, MAKING, OPERATIONS, REMOVING
 from ..common.resolving import DISK, LinkLoop
+from ..common.rights import judged
 from ..common.trees import ROOT, Tree, directory_of, joined, upwards
 from ..common.variables import NOTHING_GIVEN, Given
 from ..recorder import disk
@@ -34,7 +35,7 @@ from ..recorder.disk import MOST_INTERPRETERS
 from . import over_sets
 from .asking import Question, opening
 from .over_sets import ALL_ABIS as ALL_ABIS
-from .over_sets import abis_of
+from .over_sets import abis_of, are_later
 from .policies import LONGEST_PATH, read_port
 
 KINDS = ("reg", "dir", "sym", "char", "block", "fifo", "sock")
@@ -57,13 +58,17 @@ NO_PLACE = "-"
 
 @dataclass(frozen=True)
 class Case:
-    """One case: whether its call must be refused, at which ABIs, the call and its place in words, and what is asked."""
+    """One case: whether its call must be refused, at which ABIs, the call and its place in words, and what is asked.
+
+    `only_later` says that it is about ABIs alone that are judged as the newest of these.
+    """
 
     refused: bool
     abis: range
     call: str
     place: str
     question: Question
+    only_later: bool = False
 
     @property
     def must_be(self) -> str:
@@ -123,7 +128,8 @@ class _CaseReader:
         question = self._question(call, members)
         shown = " -> ".join(str(self.table[key]) for key in members if key in ("path", "from", "to"))
         place = f"port {self.table['port']}" if "port" in members else shown or NO_PLACE
-        return Case(refused, abis_of(self.table, self.place), call, place, question)
+        abis = abis_of(self.table, self.place)
+        return Case(refused, judged(abis), call, place, question, are_later(abis))
 
     def _call(self) -> str:
         call = self.table.get("call")

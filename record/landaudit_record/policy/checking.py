@@ -7,7 +7,7 @@ from dataclasses import dataclass
 from pathlib import Path
 
 from ..common.problems import Problem
-from ..common.rights import steps
+from ..common.rights import NEWEST_ABI, alone, steps
 from ..engine.answers import MOOT, Answer
 from . import asking, cases, deciding, fitting, granting, parents
 from .cases import Case, Cases
@@ -81,12 +81,16 @@ def _outcomes(landaudit: Path, policy: Policy, given: Cases) -> Iterator[Checked
 
 
 def _answers(landaudit: Path, policy: Policy, given: Cases) -> list[dict[int, Answer]]:
-    """What a policy answers to each case at each ABI."""
+    """What a policy answers to each case at each ABI: with scopes and without them, the answer that a case doesn't want."""
     found: list[dict[int, Answer]] = [{} for _ in given.cases]
-    for step in steps(cases.ALL_ABIS, lambda older, newer: fitting.stands_for(policy, newer, older)):
-        own = asking.under(policy, step[-1], given.tree)
+    asked = [(step, True) for step in steps(cases.ALL_ABIS, lambda older, newer: fitting.stands_for(policy, newer, older))]
+    asked += [(alone(NEWEST_ABI), False)] if fitting.refer_by_scopes(policy) else []
+    for step, scopes in asked:
+        own = asking.under(policy, step[-1], given.tree, scopes=scopes)
         trial = asking.trial(own, enumerate(case.question for case in given.cases))
         with asking.asker(landaudit, step, given.tree) as asker:
             for number, by_abi in asker.answers([trial]):
-                found[number].update((abi, asking.decided(answers)) for abi, answers in by_abi.items())
+                case, answers = given.cases[number], {abi: asking.decided(of) for abi, of in by_abi.items()}
+                found[number].update((abi, answer) for abi, answer in answers.items()
+                                     if scopes or (answer.allowed == case.refused and not case.only_later))
     return found

@@ -58,6 +58,17 @@ class Decision:
 
 def decisions(policy: Policy, questions: Sequence[SetQuestion]) -> list[Decision]:
     """The decisions on questions. The policy's parents are what they lead to on this machine."""
+    if not fitting.refer_by_scopes(policy):
+        return _decisions(policy, questions, scopes=True)
+    found: dict[int, Decision] = {}
+    for later in (False, True):
+        some = {number: one for number, one in enumerate(questions) if one.only_later == later}
+        found.update(zip(some, _decisions(policy, list(some.values()), scopes=later)))
+    return [found[number] for number in range(len(questions))]
+
+
+def _decisions(policy: Policy, questions: Sequence[SetQuestion], *, scopes: bool) -> list[Decision]:
+    """The decisions on some of them; without `scopes`, a layer that has these alone refuses nothing."""
     if not questions:
         return []
     policy = parents.by_all_mounts(policy)
@@ -71,7 +82,8 @@ def decisions(policy: Policy, questions: Sequence[SetQuestion]) -> list[Decision
     names = parents.by_object(places.kinds) if any(one.kind == NEVER for one in questions) else {}
     several = [*several, *(paths for paths in names.values() if len(paths) > 1)]
     called.ask_at_each([policy], ALL_ABIS)
-    by_abi = {abi: [_Granting.of(layer, policy, places) for layer in fitting.fit(policy, abi)[0]] for abi in ALL_ABIS}
+    by_abi = {abi: [_Granting.of(layer, policy, places) for layer in fitting.fit(policy, abi, scopes=scopes)[0]]
+              for abi in ALL_ABIS}
     asked = list(dict.fromkeys((abi, rights) for one in questions for abi in one.abis
                                for together in one.asked_at(abi)
                                for rights in (together, *((right,) for right in together if several))))

@@ -41,8 +41,8 @@ Together = tuple[str, ...]
 class SetQuestion:
     """A question: what may not pass on an object, at or under some paths or, of `only`, elsewhere, at some ABIs.
 
-    `asked` has rights that may not pass together, `grouped` those that are asked only where an ABI knows them.
-    `elsewhere` has other paths at which mounts show what is under its paths; of `only`, these are elsewhere too.
+    `asked` has rights that may not pass together, `grouped` those that are asked only where an ABI knows them, and
+    `only_later` says that it is about ABIs alone that are judged as the newest of `abis`. `elsewhere` has other paths at which mounts show what is under its paths; of `only`, these are elsewhere too.
     """
 
     kind: str
@@ -52,6 +52,7 @@ class SetQuestion:
     under: tuple[str, ...]
     abis: range
     elsewhere: tuple[str, ...] = ()
+    only_later: bool = False
 
     @property
     def text(self) -> str:
@@ -107,7 +108,9 @@ class _QuestionReader:
         asked = (rights,) if self.kind == NEVER else tuple((right,) for right in rights)
         under = one_or_several(self.table.get("under", ROOT), self._path, self.place / "under")
         grouped = access.rights - access.outright
-        return SetQuestion(self.kind, tuple(self.table[key]), asked, grouped, under, abis_of(self.table, self.place))
+        abis = abis_of(self.table, self.place)
+        return SetQuestion(self.kind, tuple(self.table[key]), asked, grouped, under, judged(abis),
+                           only_later=are_later(abis))
 
     def _path(self, value: Any, place: DocumentPlace) -> str:
         """A path without links, as the kernel walks it on this machine."""
@@ -126,6 +129,11 @@ class _QuestionReader:
 def abis_of(table: Mapping[str, Any], place: DocumentPlace) -> range:
     """The ABIs that a table is about: those of its `abi`, or all."""
     try:
-        return judged(options.abis(str(table.get("abi", span(ALL_ABIS)))))
+        return options.abis(str(table.get("abi", span(ALL_ABIS))))
     except argparse.ArgumentTypeError as error:
         (place / "abi").fault(str(error))
+
+
+def are_later(abis: range) -> bool:
+    """Whether ABIs are all later than the newest that is judged, so that they have scopes."""
+    return abis[0] > NEWEST_ABI
