@@ -216,6 +216,20 @@ port = 443
         named.touch()
         self.assertNotIn(str(named), self.said(one)[1])
 
+    def test_what_is_at_a_parent_when_a_named_program_begins(self) -> None:
+        """A sandboxer would put the rule on the object that the run has made there by then (docs/POLICIES.md)."""
+        self.policy.write_text('[[layer]]\nhandled_access_fs = ["read_file"]\n[[layer.path_beneath]]\n'
+                               'allowed_access = ["read_file"]\nparent = "/a/f"\n')
+        made = {"path": "/a/f~2~", "kind": "reg", "made": True, "shown": "/a/f"}
+        took: Record = {"op": "unlink", "path": "/a/f", "kernel": "ok"}
+        makes, reads = ({"op": "open", "path": "/a/f~2~", "fd": 3, "kernel": "ok", **how}
+                        for how in ({"mode": "w", "create": True}, {"mode": "r"}))
+        run = {"op": "exec", "path": PROGRAM, "kernel": "ok"}
+        for name, calls, status in (("before", [took, makes, run, reads], 5), ("after", [run, took, makes, reads], 0)):
+            rec = self.recording(name, [*TREE, made], calls)
+            found, out, errors = self.said("--program", PROGRAM, rec)
+            self.assertEqual((found, "/a/f" in out), (status, status == 5), errors)
+
     def test_each_right_on_each_path_is_tried_by_itself(self) -> None:
         """`sort` uses the rights on the first of three directories, fewer on the second, and none on the third."""
         tree = [{"path": path, "kind": "dir"} for path in ("/usr", "/etc", "/home")]

@@ -68,8 +68,9 @@ def opened(
 
 
 def unknown(members: Sequence[Member]) -> frozenset[str]:
-    """The parents of the policy for which it is not known where they led when one of the recordings was made."""
-    return frozenset(parent for member in members for parent in member.recording.unknown)
+    """The parents of the policy for which it is not known where they led when one of the recordings was made, or what is
+    at them when a named program begins."""
+    return frozenset(it for member in members for it in (*member.recording.unknown, *member.recording.moved))
 
 
 def status(members: Sequence[Member]) -> int:
