@@ -3,8 +3,7 @@
 from __future__ import annotations
 
 import json
-from collections.abc import Iterable, Iterator
-from functools import lru_cache
+from collections.abc import Callable, Iterable, Iterator
 from pathlib import Path
 from typing import Any
 
@@ -16,8 +15,8 @@ BLANKS = b" \t\r\n"
 
 _encode = json.JSONEncoder(ensure_ascii=False, separators=(",", ":")).encode
 _encode_escaped = json.JSONEncoder(separators=(",", ":")).encode
-#: A text as JSON. Records repeat their texts, so the JSON forms of this many different texts are kept.
-text = lru_cache(16_384)(_encode)
+#: A text as JSON: the function by which an encoder writes it (the stubs of mypy do not have it).
+text: Callable[[str], str] = getattr(json.encoder, "encode_basestring")
 
 
 def numbered(path: Path) -> Iterator[tuple[int, Record]]:
@@ -62,6 +61,8 @@ def line(record: Record) -> str:
     for name, of in record.items():
         if type(of) is int:
             said.append(f"{text(name)}:{of}")
+        elif type(of) is str:
+            said.append(f"{text(name)}:{text(of)}")
         else:
             said.append(f"{text(name)}:{'true' if of is True else _encode(of)}")
     return f"{{{','.join(said)}}}\n"

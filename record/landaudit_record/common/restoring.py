@@ -141,6 +141,12 @@ class Living:
         if living is not None:
             living.descriptors.pop(fd, None)
 
+    def opens(self, pid: int, members: Members) -> None:
+        """Follows an open as `follow` does."""
+        living = self._by_pid.get(pid)
+        if living is not None:
+            _open(living, "open", members)
+
     def _follow_process(self, op: str, pid: int, members: Members, kernel: str | None) -> None:
         """Follows the beginning or the end of a process, or a program that it runs."""
         living = self._by_pid.get(pid)

@@ -68,7 +68,8 @@ def _convert(
                     _take_call(scene, about, event)
                 else:
                     _take(scene, event)
-                recording.commit()
+                if recording.waiting:
+                    recording.commit()
                 if event.line % LINES_APART == 0:
                     progress.show(recording.records)
         if recording.unsaid[NOT_UNDERSTOOD] > recording.records:

@@ -65,7 +65,8 @@ class User:
 
     def running(self) -> User:
         """The same after an exec, which leaves privileges to root alone (capabilities(7))."""
-        return replace(self, overrides=self.uid == ROOT_USER)
+        overrides = self.uid == ROOT_USER
+        return self if overrides is self.overrides else replace(self, overrides=overrides)
 
 
 #: Of a process of which nothing is known.

@@ -113,7 +113,8 @@ def _is_served(kind: str) -> bool:
 class MountPlaces:
     """The mounts of a run when it began, each with its place, its device, what of the file system it shows, its type.
 
-    `procs` are the places of proc(5) file systems beside /proc.
+    `procs` are the places of proc(5) file systems beside /proc; `are_several` says that a file system is mounted at
+    several places.
     """
 
     def __init__(self, mounts: Iterable[Sequence[str]] = ()) -> None:
@@ -124,11 +125,7 @@ class MountPlaces:
         self.procs = tuple(place for place, (_, _, kind) in of_type.items() if kind == "proc" and place != PROC)
         several = Counter(device for device, _ in self._at.values())
         self._several = {device for device, number in several.items() if number > 1}
-
-    @property
-    def are_several(self) -> bool:
-        """Whether a file system is mounted at several places."""
-        return bool(self._several)
+        self.are_several = bool(self._several)
 
     def splits_links(self, path: str) -> bool:
         """Whether the names of a file are, for all that is known, objects apart though they have one inode's number.

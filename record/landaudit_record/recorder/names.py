@@ -107,12 +107,21 @@ class Node:
 
     def looked_up(self) -> tuple[str | None, int]:
         """Where children of a directory are looked up, and since which line of the log the directory is there."""
-        names: list[str] = []
         arrived, node = 0, self if self.origin is not None else None
         while node is not None and node.name:
-            names.append(node.name)
-            arrived, node = max(arrived, node.arrived), node.over
-        return (join(names[::-1]), arrived) if arrived else (self.origin, 0)
+            if node.arrived > arrived:
+                arrived = node.arrived
+            node = node.over
+        return (join([one.name for one in self._way()]), arrived) if arrived else (self.origin, 0)
+
+    def _way(self) -> "list[Node]":
+        """The directories that lead to a directory, and it itself."""
+        way: list[Node] = []
+        node: Node | None = self
+        while node is not None and node.name:
+            way.insert(0, node)
+            node = node.over
+        return way
 
 
 @dataclass(slots=True)
@@ -247,17 +256,20 @@ class Names:
 
     def _first_of(self, path: str | None) -> str | None:
         """What stands for an object that has several paths by several mounts: the first of them."""
-        others = self.places.others(path) if path is not None else []
-        return min([path, *others]) if path is not None and others else None
+        if path is None or not self.places.are_several:
+            return None
+        others = self.places.others(path)
+        return min([path, *others]) if others else None
 
     def further(self, node: Node) -> list[str]:
         """The other paths that an object has by other mounts when the run begins."""
-        others = self.places.others(node.start) if node.start else []
-        return [path for path in others if self.at_start(path) is node]
+        if not node.start or not self.places.are_several:
+            return []
+        return [path for path in self.places.others(node.start) if self.at_start(path) is node]
 
     def bound(self, node: Node) -> list[Node]:
         """What a directory is at its other paths if it does not show the same there: rules on it are on all of them."""
-        if node.kind != "dir" or not node.start or self.places.others(node.start):
+        if node.kind != "dir" or not node.start or not self.places.are_several or self.places.others(node.start):
             return []
         found = (self.at_start(path) for path in self.places.shown_at(node.start))
         return [one for one in found if one is not None and one is not node and one.kind == "dir"]
@@ -452,6 +464,9 @@ class Names:
 
     def at_start(self, path: str) -> Node | None:
         """The object that is at a path when the run begins, as far as that is known."""
+        found = self._starts.get(path)
+        if found is not None:
+            return found
         unknown, over = [], path
         while over not in self._starts:
             unknown.append(over)
@@ -493,14 +508,13 @@ class Names:
             node = node.over
         return join(names[::-1])
 
-    def meets(self, over: str, name: str, node: Node) -> bool:
-        """Whether an object is at a name in a directory to which a walk has led, as a call shows; false too if nobody
-        knows without another walk.
+    def meets(self, path: str, over: str, name: str, node: Node) -> bool:
+        """Whether an object is at a path, a name in a directory to which a walk has led, as a call shows; false too if
+        nobody knows without another walk.
         """
         directory = self._reached.get(over)
         if directory is None or directory.children.get(name) is not node:
             return False
-        path = f"{over}/{name}"
         if (late := self._late.get(path if not self.places.are_several else self._looked_up(path))) is not None:
             late.is_there = True
         return True

@@ -77,6 +77,10 @@ class Directories:
     since: int = 0
     unsure: bool = False
 
+    def copy(self) -> Directories:
+        """The same for a process of its own."""
+        return Directories(self.root, self.directory, self.since, self.unsure)
+
 
 @dataclass(slots=True, eq=False)
 class Process:

@@ -158,7 +158,7 @@ class Scene:
         process, error = thread.process, call.error
         if thread.layers < len(process.restricted):
             raise CannotSay("a call of a thread with fewer layers than its process")
-        if members.get("unknown") != BEFORE_MODES and self._is_by_modes(process, call, op, members):
+        if error == "EACCES" and members.get("unknown") != BEFORE_MODES and self._is_by_modes(process, call, op, members):
             raise NotAsked(BY_MODES)
         if process.unseen_layer and error in ERRORS_OF_LAYERS:
             raise CannotSay(BY_UNSEEN_LAYER)
@@ -436,8 +436,8 @@ class Scene:
             self.note(thread, call, "adopt", fd=number, kind=handle.adopted)
             handle.in_trace = True
 
-    def close(self, thread: Thread, call: Call, number: int) -> None:
-        """Closes a descriptor."""
+    def close(self, thread: Thread, call: Call, number: int, *, is_last: bool = False) -> None:
+        """Closes a descriptor; `is_last` says that the call does nothing after this."""
         handle = thread.process.table.pop(number, None)
         if handle is None:
             return
@@ -445,7 +445,8 @@ class Scene:
             if handle.ruleset != UNSEEN and not thread.process.holds(handle.ruleset):
                 self.note(thread, call, "close_rs", rs=handle.ruleset)
         elif handle.in_trace:
-            self.recording.add_close(thread.process.pid, call.line, number)
+            add = self.recording.close_last if is_last else self.recording.add_close
+            add(thread.process.pid, call.line, number)
 
     def note_close(self, thread: Thread, call: Call, number: int) -> None:
         """Writes that a descriptor is closed."""
@@ -484,7 +485,7 @@ class Scene:
         maker = self.known(birth.maker, line, text)
         if maker is None:
             return
-        directories = maker.directories if birth.flags & CLONE_FS else replace(maker.directories)
+        directories = maker.directories if birth.flags & CLONE_FS else maker.directories.copy()
         if birth.flags & CLONE_THREAD:
             self._join(Thread(tid, maker.process, directories, maker.layers))
             return

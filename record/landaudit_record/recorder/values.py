@@ -20,7 +20,7 @@ _DESCRIPTOR = re.compile(r"(-?\d+)(?: /\*[^*]*\*/)?(?:<([^<>]*+(?:<[^<>]*+>[^<>]
 _DEVICE = re.compile(r"<(char|block) \d+:\d+>$")
 
 
-@dataclass(frozen=True, slots=True)
+@dataclass(slots=True)
 class Descriptor:
     """A descriptor's number, and what strace says about it: a path, or a name such as `pipe:[1]`, and a device's kind.
 
@@ -36,9 +36,8 @@ class Descriptor:
     in_memory: bool = field(init=False)
 
     def __post_init__(self) -> None:
-        path = self.behind if self.behind is not None and self.behind.startswith("/") else None
-        object.__setattr__(self, "path", path)
-        object.__setattr__(self, "in_memory", path is not None and is_in_memory(path))
+        self.path = self.behind if self.behind is not None and self.behind.startswith("/") else None
+        self.in_memory = self.path is not None and is_in_memory(self.path)
 
 
 def is_in_memory(path: str) -> bool:
@@ -119,7 +118,7 @@ def descriptor(argument: str) -> Descriptor:
         raise CannotSay("a descriptor that is not understood")
     behind, device = match[2], None
     if behind is not None:
-        if kind := _DEVICE.search(behind):
+        if behind[-1:] == ">" and (kind := _DEVICE.search(behind)):
             device, behind = kind[1], behind[: kind.start()]
         behind = unescaped(behind)
     return Descriptor(int(match[1]), behind, device, match[3] is not None)

@@ -41,8 +41,8 @@ IN_PROC = "/proc/"
 """Under this directory names change all the time, so none is kept."""
 #: The beginning of the name of a folder in which a conversion writes until it is done.
 UNDONE = ".converting-"
-#: What a path must not have: another beginning than a slash, an empty name, `.`, `..`, a NUL.
-_NO_PATH = re.compile(r"\A[^/]|\A\Z|/\.{0,2}(?:/|\Z)|\0")
+#: What a path must not have: an empty name, `.`, `..`, a NUL.
+_NO_PATH = re.compile(r"/\.{0,2}(?:/|\Z)|\0")
 
 
 class MetObjects(Protocol):
@@ -208,8 +208,9 @@ class ListedTree:
             self._owners[text] = owner
             if owner is node:
                 self._several.setdefault(node, []).append(text)
-                listed = (one.first for one in self._names.bound(node))
-                node.first = node.first or next(filter(None, listed), text)
+                if node.first is None:
+                    listed = [one.first for one in self._names.bound(node) if one.first is not None]
+                    node.first = listed[0] if listed else text
         if text not in self._lines:
             self._list(text, real, node)
             for bound in self._names.bound(node):
@@ -297,7 +298,8 @@ class Recording:
         self._holes: Counter[str] = Counter()
         self._scopes: Counter[str] = Counter()
         self._living = Living()
-        self._call: list[_Waiting] = []
+        #: The records of the call that is not committed yet.
+        self.waiting: list[_Waiting] = []
         self._parts: list[_PartInMaking] = []
         self._begin_part()
 
@@ -313,7 +315,7 @@ class Recording:
     @property
     def records(self) -> int:
         """The number of records, including those of the call that is not committed yet."""
-        return self._committed + len(self._call)
+        return self._committed + len(self.waiting)
 
     def write(self, op: str, pid: int, call: int, kernel: str | None = None, **members: Any) -> None:
         """Adds a record to those of its call; members that are None or false are left out."""
@@ -321,19 +323,54 @@ class Recording:
 
     def add(self, op: str, pid: int, call: int, kernel: str | None, members: Members) -> None:
         """Adds a record as `write` does, from members that do not change afterwards."""
-        self._call.append((op, pid, members, kernel, trace_lines.written(op, pid, members, call, kernel)))
+        self.waiting.append((op, pid, members, kernel, trace_lines.written(op, pid, members, call, kernel)))
 
     def add_close(self, pid: int, call: int, fd: int) -> None:
         """Adds a close as `add` does."""
-        self._call.append(("close", pid, {"fd": fd}, None, trace_lines.closing(pid, fd, call)))
+        self.waiting.append(("close", pid, {"fd": fd}, None, trace_lines.closing(pid, fd, call)))
 
     def add_open(self, pid: int, call: int, members: Members, said: str) -> None:
         """Adds an open that the kernel allowed as `add` does; `said` are its members by `trace_lines.text_of`."""
-        self._call.append(("open", pid, members, "ok", trace_lines.opening(pid, said, call)))
+        self.waiting.append(("open", pid, members, "ok", trace_lines.opening(pid, said, call)))
+
+    def close_last(self, pid: int, call: int, fd: int) -> None:
+        """Adds and commits a close of a number that the program knows; it is the last record of its call."""
+        if self.waiting:
+            self.add_close(pid, call, fd)
+            return
+        self._keep(trace_lines.closing(pid, fd, call))
+        if fd < FIRST_MADE_UP:
+            self._living.closes(pid, fd)
+
+    def open_last(self, pid: int, call: int, members: Members, said: str) -> None:
+        """Adds and commits an open as `add_open` has it; it is the last record of its call."""
+        if self.waiting:
+            self.add_open(pid, call, members, said)
+            return
+        self._keep(trace_lines.opening(pid, said, call))
+        path = members["path"]
+        if path not in self._objects and path not in self._others:
+            self._need(path)
+        if members["fd"] < FIRST_MADE_UP:
+            self._living.opens(pid, members)
+
+    def _keep(self, line: str) -> None:
+        """Keeps the line of a call that has one record."""
+        if self._in_part >= self._most or len(self._objects) > self._limits.objects:
+            self._end_part()
+            self._begin_part()
+        self._in_part += 1
+        self._committed += 1
+        lines = self._lines
+        lines.append(line)
+        if len(lines) > LINES_KEPT:
+            self._write_lines()
+        if self.tree.fresh:
+            self._list_fresh()
 
     def commit(self) -> None:
         """Keeps the records of a call, in one part."""
-        call = self._call
+        call = self.waiting
         if not call:
             return
         if self._in_part >= self._most or len(self._objects) > self._limits.objects:
@@ -373,7 +410,7 @@ class Recording:
 
         Records that keep the numbers of the process right stay, such as the close of what a number stood for before.
         """
-        self._call[:] = [waiting for waiting in self._call if not _is_judged(waiting)]
+        self.waiting[:] = [waiting for waiting in self.waiting if not _is_judged(waiting)]
 
     def leave_out(
         self, reason: str, line: int, pid: int, call: str, *, asks: bool = False, reach: bool = False
@@ -556,6 +593,6 @@ def checked_path(path: str) -> str:
         raise CannotSay("a name that is not UTF-8") from None
     if length > LONGEST_PATH:
         raise CannotSay(TOO_LONG)
-    if path != "/" and _NO_PATH.search(path):
+    if path != ROOT and (path[:1] != "/" or _NO_PATH.search(path)):
         raise CannotSay("a path that landaudit does not read")
     return path

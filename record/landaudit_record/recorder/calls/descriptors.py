@@ -77,7 +77,7 @@ def _close(scene: Scene, thread: Thread, call: Call) -> None:
     if call.error != "EBADF":
         if call.understood.of is None:
             call.understood.of = values.descriptor(call.arguments[0]).number
-        scene.close(thread, call, call.understood.of)
+        scene.close(thread, call, call.understood.of, is_last=True)
 
 
 def _close_range(scene: Scene, thread: Thread, call: Call) -> None:

@@ -88,12 +88,13 @@ def _opened_again(scene: Scene, thread: Thread, call: Call, again: _Reopened) ->
         return False
     if again.walk is not None and not scene.has_walked(thread, *again.walk):
         return False
-    if not names.meets(again.over, again.name, node):
+    if not names.meets(again.path, again.over, again.name, node):
         return False
     if number in process.table:
         scene.close(thread, call, number)
     process.table[number] = Handle(again.path, node, True, "other", again.close_on_exec)
-    scene.recording.add_open(process.pid, call.line, again.members, again.said)
+    add = scene.recording.add_open if scene.through else scene.recording.open_last
+    add(process.pid, call.line, again.members, again.said)
     return True
 
 
@@ -143,20 +144,19 @@ def _opened(scene: Scene, thread: Thread, call: Call, base: int | None, path: in
             gone = _gone(scene, thread, call, base, path, flags)
         elif not flags & O_PATH:
             _list_links(scene, thread, call, base, path, result.path)
-        succeeded(scene, thread, call, result, flags, gone)
-        if not flags & _NOT_KEPT and result.device is None and not result.deleted:
-            _keep(scene, thread, call, base, path, result, flags)
+        spot = succeeded(scene, thread, call, result, flags, gone)
+        if spot is not None and not flags & _NOT_KEPT and result.device is None and not result.deleted:
+            _keep(scene, thread, call, base, path, result, flags, spot)
     elif not flags & O_PATH:
         _failed(scene, thread, call, base, path, flags)
 
 
 def _keep(
-    scene: Scene, thread: Thread, call: Call, base: int | None, path: int, result: Descriptor, flags: int
+    scene: Scene, thread: Thread, call: Call, base: int | None, path: int, result: Descriptor, flags: int, spot: Spot
 ) -> None:
     """Keeps what an opening became; under /proc names change all the time."""
-    handle, real = thread.process.table[result.number], result.path
-    node = handle.node
-    if node is None or node.others or real is None or real[:5] == "/proc" or not handle.in_trace:
+    node, real = spot.node, spot.real
+    if node is None or node.others or real[:5] == "/proc":
         return
     walk = None
     if (text := values.text(call.arguments[path])) != real:
@@ -164,7 +164,7 @@ def _keep(
             return
         of = arguments.descriptor_at(call, base)
         walk = (of.path if of is not None else None, text)
-    members = _members(scene.there(real, node), result.number, flags, False)
+    members = _members(spot, result.number, flags, False)
     over, _, name = real.rpartition("/")
     said, cloexec, turns = trace_lines.text_of(members), bool(flags & O_CLOEXEC), scene.names.turns
     call.understood.of = _Reopened(result.number, real, over, name, cloexec, node, turns, members, said, walk)
@@ -172,10 +172,10 @@ def _keep(
 
 def succeeded(
     scene: Scene, thread: Thread, call: Call, result: Descriptor, flags: int, gone: Node | None = None
-) -> None:
+) -> Spot | None:
     """A descriptor that is open now: a record, or the data to adopt it if Landlock was not asked.
 
-    `gone` is the object, if it has no name any more.
+    `gone` is the object, if it has no name any more. Gives what the record is about, if there is one.
     """
     handle = thread.process.table[result.number]
     if result.behind is None and not flags & O_PATH:
@@ -183,15 +183,16 @@ def succeeded(
     if result.path is None or flags & O_PATH:
         handle.adopted = "other"
         handle.node = gone or _found(scene, result, flags)
-        return
+        return None
     if result.in_memory:
         handle.adopted = "reg"
-        return
+        return None
     if flags & ACCESS_MODE == ACCESS_MODE:
         _for_ioctl_alone(scene, thread, call, result, flags)
-        return
-    handle.unsure = not gone and not flags & (O_CREAT | O_DIRECTORY) and scene.is_unsure(result)
-    opened = _Opened(scene.there(result.path, gone)) if gone else _opened_spot(scene, result.path, result, flags)
+        return None
+    node = gone or scene.names.at(result.path)
+    handle.unsure = node is None and not flags & (O_CREAT | O_DIRECTORY) and scene.is_unsure(result)
+    opened = _Opened(scene.there(result.path, gone)) if gone else _opened_spot(scene, result.path, node, result, flags)
     _say_opened(scene, thread, call, opened, result.number, flags)
     handle.in_trace = True
     handle.node = opened.spot.node
@@ -202,6 +203,7 @@ def succeeded(
         scene.names.rewritten(result.path)
         if _TAKING_PATHS.fullmatch(result.path):
             scene.leave_out(thread, call, BY_WRITING, asks=True)
+    return opened.spot
 
 
 def _found(scene: Scene, result: Descriptor, flags: int) -> Node | None:
@@ -251,11 +253,12 @@ def _for_ioctl_alone(scene: Scene, thread: Thread, call: Call, result: Descripto
     device = scene.device(result)
     handle.adopted = "device" if device else "other"
     handle.foreign = device is not None
-    opened = _opened_spot(scene, result.path or "/", result, flags)
+    path = result.path or "/"
+    opened = _opened_spot(scene, path, scene.names.at(path), result, flags)
     _say_for_ioctl(scene, thread, call, opened, flags)
     if opened.made:
         handle.node = Node("reg")
-        scene.names.put(result.path or "/", handle.node)
+        scene.names.put(path, handle.node)
 
 
 def _say_for_ioctl(scene: Scene, thread: Thread, call: Call, opened: _Opened, flags: int) -> None:
@@ -273,12 +276,14 @@ def _say_for_ioctl(scene: Scene, thread: Thread, call: Call, opened: _Opened, fl
             scene.say_instead(thread, call, "mknod", making)
 
 
-def _opened_spot(scene: Scene, path: str, result: Descriptor, flags: int) -> _Opened:
-    """The object that was opened, and whether the call made it."""
-    directory = path.rpartition("/")[0]
-    if flags & O_CREAT and scene.names.at(directory) is None:
+def _opened_spot(scene: Scene, path: str, node: Node | None, result: Descriptor, flags: int) -> _Opened:
+    """The object that was opened, and whether the call made it; `node` is what is known to be at the path."""
+    if node is not None and node.kind == "reg" and result.device is None and not flags & (O_CREAT | O_DIRECTORY):
+        scene.names.is_there(path)
+        return _Opened(scene.there(path, node))
+    if flags & O_CREAT and scene.names.at(directory := path.rpartition("/")[0]) is None:
         scene.present(directory, "dir")
-    node = scene.names.at(path)
+        node = scene.names.at(path)
     if flags & O_CREAT and not scene.names.places.makes_files(path):
         flags &= ~O_CREAT
     if flags & O_TMPFILE == O_TMPFILE:
