@@ -86,7 +86,8 @@ def parser(program: CommandLineProgram = RECORD, words: Sequence[str] = ()) -> a
         )
         command.add_arguments(sub)
         hint = getattr(command, "BEHIND_DASHES", None)
-        sub.set_defaults(run=command.run, fault=sub.error, hint=f" ({hint})" if hint else "")
+        more = getattr(command, "MORE_OBJECTS", MORE_OBJECTS)
+        sub.set_defaults(run=command.run, fault=sub.error, hint=f" ({hint})" if hint else "", more_objects=more)
     return top
 
 
@@ -100,8 +101,8 @@ def parse(words: Sequence[str], program: CommandLineProgram = RECORD) -> argpars
     return arguments
 
 
-#: Python looks for cycles each time that there are this many more objects (its default is 700). Audits and conversions
-#: make millions that stay, and looking through them took a fifth of an audit's time.
+#: Python looks for cycles each time that there are this many more objects (its default is 700), unless a subcommand has
+#: another number. Conversions make millions that stay, and looking through them takes long.
 MORE_OBJECTS = 100_000
 
 
@@ -112,6 +113,7 @@ def main(words: Sequence[str] | None = None, program: CommandLineProgram = RECOR
     try:
         with stopping.in_order(), streams.written():
             arguments = parse(sys.argv[1:] if words is None else words, program)
+            gc.set_threshold(arguments.more_objects)
             return int(arguments.run(arguments))
     except Problem as problem:
         return _failed(program, str(problem), problem.status)

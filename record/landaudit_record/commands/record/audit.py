@@ -27,6 +27,8 @@ from ...summaries.reporting.audited import report as audited_report
 from ...summaries.summary_text import SummaryExtras
 
 NAME = "audit"
+#: All that an audit makes stays, and is in no cycle: Python does not look for any.
+MORE_OBJECTS = 0
 #: The version of what --json prints: docs/audit.schema.json describes it, docs/CI.md says when it changes.
 FORMAT = 1
 HELP = "say what a policy would refuse or, without a policy, what the program's own layers refuse"
