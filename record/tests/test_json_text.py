@@ -4,8 +4,10 @@ from __future__ import annotations
 
 import json
 import unittest
+from unittest import mock
 
-from landaudit_record.common.json_text import indented, pieces
+from landaudit_record.common import json_text
+from landaudit_record.common.json_text import Made, indented, pieces
 
 VALUES: list[object] = [
     None, True, False, 0, -3, 1.5, "", 'a "name"\n\\ é \U0001f512 \ud800', [], {}, (), [[]], [{}], {"a": []}, {"a": {}},
@@ -22,3 +24,20 @@ class Indented(unittest.TestCase):
 
     def test_each_value_of_a_list_is_a_piece(self) -> None:
         self.assertIn('{\n      "b": 1\n    }', list(pieces({"a": [{"b": 1}, 2]})))
+
+
+class MadeWhenWritten(unittest.TestCase):
+    """A list of values that are made when they are written, by one process or by several."""
+
+    def test_is_as_json_writes_the_values(self) -> None:
+        for many in (0, 1, 4, 5):
+            value = {"a": Made(lambda number: {"n": number, "to": [number]}, range(many)), "b": [1]}
+            expected = json.dumps({"a": [{"n": number, "to": [number]} for number in range(many)], "b": [1]}, indent=2)
+            self.assertEqual(indented(value), expected)
+            for most in (1, 3):
+                with mock.patch.object(json_text, "AT_ONCE", 2):
+                    self.assertEqual("".join(pieces(value, most=most)), expected, (many, most))
+
+    def test_what_fails_in_another_process_fails_here(self) -> None:
+        with mock.patch.object(json_text, "AT_ONCE", 1), self.assertRaises(ZeroDivisionError):
+            "".join(pieces([Made(lambda number: 1 // number, range(2))], most=2))

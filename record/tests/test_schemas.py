@@ -19,7 +19,7 @@ from landaudit_record.audit.moot import Unasked
 from landaudit_record.audit.summary import Accepted, Refusal, RefusingLayer, Summary, as_data
 from landaudit_record.audit.warnings import OfLog
 from landaudit_record.commands.record import audit
-from landaudit_record.common import jsonl
+from landaudit_record.common import json_text, jsonl
 from landaudit_record.engine.answers import Closed, Condition, Gained, Kept, Missing, Mounting
 from landaudit_record.engine.landaudit import BUILT
 from landaudit_record.policy import checking_data, differing_data, differing_rows
@@ -221,7 +221,7 @@ def an_audit(names: Sequence[str] = ("f", "g")) -> dict[str, Any]:
         "format": 1, "recording": "rec", "policy": None, "as_recorded": False, "status": 1, **as_data(newer),
         "abis": by_abi.as_data(by_abi.steps([older, newer])),
     }
-    found: dict[str, Any] = json.loads(json.dumps(data))
+    found: dict[str, Any] = json.loads(json_text.indented(data))
     return found
 
 

@@ -2,7 +2,6 @@
 
 from __future__ import annotations
 
-import json
 import os
 import subprocess
 import tempfile
@@ -18,6 +17,7 @@ from landaudit_record.audit import summary
 from landaudit_record.audit.summary import RefusingLayer, Summary
 from landaudit_record.audit.warnings import NoLayer
 from landaudit_record.common import layout
+from landaudit_record.common.json_text import indented
 from landaudit_record.common.jsonl import Record
 from landaudit_record.common.problems import Problem
 from landaudit_record.common.rights import FS, NEWEST_ABI, alone
@@ -536,7 +536,7 @@ class Data(unittest.TestCase):
             sorted(data["refusals"][0]),
             ["call", "condition", "error", "layers", "place", "programs", "times"],
         )
-        json.dumps(data)
+        indented(data)
 
     def test_calls_that_may_be_refused(self) -> None:
         found = summed([NNP, *LAYER, (in_doubt(READ), "allowed"), (in_doubt(READ, 6), REFUSED)])
@@ -545,7 +545,7 @@ class Data(unittest.TestCase):
         (told,) = data["may_be_refused"]
         about = (told["call"], told["place"], told["unknown"], told["times"])
         self.assertEqual(about, ("open r", "/a/f", "its kind", 1))
-        self.assertEqual((data["refusals"], found.others_refused), ([], False))
+        self.assertEqual(([*data["refusals"]], found.others_refused), ([], False))
         lines = list(summary_text.lines(found, "title", Style(False)))
         self.assertIn("5 records: 4 allowed, 0 refused, 1 may be refused, 0 not asked (moot)", lines)
         self.assertIn("may be refused: what was there before is not known (1 kind)", lines)

@@ -3,11 +3,13 @@
 from __future__ import annotations
 
 from collections import Counter
-from collections.abc import Iterable, Iterator, Sequence
+from collections.abc import Callable, Iterable, Iterator, Sequence
 from dataclasses import dataclass, field, replace
+from functools import cache, partial
 from pathlib import Path
 from typing import Any
 
+from ..common import json_text
 from ..common.jsonl import Record
 from ..common.operations import call_text
 from ..engine import answers
@@ -22,8 +24,9 @@ from .warnings import MadeByRun, ManyMoot, NoLayer, OfPolicy, ReplacedByRun, Rul
 _LEFT_OUT, _MOOT_CALL = "left out", "moot call"
 #: The ABIs that give one answer.
 _Abis = tuple[int, ...]
-#: Something that is counted, in the counts that it is in.
+#: Something that is counted, in the counts that it is in; and what makes it of the path of the records.
 _Entry = tuple[dict[Any, int], Any]
+_EntryOnPath = tuple[dict[Any, int], Callable[[str], Any]]
 
 
 @dataclass(frozen=True)
@@ -59,8 +62,7 @@ class Refusal:
     _hash: int = field(init=False, compare=False, repr=False)
 
     def __post_init__(self) -> None:
-        parts = self.call, self.subject, self.error, self.layers, self.condition, self.unknown
-        object.__setattr__(self, "_hash", hash(parts))
+        object.__setattr__(self, "_hash", hash((self.call, self.subject, self.error)))
 
     def on(self, path: str) -> Refusal:
         """The same on a path in the place of any path."""
@@ -71,7 +73,7 @@ class Refusal:
         return Refusal(self.call, Subject((path,)), self.error, layers, self.condition, self.unknown)
 
     def __hash__(self) -> int:
-        """The hash, which is made once: audits over several ABIs look up each refusal many times."""
+        """The hash of what differs most, which is made once: audits over several ABIs look up each refusal many times."""
         return self._hash
 
 
@@ -185,7 +187,7 @@ class Summaries:
         so are kinds that differ in nothing but their path.
         """
         known: dict[Alike, list[_Entry]] = {}
-        on_any_path: dict[Alike, list[_Entry] | None] = {}
+        on_any_path: dict[Alike, list[_EntryOnPath] | None] = {}
         for part in parts:
             for kind, line, times in part.kinds:
                 entries = known.get(kind)
@@ -204,7 +206,7 @@ class Summaries:
                 summary.seen += part.records
 
     def _entries_on_path(
-        self, kind: Alike, trace: Path, line: int, abis: range, on_any_path: dict[Alike, list[_Entry] | None]
+        self, kind: Alike, trace: Path, line: int, abis: range, on_any_path: dict[Alike, list[_EntryOnPath] | None]
     ) -> list[_Entry] | None:
         """Where records count by what is known of those that differ in their path alone; None if that is not enough."""
         path = kind.path
@@ -213,9 +215,10 @@ class Summaries:
         alike = kind.without(path)
         if alike not in on_any_path:
             told = alike.told(trace, line)
-            on_any_path[alike] = list(self._entries(told, abis)) if told.is_on_any_path else None
+            each = self._entries(told, abis) if told.is_on_any_path else None
+            on_any_path[alike] = None if each is None else [(counts, _on_path(entry)) for counts, entry in each]
         some, text = on_any_path[alike], path[1:-1].decode()
-        return None if some is None else [(counts, _on(text, entry)) for counts, entry in some]
+        return None if some is None else [(counts, entry(text)) for counts, entry in some]
 
     def _entries(self, told: Told, abis: range) -> Iterator[_Entry]:
         """Where a record counts."""
@@ -301,9 +304,10 @@ class Summaries:
         for abis, refusal, _ in self._refused:
             if alike.setdefault(refusal, abis) != abis:
                 alike[refusal] = None
+        kinds_of = cache(lambda some, unsure: [self._by_abi[abi].kinds(unsure=unsure) for abi in some])
         for (abis, refusal, program), times in self._refused.items():
             for some in [abis] if alike[refusal] else [(abi,) for abi in abis]:
-                each = [self._by_abi[abi].kinds(unsure=refusal.unknown is not None) for abi in some]
+                each = kinds_of(some, refusal.unknown is not None)
                 programs = each[0].get(refusal)
                 if programs is None:
                     programs = Counter()
@@ -313,14 +317,18 @@ class Summaries:
         self._refused.clear()
 
 
-def _on(path: str, entry: Any) -> Any:
-    """What is counted of records on a path, by what is counted of those on any path."""
+def _on_path(entry: Any) -> Callable[[str], Any]:
+    """What makes what is counted of records on a path, by what is counted of those on any path."""
     if entry == (ANY_PATH,):
-        return (path,)
+        return lambda path: (path,)
+    if isinstance(entry, Subject) and entry.paths == (ANY_PATH,):
+        return lambda path: Subject((path,))
     if isinstance(entry, Subject):
-        return Subject((path,)) if entry.paths == (ANY_PATH,) else entry
+        return lambda _: entry
     abis, what, *program = entry
-    return (abis, what.on(path), *program) if program else entry
+    if not program:
+        return lambda _: entry
+    return lambda path: (abis, what.on(path), *program)
 
 
 def _objection_on(path: str, objection: Objection) -> Objection:
@@ -393,7 +401,7 @@ def _left_out(record: Record) -> Subject:
 
 
 def as_data(summary: Summary) -> dict[str, Any]:
-    """The summary as data for programs; its keys stay."""
+    """The summary as data for programs, which `json_text` writes; its keys stay."""
     return {
         "abi": summary.abi,
         "records": summary.records,
@@ -401,9 +409,9 @@ def as_data(summary: Summary) -> dict[str, Any]:
         "refused": summary.verdicts["refused"],
         "moot": summary.verdicts["moot"],
         "unsure": summary.verdicts[UNSURE],
-        "refusals": [_refusal_data(refusal, programs, summary) for refusal, programs in summary.by_frequency()],
+        "refusals": json_text.Made(partial(_refusal_data, summary), summary.by_frequency()),
         "may_be_refused": [
-            {**_refusal_data(refusal, programs, summary), "unknown": refusal.unknown}
+            {**_refusal_data(summary, (refusal, programs)), "unknown": refusal.unknown}
             for refusal, programs in summary.unsure.items()
         ],
         "accepted": [
@@ -423,8 +431,9 @@ def as_data(summary: Summary) -> dict[str, Any]:
     }
 
 
-def _refusal_data(refusal: Refusal, programs: Counter[str], summary: Summary) -> dict[str, Any]:
+def _refusal_data(summary: Summary, counted: tuple[Refusal, Counter[str]]) -> dict[str, Any]:
     """A kind of refused calls; if several recordings were audited, with those in which it occurs."""
+    refusal, programs = counted
     where = summary.recordings.get(refusal)
     return {
         "times": programs.total(),

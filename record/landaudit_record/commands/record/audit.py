@@ -167,7 +167,7 @@ def _print(
         return
     note(notes)
     if arguments.format == JSON:
-        sys.stdout.writelines(json_text.pieces(_data(each, summaries, arguments)))
+        sys.stdout.writelines(json_text.pieces(_data(each, summaries, arguments), most=landaudit.workers()))
         print()
         return
     suggesting = _suggesting(arguments, summaries[-1].abi) if arguments.policy else []
