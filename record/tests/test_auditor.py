@@ -6,13 +6,16 @@ import errno
 import json
 import os
 import unittest
+from collections import Counter
 from pathlib import Path
 from typing import Any
 from unittest import mock
 
 from landaudit_record.common import options
+from landaudit_record.common.finished import Converted, Size
 from landaudit_record.common.jsonl import Record
 from landaudit_record.common.problems import NOT_ALL_JUDGED
+from landaudit_record.engine import landaudit
 from landaudit_record.engine.landaudit_rules import BUILT
 
 from . import pages
@@ -117,6 +120,27 @@ class Trying(StandIn):
         write_lines(self.recording / "trace.jsonl", [*TRACE[:2], made])
         self.audited("compare", self.recording)
         self.assertEqual(self.ran(), ["3"])
+
+    def test_compare_adds_up_the_parts(self) -> None:
+        """In each part a process makes a layer; in the second, the kernel then refuses what landaudit allows."""
+        create = {"op": "create", "pid": PID, "rs": 9, "fs": ["write_file"], "net": [], "call": 2, "kernel": "ok"}
+        part = [*TRACE[:1], create, {"op": "restrict", "pid": PID, "rs": 9, "call": 3, "kernel": "ok"}]
+        opened = {**TRACE[2], "call": 4, "kernel": "EACCES"}
+        sizes = []
+        for number, lines in ((1, part), (2, [*part, opened, {**opened, "call": 5}])):
+            write_lines(self.recording / f"tree-{number}.jsonl", TREE)
+            trace = write_lines(self.recording / f"trace-{number}.jsonl", lines)
+            sizes.append(Size(len(lines), 0, len(TREE), trace.stat().st_size))
+        Converted(tuple(sizes), 1, 2, Counter(), Counter(), Counter(), True, (), ()).write(self.recording)
+        answers = {str(many): ["allowed"] * many for many in (3, 5)}
+        (self.folder / "answers.json").write_text(json.dumps(answers))
+        for workers in (1, 2):
+            with mock.patch.object(landaudit, "workers", return_value=workers):
+                file = self.folder / "differences"
+                status, out, _ = self.audited("compare", self.recording, "--json", "--differences", file)
+            found = json.loads(out)
+            self.assertEqual((status, found["calls"], found["agree"]), (1, 6, 4))
+            self.assertEqual([one["call"] for one in map(json.loads, file.read_text().splitlines())], [4, 5])
 
     def test_compare_judges_nothing_where_no_ruleset_was_made(self) -> None:
         status, _, said = self.audited("compare", self.recording)

@@ -222,6 +222,14 @@ class Tally:
         """How many differences have no name in docs/SEMANTICS.md."""
         return sum(count for because, count in self.differences.items() if not because.named)
 
+    def add(self, other: Tally) -> None:
+        """Adds the calls of a later part."""
+        self.calls += other.calls
+        self.moot += other.moot
+        self.by_op.update(other.by_op)
+        self.differences.update(other.differences)
+        self.examples = other.examples | self.examples
+
 
 def compare(calls: Iterable[JudgedCall], classes: Classes, tally: Tally) -> Iterator[Difference]:
     """Yields each call that differs, and counts all calls."""

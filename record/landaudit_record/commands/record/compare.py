@@ -6,18 +6,19 @@ import argparse
 import json
 import os
 import tempfile
-from collections.abc import Iterable, Iterator
 from dataclasses import replace
 from pathlib import Path
 
 from ...audit import comparing, comparing_text
-from ...audit.comparing import Classes, Difference, Tally
+from ...audit.auditor import Auditing, Files
+from ...audit.comparing import Classes, Tally
 from ...audit.kernel_calls import judged_calls
 from ...common import finished, jsonl, trees
 from ...common.finished import Finished
 from ...common.operations import RULESET_CALLS
 from ...common.options import add_abi, add_landaudit, note
 from ...common.problems import WANTING, Problem
+from ...common.progress import Progress
 from ...common.rights import alone
 from ...common.trace_lines import heads, told
 from ...common.wording import plain
@@ -48,8 +49,9 @@ def run(arguments: argparse.Namespace) -> int:
     recording = finished.opened(arguments.recording)
     tally = Tally()
     if _has_rulesets(recording):
-        with tempfile.TemporaryDirectory() as folder:
-            _keep(_differences(program, recording, Path(folder), arguments.abi, tally), arguments.differences)
+        with tempfile.TemporaryDirectory() as folder, Progress() as progress:
+            auditing = Auditing(program, recording, Path(folder), False, progress)
+            tally = _compared(auditing, arguments.abi, arguments.differences or Path(os.devnull))
     note(f"NOT ALL IS JUDGED: {text}" for text in recording.missing)
     if not tally.calls:
         raise Problem(f"{recording.folder} has no call under a layer: record a program that confines itself", WANTING)
@@ -67,22 +69,27 @@ def _has_rulesets(recording: Finished) -> bool:
     return any(record.get("op") in RULESET_CALLS for record in told_of)
 
 
-def _differences(
-    program: Path, recording: Finished, folder: Path, abi: int, tally: Tally
-) -> Iterator[Difference]:
-    """The calls that differ, part by part, while all calls are counted."""
+def _compared(auditing: Auditing, abi: int, differences: Path) -> Tally:
+    """Compares the calls of each part by a process of its own, and writes those that differ to a file."""
+    recording = auditing.recording
     classes = Classes(trees.read(*(part.tree for part in recording.parts)), abi, _stat_of)
-    report, own = folder / "report.jsonl", witness.own_answers(recording.folder)
-    for part in recording.parts:
-        landaudit.audit(program, alone(abi), part.tree, part.trace, report, best_effort=False, explain=False)
-        calls = judged_calls(judged(part.trace, report, abi), abi)
+    own = witness.own_answers(recording.folder)
+
+    def of_part(files: Files) -> tuple[Tally, Path]:
+        found, differ = Tally(), files.report.with_suffix(".differ")
+        calls = judged_calls(judged(files.trace, files.report, abi), abi)
         known = (replace(call, own=own[call.number]) if call.number in own else call for call in calls)
-        yield from comparing.compare(known, classes, tally)
+        jsonl.write(differ, map(comparing_text.difference_data, comparing.compare(known, classes, found)))
+        files.report.unlink()
+        return found, differ
 
-
-def _keep(differences: Iterable[Difference], file: Path | None) -> None:
-    """Goes through the differences, and writes them to a file if one is named."""
-    jsonl.write(file or Path(os.devnull), map(comparing_text.difference_data, differences))
+    tally = Tally()
+    with open(differences, "wb") as out:
+        for found, differ in auditing.read(auditing.judged(alone(abi), None, explain=False), of_part):
+            tally.add(found)
+            out.write(differ.read_bytes())
+            differ.unlink()
+    return tally
 
 
 def _stat_of(path: str) -> os.stat_result | None:
