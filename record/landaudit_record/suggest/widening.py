@@ -91,7 +91,11 @@ class _Joining:
 
         One that reaches secrets is taken only if all do.
         """
-        self._mergers.update((directory, list(self._of(directory))) for directory in self._changed)
+        for directory in self._changed:
+            if found := list(self._of(directory)):
+                self._mergers[directory] = found
+            else:
+                self._mergers.pop(directory, None)
         self._changed.clear()
         ordered = sorted(
             (it for some in self._mergers.values() for it in some),

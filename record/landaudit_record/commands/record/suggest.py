@@ -18,6 +18,8 @@ from ...suggest.objects import CountedObjects
 from ...suggest.suggesting import Recorded, Round, RuleMaking, suggest
 
 EXACT, BASE = "exact", "base"
+#: What is known of refused calls stays, and is in no cycle: Python does not look for any.
+MORE_OBJECTS = 0
 NAME = "suggest"
 HELP = "print the rules that would have let the refused calls pass, as TOML to paste"
 EXAMPLE = """landaudit-record suggest rec --policy policy.toml >> policy.toml
