@@ -14,7 +14,9 @@ from array import array
 from collections import Counter
 from collections.abc import Iterator, Set
 from dataclasses import dataclass
-from itertools import accumulate, count, islice, zip_longest
+from functools import cached_property
+from itertools import accumulate, compress, count, islice, zip_longest
+from operator import itemgetter
 from pathlib import Path
 from typing import NamedTuple
 
@@ -74,6 +76,19 @@ _OTHERWISE = 64
 #: A line that begins as no record that landaudit-record writes, if it is not in doubt.
 _ODD = 128
 _BEGINS = {head(op): _to_do(op) for op in OPERATIONS}
+
+
+class _ToDos(dict[bytes, int]):
+    """What there is to do with lines, by how they begin."""
+
+    def __missing__(self, _: bytes) -> int:
+        return _ODD
+
+
+_to_do_of, _head_of = _ToDos(_BEGINS).__getitem__, itemgetter(slice(HEAD))
+#: Of each number of what there is to do, whether it is on a path; and what is always to be taken apart.
+_ARE_ON_PATH = bytes(int(to_do & _ON_PATH) for to_do in range(256))
+_TAKEN = re.compile(b"[%c-\xff]" % _RULE)
 _ASKED = tuple(f'{answer}"'.encode() for answer in ASKED_LANDLOCK if answer)
 #: Operations on numbers, as the report has them.
 _OPEN, _CLOSE, _ADOPT, _DUP = (b'"op":"%b"' % op for op in (b"open", b"close", b"adopt", b"dup"))
@@ -222,7 +237,6 @@ class Walk:
         self._abis = abis
         self._differs = reports.differing(abis, only_refused=only_refused)
         self._all, self._by_all = frozenset(abis), reports.by_all(abis)
-        self._offsets = array("Q", [0])
         self._processes = Followed()
         self.records = 0
         self.path_calls = 0
@@ -266,7 +280,7 @@ class Walk:
         """Reads both files, and yields the lines to decode. A long recording spends most of the time here."""
         for first, lines, to_dos, answers in self._blocks():
             begin, many = 0, len(lines)
-            to_dos.append(_ODD)
+            to_dos += bytes([_ODD])
             while begin < many:
                 end = begin + 1 if self._careful else max(begin + 1, to_dos.index(_ODD, begin))
                 if self._careful or to_dos[begin] == _ODD:
@@ -278,15 +292,16 @@ class Walk:
                 self._progress.show(first, "answers read")
         yield from self._united()
 
-    def _plain(self, first: int, lines: list[bytes], to_dos: list[int], answers: list[bytes]) -> Iterator[_Said]:
+    def _plain(self, first: int, lines: list[bytes], to_dos: bytes, answers: list[bytes]) -> Iterator[_Said]:
         """Does as `_lines` with lines that each stand for one record, as nearly all do."""
         self.records += len(lines)
-        on_paths = [line for line, to_do in zip(lines, to_dos) if to_do & _ON_PATH]
+        on_paths = list(compress(lines, to_dos.translate(_ARE_ON_PATH)))
         others = [line for line in on_paths if not line.endswith(LET_THROUGH)]
         self.path_calls += len(on_paths) - len(others) + sum(map(_asked, others))
         differ, processes, behind = self._differs(answers), self._processes, 0
-        told = [index for index, to_do in enumerate(to_dos) if to_do >= _RULE or differ[index]]
-        for index in (*told, len(lines)):
+        told = {found.start() for found in _TAKEN.finditer(to_dos)}
+        told.update(compress(count(), differ))
+        for index in (*sorted(told), len(lines)):
             for between in range(behind, index) if processes.watched else ():
                 if to_dos[between] & _OPENS_NUMBER and processes.watched:
                     yield first + between, lines[between], to_dos[between], answers[between], False
@@ -320,17 +335,15 @@ class Walk:
                     yield said
         self._careful = self._again or self._weighted or bool(self._together)
 
-    def _blocks(self) -> Iterator[tuple[int, list[bytes], list[int], list[bytes]]]:
+    def _blocks(self) -> Iterator[tuple[int, list[bytes], bytes, list[bytes]]]:
         """Reads both files in blocks: the number of the first line, the lines, what there is to do with each, and the
         report's line on each, which is empty for a blank line and for a record that the report leaves out.
         """
-        first, at, begins = 1, 0, _BEGINS.get
+        first = 1
         with open(self.files[0], "rb") as trace, open(self.files[1], "rb") as report:
             shown = None if self._whole else reports.Shown(report)
             while lines := trace.readlines(BLOCK):
-                self._offsets.extend(islice(accumulate(map(len, lines), initial=at), 1, None))
-                at = self._offsets[-1]
-                to_dos = [begins(line[:HEAD], _ODD) for line in lines]
+                to_dos = bytes(map(_to_do_of, map(_head_of, lines)))
                 if shown is not None:
                     answers = shown.block(first, len(lines))
                 elif _ODD in to_dos:
@@ -418,6 +431,12 @@ class Walk:
     def _of_policy(self, line: re.Match[bytes]) -> bytes:
         number = self._processes.policy_of(int(line[1]))
         return b'"policy":null' if number is None else b'"policy":%d' % number
+
+    @cached_property
+    def _offsets(self) -> array[int]:
+        """Where each line of the trace begins: only refused calls on open files are asked for it."""
+        with open(self.files[0], "rb") as trace:
+            return array("Q", accumulate(map(len, trace), initial=0))
 
     def _with_path(self, opened: re.Match[bytes]) -> bytes:
         """The line of the record that opened a file, with the path to show for the file."""
