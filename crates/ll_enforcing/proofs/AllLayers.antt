@@ -31,7 +31,7 @@ use Rattle.ll_fitting.specs.Fitting.{Fitted}
 use Rattle.ll_fitting.specs.Taken.{granted_by, rules_of}
 use Rattle.ll_enforcing.specs.declared.calls.Call.{Call}
 use Rattle.ll_enforcing.specs.declared.calls.Call.TheVariants as calls
-use Rattle.ll_enforcing.specs.Calls.{calls_of_layer, calls_of, operation_of, of_path_rules, of_port_rules}
+use Rattle.ll_enforcing.specs.Calls.{calls_of_layer, calls_of, operation_of}
 use Rattle.ll_enforcing.specs.Answered.{answer_of, answer_on, IsNoObject, HasGained, MayEnforce, IsEnforced}
 use Rattle.ll_enforcing.proofs.Runs.{Leads, leads_none, leads_on, leads_allowed, answers_on, state_on, NoneStarts, judged_on, state_then_on, others_kept}
 use Rattle.ll_enforcing.proofs.OneLayer.{with_granted, with_ports, IsSound, IsAskedOfPort, network_same, leads_create, leads_paths, leads_ports}
@@ -88,12 +88,14 @@ pub mapped : {Z : Type 0} (f : Call → Z) (left : Fitted) → map f (calls_of_l
     ++ map (λ rule. f (calls.AddPort left.layer rule)) left.port_rules ++ f (calls.RestrictSelf left.layer) ∷ f (calls.CloseRuleset left.layer) ∷ [])
 unfolding calls_of_layer
 mapped f left =
+    let on_paths : List Call = map (λ rule. calls.AddPath left.layer rule) left.path_rules in
+    let on_ports : List Call = map (λ rule. calls.AddPort left.layer rule) left.port_rules in
     let last : List Call = calls.RestrictSelf left.layer ∷ calls.CloseRuleset left.layer ∷ [] in
     ap (λ zs. f (calls.CreateRuleset left.layer left.files left.network) ∷ zs)
-    (map-append f (of_path_rules left ++ of_port_rules left) last
+    (map-append f (on_paths ++ on_ports) last
     ∙ ap (λ zs. zs ++ map f last)
-    (map-append f (of_path_rules left) (of_port_rules left)
-    ∙ ap (λ zs. zs ++ map f (of_port_rules left)) (map-map f (λ rule. calls.AddPath left.layer rule) left.path_rules)
+    (map-append f on_paths on_ports
+    ∙ ap (λ zs. zs ++ map f on_ports) (map-map f (λ rule. calls.AddPath left.layer rule) left.path_rules)
     ∙ ap (λ zs. map (λ rule. f (calls.AddPath left.layer rule)) left.path_rules ++ zs) (map-map f (λ rule. calls.AddPort left.layer rule) left.port_rules)))
 
 module _ (tree : List Entry) (abi : Abi) (missing : List ℕ) (rs : ℕ) where

@@ -37,7 +37,7 @@ use Rattle.ll_fitting.specs.declared.fitting.FittedPortRule.{FittedPortRule}
 use Rattle.ll_rights.specs.Families.{for_files, for_network, common}
 use Rattle.ll_fitting.specs.Written as policies
 use Rattle.ll_fitting.specs.Written.{listed}
-use Rattle.ll_fitting.specs.Fitting.{left_of, rights_at, rights_on, rights_on_port, fitted_path_rule, fitted_port_rule, fitted_path_rules, fitted_port_rules}
+use Rattle.ll_fitting.specs.Fitting.{left_of, rights_at, rights_on_port, fitted_path_rule, fitted_port_rule, fitted_path_rules, fitted_port_rules}
 use Rattle.ll_fitting.specs.Fitting.{handled_at, handled_files, handled_network, fitted_layer}
 use Rattle.ll_fitting.specs.Taken.{is_refused, granted_by, rules_of}
 use Rattle.ll_fitting.proofs.Left.{on_within, port_valid, AreFit, IsAskedOnPort, created}
@@ -84,8 +84,9 @@ module _ (tree : List Entry) (older newer : Abi) (le : number_of older ≤ numbe
   same_rule : (known : files.has (listed for_files layer.handled_files) files.other ≡ false)
       (own : Layer) (numbered : ℕ × PathRule) → own.handled_files ≡ handled_files older layer →
       All (λ (rule : FittedPathRule). IsListed tree rule.parent) (fitted_path_rule newer layer numbered)
-      → IsSame tree older missing rs own numbered.1.parent (rights_on newer layer numbered.1) (rights_on older layer numbered.1)
-  unfolding fitted_path_rule rights_on
+      → IsSame tree older missing rs own numbered.1.parent (rights_at newer layer numbered.1 numbered.1.parent)
+      (rights_at older layer numbered.1 numbered.1.parent)
+  unfolding fitted_path_rule
   same_rule known own numbered handles listed =
       let rule : PathRule = numbered.1 in
       record {
@@ -111,8 +112,8 @@ module _ (tree : List Entry) (older newer : Abi) (le : number_of older ≤ numbe
       let later : List FittedPathRule = flat_map (fitted_path_rule newer layer) xs in
       let others : List FittedPathRule = flat_map (fitted_path_rule older layer) xs in
       let next : Layer = with_granted tree own (flat_map granted_by here) in
-      let first = goes_rule tree older missing rs before own s numbered.0 numbered.1.parent (rights_on newer layer numbered.1)
-      (rights_on older layer numbered.1)
+      let first = goes_rule tree older missing rs before own s numbered.0 numbered.1.parent (rights_at newer layer numbered.1 numbered.1.parent)
+      (rights_at older layer numbered.1 numbered.1.parent)
       is_tree not_listed held (same_rule known own numbered handles (all_left (λ (rule : FittedPathRule). IsListed tree rule.parent) newest later listed)) in
       let last = goes_paths known before next s xs is_tree not_listed held (handles_same tree older missing rs own (flat_map granted_by here) ∙ handles)
       (all_right (λ (rule : FittedPathRule). IsListed tree rule.parent) newest later listed) in

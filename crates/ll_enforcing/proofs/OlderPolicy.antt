@@ -39,15 +39,14 @@ use Rattle.ll_rights.specs.Families.{for_files, for_network}
 use Rattle.ll_fitting.specs.Written as policies
 use Rattle.ll_fitting.specs.Written.{listed}
 use Rattle.ll_fitting.specs.Misfits as misfits
-use Rattle.ll_fitting.specs.Fitting.{Fitted, fitted, fitted_if_any, fitted_layer, fitted_path_rules, fitted_path_rule, rights_on, rights_at, handled_files}
+use Rattle.ll_fitting.specs.Fitting.{Fitted, fitted, fitted_if_any, fitted_layer, fitted_path_rules, fitted_path_rule, rights_at, handled_files}
 use Rattle.ll_fitting.specs.Fitting.{handled_at, handled_network}
 use Rattle.ll_fitting.specs.Taken.{is_refused, rules_of, layers_of, first_refused}
 use Rattle.ll_fitting.proofs.Left.{all_if, all_flat, none_or, none_told, told_none, fits_if, fits_in, named_alone, on_within, AreFit}
 use Rattle.ll_enforcing.specs.declared.calls.Call.{Call}
 use Rattle.ll_enforcing.specs.declared.calls.Call.TheVariants as calls
 use Rattle.ll_enforcing.specs.Calls.{path_to, operation_of, calls_of_layer, calls_of}
-use Rattle.ll_enforcing.specs.Answered.{is_refusal, IsListed, IsNoObject, HasGained, MayEnforce, records_of}
-use Rattle.ll_enforcing.specs.AtBestEffort.{taken_at, IsTheSame}
+use Rattle.ll_enforcing.specs.Answered.{is_refusal, IsListed, IsNoObject, HasGained, IsTheSame, MayEnforce, records_of, taken_at}
 use Rattle.ll_enforcing.proofs.Runs.{NoneStarts, judged_on, state_then_on}
 use Rattle.ll_enforcing.proofs.AllLayers.{after_layer, unprivileged, gained_more, has_room, ends, leads_nnp}
 use Rattle.ll_enforcing.proofs.OlderRights.{within_nothing, supported_nothing, net_supported_nothing}
@@ -61,7 +60,7 @@ Unrefused rule = is_refused rule ≡ false
 
 none_left : (P : FittedPathRule → Type 0) (abi : Abi) (layer : policies.Layer) → files.has (listed for_files layer.handled_files) files.other ≡ false →
     files.is_empty (handled_files abi layer) ≡ true → All P (fitted_path_rules abi layer)
-unfolding fitted_path_rules fitted_path_rule rights_on handled_at
+unfolding fitted_path_rules fitted_path_rule handled_at
 none_left P abi layer known empty =
     all_flat (λ numbered. Unit {0}) P (fitted_path_rule abi layer)
     (λ numbered there. all_if P (files.is_empty (rights_at abi layer numbered.1 numbered.1.parent)) _
@@ -297,7 +296,7 @@ module _ (tree : List Entry) (older newer : Abi) (le : number_of older ≤ numbe
   some_of f (Some x) b = refl
 
   some_refused : (layers : List Fitted) → is_some (first_refused layers) ≡ list_any refuses_in layers
-  unfolding first_refused
+  unfolding misfits.first_of
   some_refused [] = refl
   some_refused (left ∷ others) =
       some_of _ (find is_refused left.path_rules) (first_refused others)

@@ -19,9 +19,10 @@ use Rattle.ll_fitting.specs.declared.fitting.FittedPortRule.{FittedPortRule}
 use Rattle.ll_fitting.specs.declared.refusing.RefusedRule.{RefusedRule}
 use Rattle.ll_fitting.specs.Fitting.{Fitted}
 use Rattle.ll_fitting.specs.Taken.{is_refused_on, is_refused, first_refused}
+use Rattle.ll_fitting.specs.Misfits.{first_of}
 use Rattle.ll_enforcing.specs.declared.calls.Call.{Call}
 use Rattle.ll_enforcing.specs.declared.calls.Call.TheVariants as calls
-use Rattle.ll_enforcing.specs.Calls.{of_path_rules, of_port_rules, calls_of_layer, calls_of}
+use Rattle.ll_enforcing.specs.Calls.{calls_of_layer, calls_of}
 use Rattle.ll_enforcing.specs.Answered.{answer_on, answer_of, is_refusal}
 
 abbrev refuses : Call → Bool
@@ -61,11 +62,13 @@ or_none (Some x) = refl
 find_in_layer : (left : Fitted) → find refuses (calls_of_layer left) ≡ option_map (λ rule. calls.AddPath left.layer rule) (find is_refused left.path_rules)
 unfolding calls_of_layer answer_of
 find_in_layer left =
-    find-append refuses (of_path_rules left ++ of_port_rules left) (calls.RestrictSelf left.layer ∷ calls.CloseRuleset left.layer ∷ [])
+    let on_paths : List Call = map (λ rule. calls.AddPath left.layer rule) left.path_rules in
+    let on_ports : List Call = map (λ rule. calls.AddPort left.layer rule) left.port_rules in
+    find-append refuses (on_paths ++ on_ports) (calls.RestrictSelf left.layer ∷ calls.CloseRuleset left.layer ∷ [])
     ∙ ap (λ x. option_or x None)
-    (find-append refuses (of_path_rules left) (of_port_rules left)
-    ∙ ap (λ x. option_or (find refuses (of_path_rules left)) x) (find_ports left.layer left.port_rules))
-    ∙ or_none (find refuses (of_path_rules left)) ∙ find_mapped left.layer left.path_rules
+    (find-append refuses on_paths on_ports
+    ∙ ap (λ x. option_or (find refuses on_paths) x) (find_ports left.layer left.port_rules))
+    ∙ or_none (find refuses on_paths) ∙ find_mapped left.layer left.path_rules
 
 -- a call that is found adds the rule that is named
 abbrev Names : Option RefusedRule → Option Call → Type 0
@@ -81,7 +84,7 @@ names_in left None later call names = names
 names_in left (Some rule) later call names = (rule, refl, refl)
 
 names_first : (layers : List Fitted) → Names (first_refused layers) (find refuses (flat_map calls_of_layer layers))
-unfolding first_refused
+unfolding first_of
 names_first [] = tt
 names_first (left ∷ others) =
     subst (λ (call : Option Call). Names (first_refused (left ∷ others)) call)

@@ -1,6 +1,9 @@
--- What the calls that put a policy in force are answered, and what they make of a process.
--- Source: landlock_add_rule(2), landlock_restrict_self(2), "ERRORS"; the kernel's userspace document on Landlock, "Ruleset layers".
-use Rattle.std.specs.Prelude.{◌≡◌, ◌≢◌, ℕ, ◌+◌, ◌<◌, ◌≤◌, Bool, true, false, List, ◌++◌, map, length, All, None, if◌then◌else◌}
+-- What the calls that put a policy in force are answered, and what they make of a process; also those for a newer version, made at an older one by a program
+-- that leaves out what this doesn't know.
+-- Source: landlock_add_rule(2), landlock_restrict_self(2), "ERRORS"; the kernel's userspace document on Landlock, "Ruleset layers" and "Defining and enforcing a security policy".
+use Rattle.std.specs.Prelude.{◌≡◌, ◌≢◌, ℕ, ◌+◌, ◌<◌, ◌≤◌, Bool, true, false, not, List, ◌++◌, map, filter, length, All, None, if◌then◌else◌}
+use Rattle.std.specs.List.{list_any}
+use Rattle.std.specs.Option.{is_some}
 use Rattle.ll_rights.specs.declared.abi.Abi.{Abi}
 use Rattle.ll_rights.specs.declared.fs.Fs.{Fs}
 use Rattle.ll_tree.specs.declared.place.Place.{Place}
@@ -10,8 +13,10 @@ use Rattle.ll_tree.specs.TreeFacts.{IsTree}
 use Rattle.ll_rules.specs.declared.domain.TheConstants.{MOST_LAYERS}
 use Rattle.ll_rules.specs.declared.errno.Errno.TheVariants.{Inval}
 use Rattle.ll_rules.specs.InTree.{node, all_in_tree}
+use Rattle.ll_rules.specs.Layers.{handles_nothing}
 use Rattle.ll_trace.specs.declared.op.Op.{Op}
 use Rattle.ll_trace.specs.declared.op.Record.{Record}
+use Rattle.ll_trace.specs.BestEffort.{at_best_effort}
 use Rattle.ll_semantics.specs.declared.answer.Answer.{Answer}
 use Rattle.ll_semantics.specs.declared.answer.Answer.TheVariants.{Allowed, Moot, Refused}
 use Rattle.ll_semantics.specs.States.{State, Layer}
@@ -20,8 +25,9 @@ use Rattle.ll_semantics.specs.Worlds.{World, judged_from}
 use Rattle.ll_semantics.specs.CallContexts.{world_after}
 use Rattle.ll_fitting.specs.declared.written.Parent.{Parent}
 use Rattle.ll_fitting.specs.declared.written.Parent.TheVariants.{There, Missing}
-use Rattle.ll_fitting.specs.Fitting.{Fitted}
-use Rattle.ll_fitting.specs.Taken.{is_refused_on, rules_of}
+use Rattle.ll_fitting.specs.Written as policies
+use Rattle.ll_fitting.specs.Fitting.{Fitted, fitted}
+use Rattle.ll_fitting.specs.Taken.{is_refused_on, rules_of, layers_of, first_refused}
 use Rattle.ll_enforcing.specs.declared.calls.Call.{Call}
 use Rattle.ll_enforcing.specs.declared.calls.Call.TheVariants as calls
 use Rattle.ll_enforcing.specs.Calls.{calls_of, operation_of}
@@ -88,3 +94,19 @@ pub record IsEnforced (tree : List Entry) (missing : List ℕ) (rs : ℕ) (abi :
       ((world_after tree abi w (records_of process (operations_of tree missing rs layers))).processes process)
   pub others : (other : ℕ) → other < w.count → other ≢ process
       → (world_after tree abi w (records_of process (operations_of tree missing rs layers))).processes other ≡ w.processes other
+
+-- ---- at best effort: the kernel's document advises "a best-effort security approach"
+
+-- what a program calls at an older version, that has a policy's calls for a newer one
+abbrev pub taken_at : List Entry → List ℕ → ℕ → Abi → Abi → List policies.Layer → List Op
+taken_at tree missing rs older newer policy = map (at_best_effort older) (operations_of tree missing rs (fitted newer policy))
+
+-- Of the layers that the process then has on top of its own, those that handle something are the layers that the older version
+-- leaves of the policy; and some such call is refused exactly if the older version refuses a rule of the policy.
+pub record IsTheSame (tree : List Entry) (missing : List ℕ) (rs : ℕ) (older newer : Abi) (process : ℕ) (policy : List policies.Layer) (w : World) : Type 0 where
+  pub layers : List Layer
+  pub handling : filter (λ layer. not (handles_nothing layer)) layers ≡ all_in_tree tree (layers_of older policy)
+  pub own : HasGained layers (w.processes process)
+      ((world_after tree older w (records_of process (taken_at tree missing rs older newer policy))).processes process)
+  pub refused : list_any is_refusal (judged_from tree older w (records_of process (taken_at tree missing rs older newer policy)))
+      ≡ is_some (first_refused (fitted older policy))

@@ -13,18 +13,12 @@ use Rattle.ll_fitting.specs.Fitting.{Fitted}
 use Rattle.ll_enforcing.specs.declared.calls.Call.{Call}
 use Rattle.ll_enforcing.specs.declared.calls.Call.TheVariants as calls
 
-abbrev pub of_path_rules : Fitted → List Call
-of_path_rules left = map (λ rule. calls.AddPath left.layer rule) left.path_rules
-
-abbrev pub of_port_rules : Fitted → List Call
-of_port_rules left = map (λ rule. calls.AddPort left.layer rule) left.port_rules
-
 -- the calls for one layer
 unfoldable pub calls_of_layer : Fitted → List Call
 calls_of_layer left =
     calls.CreateRuleset left.layer left.files left.network
-    ∷ of_path_rules left
-    ++ of_port_rules left
+    ∷ map (λ rule. calls.AddPath left.layer rule) left.path_rules
+    ++ map (λ rule. calls.AddPort left.layer rule) left.port_rules
     ++ calls.RestrictSelf left.layer
     ∷ calls.CloseRuleset left.layer
     ∷ []

@@ -1,5 +1,4 @@
 pub mod Calls
 pub mod Answered
 pub mod WorkedCalls
-pub mod AtBestEffort
 pub mod PlainRestricting

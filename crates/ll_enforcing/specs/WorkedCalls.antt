@@ -1,6 +1,6 @@
 -- A small policy over the small tree, as operations of a process.
 -- Source: the tree is that of docs/FORMATS.md, "The tree file".
-use Rattle.std.specs.Prelude.{ℕ, List, [], ◌∷◌, codes, false}
+use Rattle.std.specs.Prelude.{ℕ, List, [], ◌∷◌, ◌++◌, codes, false}
 use Rattle.ll_rights.specs.declared.abi.Abi.TheVariants.{V1, V4}
 use Rattle.ll_rights.specs.Rights.{read_file, read_dir, write_file, make_reg, truncate}
 use Rattle.ll_rights.specs.NetRights.{connect_tcp}
@@ -65,12 +65,9 @@ newer_on_a_file = handling (truncate ∷ make_reg ∷ []) (on (lists (truncate �
 abbrev pub directories_on_a_file : List Layer
 directories_on_a_file = handling (truncate ∷ make_reg ∷ []) (on (lists [] (make_reg ∷ [])) (file 6) ∷ [])
 
-abbrev pub left_out : List Op
-left_out =
-    operations.Nnp ∷ operations.Create 3 (these (make_reg ∷ [])) (these_on_ports []) ∷ operations.LeaveOutPath (codes "/b/g") ∷ operations.Restrict 3 ∷ operations.CloseRs 3 ∷ []
-
-abbrev pub without_the_rule : List Op
-without_the_rule = operations.Nnp ∷ operations.Create 3 (these (make_reg ∷ [])) (these_on_ports []) ∷ operations.Restrict 3 ∷ operations.CloseRs 3 ∷ []
+-- the operations of a layer that handles making files, with those of its rules
+abbrev pub made_with : List Op → List Op
+made_with rules = operations.Nnp ∷ operations.Create 3 (these (make_reg ∷ [])) (these_on_ports []) ∷ rules ++ operations.Restrict 3 ∷ operations.CloseRs 3 ∷ []
 
 -- ---- a process that may enforce a policy: it has just started, and the tree is the root alone
 

@@ -3,7 +3,7 @@
 ghost use Rattle.std.specs.Prelude.{◌≡◌, ℕ, List, ◌++◌, IfOk, OnOk, map};
 ghost use Rattle.ll_tree.specs.Trees.{Entry};
 ghost use Rattle.ll_semantics.specs.Worlds.{World};
-ghost use Rattle.ll_fitting.specs.{Fitting.fitted, Shown.shown};
+ghost use Rattle.ll_fitting.specs.Fitting.{fitted, shown};
 ghost use Rattle.ll_enforcing.specs.Answered.{MayEnforce, IsEnforced};
 ghost use Rattle.ll_enforcing.specs.Calls.{calls_of, calls_of_layer};
 

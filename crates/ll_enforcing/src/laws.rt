@@ -12,8 +12,7 @@ ghost use Rattle.ll_fitting.specs.Taken.{first_refused};
 ghost use Rattle.ll_fitting.specs.declared.fitting.FittedPathRule.{FittedPathRule as Rule};
 ghost use Rattle.ll_fitting.specs.declared.refusing.RefusedRule.{RefusedRule};
 ghost use Rattle.ll_enforcing.specs.Calls.{calls_of};
-ghost use Rattle.ll_enforcing.specs.Answered.{answer_of, is_refusal, MayEnforce};
-ghost use Rattle.ll_enforcing.specs.AtBestEffort.{IsTheSame};
+ghost use Rattle.ll_enforcing.specs.Answered.{answer_of, is_refusal, IsTheSame, MayEnforce};
 ghost use Rattle.ll_enforcing.specs.PlainRestricting.{plainly_judged};
 
 use crate::calls::Call;

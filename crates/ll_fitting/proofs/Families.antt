@@ -11,9 +11,8 @@ use Rattle.ll_rights.proofs.Sets.{fs_has-united, net_has-united}
 use Rattle.ll_rights.proofs.Supported.{fs_has-supported, net_has-supported}
 use Rattle.ll_rights.proofs.Bitwise.{known_below, has_bit-and, all_each}
 use Rattle.ll_fitting.specs.declared.written.Access.{Access}
-use Rattle.ll_fitting.specs.Written.{listed}
-use Rattle.ll_fitting.specs.Fitting.{left_of}
-use Rattle.ll_fitting.specs.ByRight.{lists, is_left}
+use Rattle.ll_fitting.specs.Written.{listed, lists}
+use Rattle.ll_fitting.specs.Fitting.{left_of, is_left}
 
 -- a right is the one without a name, or another
 abbrev pub IsOtherOrNot : {S R : Type 0} → Family S R → R → Type 0

@@ -31,7 +31,7 @@ use Rattle.ll_fitting.specs.declared.policy.RuleMisfit.TheVariants as misfit
 use Rattle.ll_fitting.specs.declared.policy.Misfit.{Misfit}
 use Rattle.ll_fitting.specs.declared.policy.Misfit.TheVariants as wrong
 use Rattle.ll_fitting.specs.Written.{Layer, listed}
-use Rattle.ll_fitting.specs.Fitting.{left_of, rights_on_kind, rights_at, rights_on, rights_on_port, fitted_path_rule, fitted_port_rule, fitted_path_rules}
+use Rattle.ll_fitting.specs.Fitting.{left_of, rights_on_kind, rights_at, rights_on_port, fitted_path_rule, fitted_port_rule, fitted_path_rules}
 use Rattle.ll_fitting.specs.Fitting.{fitted_port_rules, handled_at, handled_files, handled_network, fitted_if_any, fitted}
 use Rattle.ll_fitting.specs.Misfits as misfits
 use Rattle.ll_fitting.specs.Taken.{IsValid}
@@ -143,10 +143,10 @@ module _ (abi : Abi) (layer : Layer) (known : files.has (listed for_files layer.
   IsAsked rule = (files.is_empty rule.rights ≡ false) × (files.is_within rule.rights (handled_files abi layer) ≡ true)
 
   paths_valid : All IsAsked (fitted_path_rules abi layer)
-  unfolding fitted_path_rules fitted_path_rule rights_on
+  unfolding fitted_path_rules fitted_path_rule
   paths_valid =
       all_flat (λ numbered. Unit {0}) IsAsked (fitted_path_rule abi layer)
-      (λ numbered there. all_if IsAsked (files.is_empty (rights_on abi layer numbered.1)) _ (λ some. (some, on_within numbered.1 numbered.1.parent)))
+      (λ numbered there. all_if IsAsked (files.is_empty (rights_at abi layer numbered.1 numbered.1.parent)) _ (λ some. (some, on_within numbered.1 numbered.1.parent)))
       (enumerate_from 0 layer.path_rules) (λ k d less. tt)
 
 -- ---- rules for ports

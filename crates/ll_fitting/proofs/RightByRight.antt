@@ -12,9 +12,8 @@ use Rattle.ll_tree.specs.Trees.{is_dir}
 use Rattle.ll_fitting.specs.declared.written.PathRule.{PathRule}
 use Rattle.ll_fitting.specs.declared.written.PortRule.{PortRule}
 use Rattle.ll_fitting.specs.declared.written.Parent.TheVariants.{There, Missing}
-use Rattle.ll_fitting.specs.Written.{Layer, listed, listed_for_files, file_rights}
-use Rattle.ll_fitting.specs.Fitting.{is_for_files, counted_on_files, rights_on_kind, rights_at, rights_on_port}
-use Rattle.ll_fitting.specs.ByRight.{lists, lists_for_files, is_left}
+use Rattle.ll_fitting.specs.Written.{Layer, listed, listed_for_files, lists, lists_for_files, file_rights}
+use Rattle.ll_fitting.specs.Fitting.{is_for_files, is_left, counted_on_files, rights_on_kind, rights_at, rights_on_port}
 use Rattle.ll_fitting.proofs.Families.{file_sets, port_sets, both, left_by_right, listed_by_right}
 
 pub of_files : (right : files.FsRight) → files.has file_rights right ≡ files.is_file_right right

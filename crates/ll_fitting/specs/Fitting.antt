@@ -8,7 +8,7 @@ use Rattle.ll_rights.specs.declared.net.Net.{Net}
 use Rattle.ll_rights.specs.declared.kind.Kind.{Kind}
 use Rattle.ll_rights.specs.Rights as files
 use Rattle.ll_rights.specs.NetRights as network
-use Rattle.ll_rights.specs.Families.{Family, for_files, for_network, common}
+use Rattle.ll_rights.specs.Families.{Family, for_files, for_network, knows, common}
 use Rattle.ll_tree.specs.Trees.{is_dir}
 use Rattle.ll_fitting.specs.declared.written.Access.{Access}
 use Rattle.ll_fitting.specs.declared.written.PathRule.{PathRule}
@@ -17,13 +17,18 @@ use Rattle.ll_fitting.specs.declared.written.Parent.{Parent}
 use Rattle.ll_fitting.specs.declared.written.Parent.TheVariants.{There, Missing}
 use Rattle.ll_fitting.specs.declared.fitting.FittedPathRule.{FittedPathRule}
 use Rattle.ll_fitting.specs.declared.fitting.FittedPortRule.{FittedPortRule}
-use Rattle.ll_fitting.specs.Written.{Layer, listed, listed_for_files}
+use Rattle.ll_fitting.specs.declared.fitting.FittedLayer.{FittedLayer}
+use Rattle.ll_fitting.specs.Written.{Layer, listed, listed_for_files, lists}
 
 -- ---- the rights of a rule
 
 -- of the rights that a rule lists, those that its layer handles and the version knows
 unfoldable pub left_of : {S R : Type 0} → Family S R → Abi → Access S → S → S
 left_of family abi handled rights = family.supported abi (common family rights (listed family handled))
+
+-- the same right by right: a layer that handles a list handles the right, and the version knows it
+abbrev pub is_left : {S R : Type 0} → Family S R → Abi → Access S → R → Bool
+is_left family abi handled right = lists family handled right && knows family abi right
 
 -- a rule has a right for files among those that its layer handles, whatever a version knows
 unfoldable pub is_for_files : Layer → PathRule → Bool
@@ -37,14 +42,10 @@ counted_on_files layer rule = if is_for_files layer rule || rule.included then l
 unfoldable pub rights_on_kind : Abi → Layer → PathRule → Kind → Fs
 rights_on_kind abi layer rule kind = left_of for_files abi layer.handled_files (if is_dir kind then listed for_files rule.allowed else counted_on_files layer rule)
 
--- a rule of an included group is left out where its object is missing
+-- what it asks for on its parent; a rule of an included group is left out where its object is missing
 abbrev pub rights_at : Abi → Layer → PathRule → Parent → Fs
 rights_at abi layer rule (There object kind) = rights_on_kind abi layer rule kind
 rights_at abi layer rule Missing = if rule.included then files.no_right else left_of for_files abi layer.handled_files (listed for_files rule.allowed)
-
--- what a rule asks for; a rule that asks for nothing is left out
-unfoldable pub rights_on : Abi → Layer → PathRule → Fs
-rights_on abi layer rule = rights_at abi layer rule rule.parent
 
 -- what a rule asks for on its port
 unfoldable pub rights_on_port : Abi → Layer → PortRule → Net
@@ -60,7 +61,7 @@ left_port_rule index port rights = if network.is_empty rights then [] else recor
 
 -- a rule with what it asks for, if it asks for something
 unfoldable pub fitted_path_rule : Abi → Layer → ℕ × PathRule → List FittedPathRule
-fitted_path_rule abi layer numbered = left_rule numbered.0 numbered.1.parent (rights_on abi layer numbered.1)
+fitted_path_rule abi layer numbered = left_rule numbered.0 numbered.1.parent (rights_at abi layer numbered.1 numbered.1.parent)
 
 unfoldable pub fitted_port_rule : Abi → Layer → ℕ × PortRule → List FittedPortRule
 fitted_port_rule abi layer numbered = left_port_rule numbered.0 numbered.1.port (rights_on_port abi layer numbered.1)
@@ -88,6 +89,16 @@ pub record Fitted : Type 0 where
   pub network : Net
   pub path_rules : List FittedPathRule
   pub port_rules : List FittedPortRule
+
+-- a layer that is left, as the program has it
+abbrev pub shown : FittedLayer → Fitted
+shown left = record {
+  layer = left.layer;
+  files = left.files;
+  network = left.network;
+  path_rules = left.path_rules.items;
+  port_rules = left.port_rules.items;
+}
 
 abbrev pub fitted_layer : Abi → ℕ → Layer → Fitted
 fitted_layer abi index layer = record {

@@ -45,25 +45,20 @@ rule_misfit family handled allowed =
 abbrev pub path_rule_misfit : Layer → PathRule → Option RuleMisfit
 path_rule_misfit layer rule = rule_misfit for_files layer.handled_files rule.allowed
 
-abbrev pub port_misfit : ℕ → Option RuleMisfit
-port_misfit port = if nat_lt LARGEST_PORT port then Some NoPort else None
-
 unfoldable pub port_rule_misfit : Layer → PortRule → Option RuleMisfit
-port_rule_misfit layer rule = option_or (rule_misfit for_network layer.handled_network rule.allowed) (port_misfit rule.port)
+port_rule_misfit layer rule =
+    option_or (rule_misfit for_network layer.handled_network rule.allowed) (if nat_lt LARGEST_PORT rule.port then Some NoPort else None)
 
--- the same of a rule with its index
-abbrev pub told_of_path_rule : ℕ → Layer → ℕ × PathRule → Option Misfit
-told_of_path_rule index layer numbered = option_map (λ misfit. wrong.PathRule index numbered.0 misfit) (path_rule_misfit layer numbered.1)
-
-abbrev pub told_of_port_rule : ℕ → Layer → ℕ × PortRule → Option Misfit
-told_of_port_rule index layer numbered = option_map (λ misfit. wrong.PortRule index numbered.0 misfit) (port_rule_misfit layer numbered.1)
+-- what is told of a rule with its index
+abbrev pub told_of : {R : Type 0} → (ℕ → RuleMisfit → Misfit) → (R → Option RuleMisfit) → ℕ × R → Option Misfit
+told_of told misfit numbered = option_map (told numbered.0) (misfit numbered.1)
 
 -- the first rule of a layer that is wrong
 abbrev pub misfit_on_paths : ℕ → Layer → Option Misfit
-misfit_on_paths index layer = first_of (told_of_path_rule index layer) (enumerate_from 0 layer.path_rules)
+misfit_on_paths index layer = first_of (told_of (wrong.PathRule index) (path_rule_misfit layer)) (enumerate_from 0 layer.path_rules)
 
 abbrev pub misfit_on_ports : ℕ → Layer → Option Misfit
-misfit_on_ports index layer = first_of (told_of_port_rule index layer) (enumerate_from 0 layer.port_rules)
+misfit_on_ports index layer = first_of (told_of (wrong.PortRule index) (port_rule_misfit layer)) (enumerate_from 0 layer.port_rules)
 
 -- what is wrong with a layer: its rules come last, those for files first
 unfoldable pub layer_misfit : ℕ × Layer → Option Misfit

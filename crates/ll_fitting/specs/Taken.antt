@@ -2,7 +2,6 @@
 -- Source: landlock_add_rule(2), "ERRORS"; landlock(7), "Filesystem actions".
 use Rattle.std.specs.Prelude.{◌≡◌, ℕ, nat_lt, Bool, true, false, not, ◌&&◌, List, [], ◌∷◌, map, Option, None, option_map, find, reverse, All, if◌then◌else◌}
 use Rattle.std.specs.List.{flat_map}
-use Rattle.std.specs.Option.{option_or}
 use Rattle.ll_rights.specs.declared.abi.Abi.{Abi}
 use Rattle.ll_rights.specs.declared.fs.Fs.{Fs}
 use Rattle.ll_rights.specs.declared.net.TheConstants.{LARGEST_PORT}
@@ -17,6 +16,7 @@ use Rattle.ll_fitting.specs.declared.fitting.FittedPathRule.{FittedPathRule}
 use Rattle.ll_fitting.specs.declared.refusing.RefusedRule.{RefusedRule}
 use Rattle.ll_fitting.specs.Written.{Layer}
 use Rattle.ll_fitting.specs.Fitting.{Fitted, fitted}
+use Rattle.ll_fitting.specs.Misfits.{first_of}
 
 -- the kernel refuses a rule on what isn't a directory, if some right of it applies to directories alone
 abbrev pub is_refused_on : Parent → Fs → Bool
@@ -52,9 +52,8 @@ layers_of abi layers = map rules_of (fitted abi layers)
 abbrev pub refused_in : Fitted → Option RefusedRule
 refused_in left = option_map (λ rule. record { layer = left.layer; rule = rule.rule }) (find is_refused left.path_rules)
 
-unfoldable pub first_refused : List Fitted → Option RefusedRule
-first_refused [] = None
-first_refused (left ∷ others) = option_or (refused_in left) (first_refused others)
+abbrev pub first_refused : List Fitted → Option RefusedRule
+first_refused layers = first_of refused_in layers
 
 -- ---- what the kernel takes
 

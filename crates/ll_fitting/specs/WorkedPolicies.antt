@@ -2,8 +2,7 @@
 -- Source: docs/POLICIES.md, and the policy of README.md.
 use Rattle.std.specs.Prelude.{ℕ, List, [], ◌∷◌, true, false}
 use Rattle.ll_rights.specs.declared.kind.Kind.TheVariants.{Dir, Reg}
-use Rattle.ll_rights.specs.Rights.{FsRight, execute, write_file, read_file, read_dir, remove_dir, remove_file, make_char, make_dir, make_reg, make_sock, make_fifo}
-use Rattle.ll_rights.specs.Rights.{make_block, make_sym, named_rights}
+use Rattle.ll_rights.specs.Rights.{FsRight, execute, write_file, read_file, read_dir, remove_dir, remove_file, make_char, make_dir, make_reg, make_sock, make_fifo, make_block, make_sym, named_rights}
 use Rattle.ll_rights.specs.NetRights.{NetRight, connect_tcp}
 use Rattle.ll_rules.specs.WorkedRules.{these, these_on_ports}
 use Rattle.ll_rights.specs.declared.fs.Fs.{Fs}
@@ -105,11 +104,11 @@ unfoldable pub fitting : Unit {0}
 unfolding
     Rattle.ll_rules.specs.WorkedRules.checking Rattle.ll_rights.specs.Supported.supported_fs Rattle.ll_rights.specs.Supported.supported_net
     Rattle.ll_fitting.specs.Fitting.left_of Rattle.ll_fitting.specs.Fitting.is_for_files Rattle.ll_fitting.specs.Fitting.counted_on_files
-    Rattle.ll_fitting.specs.Fitting.rights_on_kind Rattle.ll_fitting.specs.Fitting.rights_on
+    Rattle.ll_fitting.specs.Fitting.rights_on_kind
     Rattle.ll_fitting.specs.Fitting.rights_on_port Rattle.ll_fitting.specs.Fitting.fitted_path_rule Rattle.ll_fitting.specs.Fitting.fitted_port_rule
     Rattle.ll_fitting.specs.Fitting.fitted_path_rules Rattle.ll_fitting.specs.Fitting.fitted_port_rules Rattle.ll_fitting.specs.Fitting.handled_at
     Rattle.ll_fitting.specs.Fitting.fitted_if_any Rattle.ll_fitting.specs.Fitting.fitted
-    Rattle.ll_fitting.specs.Taken.is_refused Rattle.ll_fitting.specs.Taken.first_refused Rattle.ll_fitting.specs.Misfits.first_of
+    Rattle.ll_fitting.specs.Taken.is_refused Rattle.ll_fitting.specs.Misfits.first_of
     Rattle.ll_fitting.specs.Misfits.rule_misfit Rattle.ll_fitting.specs.Misfits.port_rule_misfit Rattle.ll_fitting.specs.Misfits.layer_misfit
     Rattle.ll_fitting.specs.Misfits.misfit
 fitting = tt

@@ -2,8 +2,7 @@
 
 ghost use Rattle.std.specs.Prelude.{◌≡◌, IfOk, map};
 ghost use Rattle.ll_fitting.specs.Written.{written};
-ghost use Rattle.ll_fitting.specs.Fitting.{fitted, fitted_layer, fitted_path_rules, fitted_port_rules, handled_at};
-ghost use Rattle.ll_fitting.specs.Shown.{shown};
+ghost use Rattle.ll_fitting.specs.Fitting.{fitted, fitted_layer, fitted_path_rules, fitted_port_rules, handled_at, shown};
 
 use crate::rights::{listed, rights_on, rights_on_port};
 use crate::written::{Access, Layer, Parent};

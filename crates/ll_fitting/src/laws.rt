@@ -8,10 +8,9 @@ ghost use Rattle.ll_rights.specs.Families.{for_files, for_network};
 ghost use Rattle.ll_tree.specs.Trees.{is_dir};
 ghost use Rattle.ll_fitting.specs.declared.written.PathRule.{PathRule as Rule};
 ghost use Rattle.ll_fitting.specs.declared.written.PortRule.{PortRule as RuleOnPort};
-ghost use Rattle.ll_fitting.specs.ByRight.{lists, lists_for_files, is_left};
 ghost use Rattle.ll_rights.specs.declared.abi.Abi.{Abi};
-ghost use Rattle.ll_fitting.specs.Written.{Layer, listed};
-ghost use Rattle.ll_fitting.specs.Fitting.{fitted, is_for_files, rights_at, rights_on_port};
+ghost use Rattle.ll_fitting.specs.Written.{Layer, listed, lists, lists_for_files};
+ghost use Rattle.ll_fitting.specs.Fitting.{fitted, is_for_files, is_left, rights_at, rights_on_port};
 ghost use Rattle.ll_fitting.specs.Misfits.{misfit};
 ghost use Rattle.ll_fitting.specs.Taken.{IsValid};
 

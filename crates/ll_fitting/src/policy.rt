@@ -3,9 +3,8 @@
 ghost use Rattle.std.specs.Prelude.{◌≡◌, false, map, Some, None, IfOk, IfErr};
 ghost use Rattle.ll_rights.specs.Families.{for_files, for_network};
 ghost use Rattle.ll_fitting.specs.Written.{written};
-ghost use Rattle.ll_fitting.specs.Fitting.{fitted};
+ghost use Rattle.ll_fitting.specs.Fitting.{fitted, shown};
 ghost use Rattle.ll_fitting.specs.Misfits as misfits;
-ghost use Rattle.ll_fitting.specs.Shown.{shown};
 
 use crate::fitting::{FittedLayer, fit_layers};
 use crate::rights::listed;

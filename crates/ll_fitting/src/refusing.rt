@@ -2,7 +2,7 @@
 
 ghost use Rattle.std.specs.Prelude.{◌≡◌, map};
 ghost use Rattle.ll_rules.specs.Rulesets.{are_file_rights};
-ghost use Rattle.ll_fitting.specs.Shown.{shown};
+ghost use Rattle.ll_fitting.specs.Fitting.{shown};
 ghost use Rattle.ll_fitting.specs.Taken.{is_refused, refused_in, first_refused};
 
 use crate::fitting::{FittedLayer, FittedPathRule};
@@ -48,7 +48,7 @@ fn refused_in(left: &FittedLayer) -> Option<RefusedRule>
 }
 
 /// The first rule of a policy that the kernel refuses. If there is none, nothing of the policy is refused.
-#[tactic(auto, unfolding(crate::specs::Taken::first_refused))]
+#[tactic(auto, unfolding(crate::specs::Misfits::first_of))]
 pub fn first_refused(layers: &[FittedLayer]) -> Option<RefusedRule>
     ensures { result ≡ first_refused (map shown layers.now) }
 {

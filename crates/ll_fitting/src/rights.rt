@@ -75,9 +75,8 @@ fn rights_on_kind(layer: &Layer, abi: Abi, rule: PathRule, kind: Kind) -> Fs
 }
 
 /// The rights that a rule asks for on its parent at a version: none if it is left out.
-#[tactic(auto, unfolding(crate::specs::Fitting::rights_on))]
 pub(crate) fn rights_on(layer: &Layer, abi: Abi, rule: PathRule) -> Fs
-    ensures { result ≡ fitted.rights_on abi (written layer.now) rule }
+    ensures { result ≡ fitted.rights_at abi (written layer.now) rule rule.parent }
 {
     match rule.parent {
         Parent::There { kind, .. } => rights_on_kind(layer, abi, rule, kind),

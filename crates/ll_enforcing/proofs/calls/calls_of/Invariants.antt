@@ -1,6 +1,6 @@
 use Rattle.std.proofs.Common.{◌≡◌, ◌∷◌, ◌++◌, drop, map}
 use Rattle.std.specs.List.{flat_map}
-use Rattle.ll_fitting.specs.Shown.{shown}
+use Rattle.ll_fitting.specs.Fitting.{shown}
 use Rattle.ll_enforcing.specs.declared.calls.Call.TheVariants.{NoNewPrivs}
 use Rattle.ll_enforcing.specs.Calls.{calls_of_layer}
 use Rattle.ll_enforcing.proofs.calls.calls_of.Given as goal

@@ -1,8 +1,7 @@
 use Rattle.std.proofs.Common.{◌≡◌, ◌++◌, drop, map}
 use Rattle.std.specs.List.{flat_map, enumerate_from}
 use Rattle.ll_fitting.specs.Written.{written}
-use Rattle.ll_fitting.specs.Fitting.{fitted_if_any}
-use Rattle.ll_fitting.specs.Shown.{shown}
+use Rattle.ll_fitting.specs.Fitting.{fitted_if_any, shown}
 use Rattle.ll_fitting.proofs.fitting.fit_layers.Given as goal
 
 -- what is left so far, and what is left of the others, are all

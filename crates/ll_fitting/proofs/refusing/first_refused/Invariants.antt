@@ -1,5 +1,5 @@
 use Rattle.std.proofs.Common.{◌≡◌, drop, map}
-use Rattle.ll_fitting.specs.Shown.{shown}
+use Rattle.ll_fitting.specs.Fitting.{shown}
 use Rattle.ll_fitting.specs.Taken.{first_refused}
 use Rattle.ll_fitting.proofs.refusing.first_refused.Given as goal
 
