@@ -1,10 +1,10 @@
 -- Comparisons on the lines of a file, and the answers to them.
 -- Source: landaudit-rules(1).
-use Rattle.std.specs.Prelude.{◌≡◌, ℕ, List, flat_map, Option, Ok}
-use Rattle.std.specs.Io.KnownBytes.{Appends}
-use Rattle.ll_lines.specs.Lines.{Line}
+use Rattle.std.specs.Prelude.{◌≡◌, ℕ, List, flat_map, Ok}
+use Rattle.std.specs.List.{AllZip}
+use Rattle.ll_lines.specs.Lines.{Line, filled_lines}
 use Rattle.ll_lines.specs.Reading.{Format}
-use Rattle.ll_values.specs.Answers.{by_line, AnswerEach}
+use Rattle.ll_values.specs.Answers.{by_line}
 use Rattle.ll_values.specs.Texts.{line_of}
 use Rattle.ll_comparison.specs.declared.comparison.Comparison.{Comparison as Compared}
 use Rattle.ll_comparison.specs.declared.found.Found.{Found}
@@ -27,9 +27,5 @@ pub record IsAnswer (line : Line) (text : List ℕ) : Type 0 where
 -- an answer for each line that isn't blank
 pub record AreAnswers (bytes : List ℕ) (text : List ℕ) : Type 0 where
   pub texts : List (List ℕ)
-  pub each : AnswerEach IsAnswer bytes texts
+  pub each : AllZip IsAnswer (filled_lines bytes) texts
   pub are_text : text ≡ flat_map (λ own. own) texts
-
--- with status 0 all comparisons are answered
-abbrev pub WritesAnswers : List ℕ → ℕ → Option (List ℕ) → Option (List ℕ) → Type 0
-WritesAnswers bytes status old new = status ≡ 0 → (text : List ℕ) × AreAnswers bytes text × Appends old new text

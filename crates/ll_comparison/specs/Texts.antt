@@ -1,6 +1,6 @@
 -- What is found of two policies, as JSON.
 -- Source: landaudit-rules(1).
-use Rattle.std.specs.Prelude.{ℕ, List, [], ◌∷◌, codes, Option, Vec}
+use Rattle.std.specs.Prelude.{ℕ, List, [], ◌∷◌, codes, Vec}
 use Rattle.std.specs.Borrow.{Bor}
 use Rattle.std.specs.Global.{Global}
 use Rattle.json.specs.Json.{Json}
@@ -23,18 +23,6 @@ numbers_json = list_json whole_json
 abbrev pub gain_json : Gain → Json
 gain_json gain = object_of ((codes "directory", whole_json gain.directory) ∷ (codes "chain", numbers_json gain.chain) ∷ [])
 
--- for each right, each old layer's chain
-abbrev pub chains_json : Vec (Vec (Option (Vec ℕ Global)) Global) Global → Json
-chains_json = list_json (list_json (option_json numbers_json))
-
--- for each right and each old layer, objects
-abbrev pub single_json : Vec (Vec (Vec ℕ Global) Global) Global → Json
-single_json = list_json (list_json numbers_json)
-
--- for each right, each old layer's gain
-abbrev pub gains_json : Vec (Vec (Option Gain) Global) Global → Json
-gains_json = list_json (list_json (option_json gain_json))
-
 -- what is moved: directories beneath which objects are, and objects themselves
 abbrev pub movers_json : Movers → Json
 movers_json movers = object_of ((codes "beneath", numbers_json movers.beneath) ∷ (codes "themselves", numbers_json movers.themselves) ∷ [])
@@ -42,10 +30,6 @@ movers_json movers = object_of ((codes "beneath", numbers_json movers.beneath) �
 -- what each policy alone lets be moved to a region
 abbrev pub moved_to_json : MovedTo → Json
 moved_to_json moved = object_of ((codes "new", movers_json moved.new) ∷ (codes "old", movers_json moved.old) ∷ [])
-
--- for each kind of objects, what is moved to each region
-abbrev pub moves_json : Vec (Vec (Option MovedTo) Global) Global → Json
-moves_json = list_json (list_json (option_json moved_to_json))
 
 -- the regions or ports under both policies, under the new one alone, and under the old one alone
 abbrev pub passing_json : Passing → Json
@@ -59,13 +43,14 @@ lost_json lost = object_of (
     ∷ (codes "signal", option_json whole_json lost.signal)
     ∷ [])
 
+-- of each right, what is found of each old layer; of each kind of objects, what is moved to each region
 abbrev pub found_json : Found → Json
 found_json found = object_of (
     (codes "regions", list_json passing_json found.regions)
-    ∷ (codes "objects", chains_json found.objects)
-    ∷ (codes "single", single_json found.single)
-    ∷ (codes "gains", gains_json found.gains)
-    ∷ (codes "moves", moves_json found.moves)
+    ∷ (codes "objects", list_json (list_json (option_json numbers_json)) found.objects)
+    ∷ (codes "single", list_json (list_json numbers_json) found.single)
+    ∷ (codes "gains", list_json (list_json (option_json gain_json)) found.gains)
+    ∷ (codes "moves", list_json (list_json (option_json moved_to_json)) found.moves)
     ∷ (codes "ports", list_json passing_json found.ports)
     ∷ (codes "lost", lost_json found.lost)
     ∷ (codes "spare_layers", whole_json found.spare_layers)

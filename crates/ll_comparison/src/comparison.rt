@@ -3,7 +3,7 @@
 ghost use Rattle.std.specs.Prelude.{◌≡◌, IfOk, length, map, false, []};
 ghost use Rattle.serde_json.specs.View.{view, items_view};
 ghost use Rattle.ll_lines.specs.Readers.{Gives, Reads};
-ghost use Rattle.ll_policy.specs.Places.{is_file_in};
+ghost use Rattle.ll_policy.specs.Chains.{is_file_in};
 ghost use Rattle.ll_values.specs.Lists.{fold_items, one_more, truth_in};
 ghost use Rattle.ll_comparison.specs.Comparisons.{scopes_in, files_at, with_parent, parents_at, port_count_at, asked_at, asked_in, layer_in, layers_at, comparison_in, comparison_on, seen, all_seen};
 

@@ -1,7 +1,7 @@
 //! What is found of two policies.
 
 ghost use Rattle.std.specs.Prelude.{◌≡◌, false, IfOk};
-ghost use Rattle.ll_policy.specs.Places.{is_file_in};
+ghost use Rattle.ll_policy.specs.Chains.{is_file_in};
 ghost use Rattle.ll_comparison.specs.Findings.{AreLost, IsFound};
 
 use crate::comparison::Comparison;

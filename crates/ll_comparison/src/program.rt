@@ -1,8 +1,9 @@
 //! The comparisons of a file, answered.
 
-ghost use Rattle.std.specs.Prelude.{◌≡◌, ◌⊎◌};
+ghost use Rattle.std.specs.Prelude.{◌≡◌, ◌⊎◌, ℕ, List};
+ghost use Rattle.std.specs.Io.KnownBytes.{Appends};
 ghost use Rattle.ll_values.specs.Answers.{IsRefused};
-ghost use Rattle.ll_comparison.specs.Answers.{comparison_format, WritesAnswers};
+ghost use Rattle.ll_comparison.specs.Answers.{comparison_format, AreAnswers};
 
 use crate::answers::compare_lines;
 use ll_values::{complain, write_whole};
@@ -19,7 +20,8 @@ pub fn write_answers<O: Write, E: Write>(
     err: &mut E,
 ) -> u8
     ensures status { (result ≡ 0) ⊎ (result ≡ 3) ⊎ (result ≡ 4) }
-    ensures answers { WritesAnswers bytes.now result (O.contents out.old) (O.contents out.new) }
+    ensures answers { result ≡ 0 → (text : List ℕ) × AreAnswers bytes.now text
+        × Appends (O.contents out.old) (O.contents out.new) text }
     ensures refused { result ≡ 3 → IsRefused comparison_format bytes.now out.old out.new }
     ensures quiet { result ≡ 0 → err.new ≡ err.old }
 {

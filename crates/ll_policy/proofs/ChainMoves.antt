@@ -20,7 +20,7 @@ use Rattle.ll_policy.specs.Chains.{Granting, is_among, some_among}
 use Rattle.ll_policy.specs.Chains as chains
 use Rattle.ll_policy.specs.Granted.{granting}
 use Rattle.ll_policy.specs.WaysUp.{ruled, all_ruled, way_up}
-use Rattle.ll_policy.specs.PassingMoves.{lets_pass, lets_use, is_none, linking, renaming}
+use Rattle.ll_policy.specs.Verdicts.{lets_pass, lets_use, is_none, linking, renaming}
 use Rattle.ll_policy.specs.Moving.{applies, about_moves, gains_nothing, gains_none, comes, link_passes, rename_passes, IsWayUp, GoesBy}
 use Rattle.ll_policy.proofs.Lists.{in_flat_map, that_passes, some_passes, all_of_mapped, here, there}
 use Rattle.ll_policy.proofs.Bridge.{AreRuledBy, by_way, cons_or_nil, handles_alike, equal_tests}

@@ -5,8 +5,7 @@ use Rattle.std.specs.List.{list_all, enumerate_from}
 use Rattle.std.proofs.lemmas.List.{at_drop_more, at_drop_all}
 use Rattle.std.specs.Prelude.{All, Some, None, find, map, filter}
 use Rattle.std.proofs.lemmas.List.Elements.{All-cons}
-use Rattle.ll_policy.specs.Chains.{Granting, is_among}
-use Rattle.ll_policy.specs.Places.{places_from}
+use Rattle.ll_policy.specs.Chains.{Granting, is_among, places_from}
 
 -- a number before the first isn't among them
 before : (n k : ℕ) (marks : List Bool) → k < n → is_among k (places_from n marks) ≡ false

@@ -19,7 +19,7 @@ use Rattle.ll_rules.specs.Checks.{numbers_from}
 use Rattle.ll_rules.specs.Moves.{lacks_one_of, gains, other_gains, denies, holds_back, source_of, destination_of, kind_there, asked_of_source}
 use Rattle.ll_rules.specs.Moves.{asked_of_destination, refused_or, move_verdict}
 use Rattle.ll_rules.proofs.AskedRights.{some_agree}
-use Rattle.ll_policy.specs.AlikeMoves.{SameAbove, path_there, stays, AreAlike, within_one_directory}
+use Rattle.ll_policy.specs.Verdicts.{SameAbove, path_there, stays, AreAlike, within_one_directory}
 use Rattle.ll_policy.proofs.RuledAlike.{granted-alike, is_lacking-alike, numbers-within}
 
 lacks_one_of-alike : (p q : Path) (layer : RulesOn Path) → SameAbove p q layer → (asked again : List FsRight) → asked ≡ again

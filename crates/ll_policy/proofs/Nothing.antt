@@ -9,7 +9,7 @@ use Rattle.ll_rights.specs.Rights as files
 use Rattle.ll_rules.specs.Layers.{RulesOn}
 use Rattle.ll_policy.specs.declared.gaining.Gain.{Gain}
 use Rattle.ll_policy.specs.Chains.{Granting, IsExcess, NothingMoreThan, Tells}
-use Rattle.ll_policy.specs.Found.{TellsObjects, TellsGains, is_nothing}
+use Rattle.ll_policy.specs.Found.{OfLayers, is_nothing}
 use Rattle.ll_policy.specs.Gains.{IsGain, KeepsGains, AllKeepGains, TellsGain, granting_there}
 use Rattle.ll_policy.specs.Granted.{granting, root, NothingMoreOnObjects}
 use Rattle.ll_policy.proofs.Everywhere.{each_there}
@@ -62,10 +62,10 @@ of_all : {R : Type 0} (Q : R → Type 0) (rights : List R) → ((right : R) → 
 of_all Q rights there_is = (λ each right. All-contains Q rights right each (there_is right), λ each k d within. each (get_or rights k d))
 
 pub nothing_on_objects : (is_file : ℕ → Bool) (old new : List (RulesOn ℕ)) (found : List (Vec (Option (Vec ℕ Global)) Global))
-    → AllZip (TellsObjects is_file old new) files.all_rights found → (is_nothing found ≡ true) ↔ NothingMoreOnObjects is_file old new
+    → AllZip (OfLayers (Tells is_file root) old new) files.all_rights found → (is_nothing found ≡ true) ↔ NothingMoreOnObjects is_file old new
 nothing_on_objects is_file old new found each =
     both_ways
-    (all_by (TellsObjects is_file old new) (λ (layers : Vec (Option (Vec ℕ Global)) Global). list_all is_none layers.items)
+    (all_by (OfLayers (Tells is_file root) old new) (λ (layers : Vec (Option (Vec ℕ Global)) Global). list_all is_none layers.items)
     (λ right. All (λ layer. NothingMoreThan is_file root layer (map (granting right) new)) (map (granting right) old)) files.all_rights found
     (λ right layers tells. chains is_file root (map (granting right) new) (map (granting right) old) layers.items tells) each)
     (both_ways
@@ -75,10 +75,10 @@ nothing_on_objects is_file old new found each =
     ))
 
 pub nothing_gained : (is_file : ℕ → Bool) (old new : List (RulesOn ℕ)) (found : List (Vec (Option Gain) Global))
-    → AllZip (TellsGains is_file old new) files.all_rights found → (is_nothing found ≡ true) ↔ AllKeepGains is_file old new
+    → AllZip (OfLayers (TellsGain is_file) old new) files.all_rights found → (is_nothing found ≡ true) ↔ AllKeepGains is_file old new
 nothing_gained is_file old new found each =
     both_ways
-    (all_by (TellsGains is_file old new) (λ (layers : Vec (Option Gain) Global). list_all is_none layers.items)
+    (all_by (OfLayers (TellsGain is_file) old new) (λ (layers : Vec (Option Gain) Global). list_all is_none layers.items)
     (λ right. All (KeepsGains is_file (map (granting right) new)) (map (granting right) old)) files.all_rights found
     (λ right layers tells. gains is_file root (map (granting right) new) (map (granting right) old) layers.items tells) each)
     (of_all (λ right. All (KeepsGains is_file (map (granting right) new)) (map (granting right) old)) files.all_rights each_there)

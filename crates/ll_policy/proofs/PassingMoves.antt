@@ -20,7 +20,7 @@ use Rattle.ll_rules.specs.Moves.{lacks_one_of, gains, denies, holds_back, source
 use Rattle.ll_tree.proofs.Positions.{same_path, path_eq-same}
 use Rattle.ll_rules.proofs.AskedRights.{some_agree, one_asked}
 use Rattle.ll_rules.proofs.Booleans.{or_assoc, and_true}
-use Rattle.ll_policy.specs.PassingMoves.{passes, lets_pass, is_none, lets_use, renaming, linking, exchanging}
+use Rattle.ll_policy.specs.Verdicts.{passes, lets_pass, is_none, lets_use, renaming, linking, exchanging}
 use Rattle.ll_policy.proofs.RightByRight.{some_or}
 
 -- ---- truths

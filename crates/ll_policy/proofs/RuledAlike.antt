@@ -9,7 +9,7 @@ use Rattle.ll_lines.specs.Paths.{Path, is_prefix}
 use Rattle.ll_rules.specs.Layers.{RulesOn, granted}
 use Rattle.ll_rules.specs.Checks.{numbers_from}
 use Rattle.ll_rules.proofs.AskedRights.{some_agree}
-use Rattle.ll_policy.specs.AlikeMoves.{SameAbove}
+use Rattle.ll_policy.specs.Verdicts.{SameAbove}
 
 -- ---- lists, where two tests agree on each element
 

@@ -7,8 +7,7 @@ use Rattle.std.proofs.Math.ListN.{drop_of_length-le}
 use Rattle.std.proofs.lemmas.List.{length-map, map-append}
 use Rattle.ll_rules.proofs.Booleans.{or_false}
 use Rattle.ll_policy.specs.declared.regions.Passing.{Passing}
-use Rattle.ll_policy.specs.Chains.{Granting, is_among, some_among, lets, passes}
-use Rattle.ll_policy.specs.Places.{places_of}
+use Rattle.ll_policy.specs.Chains.{Granting, is_among, some_among, lets, passes, places_of}
 use Rattle.ll_policy.specs.Regions.{chains_from, chains_of, region, single, spread, passes_with, numbers_of, TellsPassing}
 use Rattle.ll_policy.proofs.Marks.{among}
 

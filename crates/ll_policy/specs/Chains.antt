@@ -1,6 +1,6 @@
 -- Layers for one right, the chains of objects that they let pass, and when new layers let nothing more pass than old ones.
 -- Source: the kernel's userspace document on Landlock, "Layers of file path access rights".
-use Rattle.std.specs.Prelude.{◌≡◌, ℕ, Bool, true, false, not, ◌||◌, ◌==◌, List, All, Option, MatchOption, Vec}
+use Rattle.std.specs.Prelude.{◌≡◌, ℕ, ◌+◌, Bool, true, false, not, ◌||◌, ◌==◌, List, [], ◌∷◌, ◌++◌, All, Option, MatchOption, Vec, if◌then◌else◌, slice_index_or}
 use Rattle.std.specs.Global.{Global}
 use Rattle.std.specs.List.{list_any, list_all, Contains}
 
@@ -11,6 +11,18 @@ pub record Granting : Type 0 where
 
 unfoldable pub is_among : ℕ → List ℕ → Bool
 is_among object objects = list_any (λ own. object == own) objects
+
+-- which objects are files; those that aren't listed count as files
+abbrev pub is_file_in : List Bool → ℕ → Bool
+is_file_in files object = slice_index_or files object true
+
+-- the numbers of the marks that are set, where the first has a given number
+unfoldable pub places_from : ℕ → List Bool → List ℕ
+places_from number [] = []
+places_from number (mark ∷ marks) = (if mark then number ∷ [] else []) ++ places_from (number + 1) marks
+
+abbrev pub places_of : List Bool → List ℕ
+places_of marks = places_from 0 marks
 
 -- ---- what passes
 

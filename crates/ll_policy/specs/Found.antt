@@ -7,12 +7,10 @@ use Rattle.std.specs.Global.{Global}
 use Rattle.ll_rights.specs.declared.fs.Fs.{Fs}
 use Rattle.ll_rights.specs.Rights.{FsRight, has, all_rights}
 use Rattle.ll_rules.specs.Layers.{RulesOn}
-use Rattle.ll_policy.specs.declared.gaining.Gain.{Gain}
 use Rattle.ll_policy.specs.declared.layer.Layer.{Layer}
-use Rattle.ll_policy.specs.Chains.{Granting, Tells}
+use Rattle.ll_policy.specs.Chains.{Granting}
 use Rattle.ll_policy.specs.Choices.{enough_of}
-use Rattle.ll_policy.specs.Gains.{TellsGain}
-use Rattle.ll_policy.specs.Granted.{granting, root}
+use Rattle.ll_policy.specs.Granted.{granting}
 use Rattle.ll_policy.specs.Policies.{rules_of}
 
 -- the layers that are asked about a right: all, if it is among the rights that are asked about
@@ -23,26 +21,18 @@ asked_of asked right layers = if has asked right then layers else []
 abbrev pub said : Fs → FsRight → List (RulesOn ℕ) → List Granting
 said asked right layers = map (granting right) (asked_of asked right layers)
 
--- of each right for files what is told of it and of the layers that are asked about it
-abbrev pub OfEach : {T : Type 0} → (List (RulesOn ℕ) → List (RulesOn ℕ) → FsRight → Vec T Global → Type 0) → Fs → List Layer → List Layer → Vec (Vec T Global) Global → Type 0
-OfEach tells asked old new found =
-    AllZip (λ right. tells (asked_of asked right (map rules_of old)) (asked_of asked right (map rules_of new)) right) all_rights found.items
+-- of a right for files what is told of each old layer, by what it and all new layers say of the right
+abbrev pub OfLayers : {T : Type 0} → (List Granting → Granting → T → Type 0) → List (RulesOn ℕ) → List (RulesOn ℕ) → FsRight → Vec T Global → Type 0
+OfLayers tells old new right found = AllZip (tells (map (granting right) new)) (map (granting right) old) found.items
 
--- what is found of a right for files: for each old layer nothing, or a chain
-abbrev pub TellsObjects : (ℕ → Bool) → List (RulesOn ℕ) → List (RulesOn ℕ) → FsRight → Vec (Option (Vec ℕ Global)) Global → Type 0
-TellsObjects is_file old new right found = AllZip (Tells is_file root (map (granting right) new)) (map (granting right) old) found.items
+-- the same of each right for files, and of the layers that are asked about it
+abbrev pub OfEach : {T : Type 0} → (List Granting → Granting → T → Type 0) → Fs → List Layer → List Layer → Vec (Vec T Global) Global → Type 0
+OfEach tells asked old new found =
+    AllZip (λ right. OfLayers tells (asked_of asked right (map rules_of old)) (asked_of asked right (map rules_of new)) right) all_rights found.items
 
 -- what is found of an old layer: those of so many objects each of which is enough
 abbrev pub TellsSingle : ℕ → List Granting → Granting → Vec ℕ Global → Type 0
 TellsSingle count new old found = found.items ≡ enough_of count old new
-
--- what is found of a right for files: for each old layer the objects each of which is enough
-abbrev pub TellsSingleObjects : ℕ → List (RulesOn ℕ) → List (RulesOn ℕ) → FsRight → Vec (Vec ℕ Global) Global → Type 0
-TellsSingleObjects count old new right found = AllZip (TellsSingle count (map (granting right) new)) (map (granting right) old) found.items
-
--- what is found of a right for files when objects are moved: for each old layer nothing, or a gain
-abbrev pub TellsGains : (ℕ → Bool) → List (RulesOn ℕ) → List (RulesOn ℕ) → FsRight → Vec (Option Gain) Global → Type 0
-TellsGains is_file old new right found = AllZip (TellsGain is_file (map (granting right) new)) (map (granting right) old) found.items
 
 -- nothing is found of any right and any layer
 abbrev pub is_nothing : {X : Type 0} → List (Vec (Option X) Global) → Bool

@@ -85,12 +85,8 @@ pub record TellsMovedTo (is_file : ℕ → Bool) (parents : List ℕ) (kind : Ki
   pub file : is_file to ≡ true → found ≡ None
   pub directory : is_file to ≡ false → MatchOption found (NoneComes before to × NoneComes after to) (TellsMoved is_file parents kind before after to)
 
--- how many regions objects of a kind are told of: all, if the right to make one is asked about
-abbrev pub regions_moved_to : Fs → Kind → List ℕ → ℕ
-regions_moved_to asked kind parents = if has asked (make_right_of kind) then length parents + 1 else 0
-
--- what is found of moves of objects of a kind, by the regions that they come to
+-- what is found of moves of objects of a kind, by the regions that they come to: all, if the right to make one is asked about
 abbrev pub TellsMoves : Fs → (ℕ → Bool) → List ℕ → List (RulesOn ℕ) → List (RulesOn ℕ) → Kind → Vec (Option MovedTo) Global → Type 0
 TellsMoves asked is_file parents old new kind found =
     AllZip (TellsMovedTo is_file parents kind (lets_move parents kind old) (lets_move parents kind new))
-    (range_with_len 0 (regions_moved_to asked kind parents)) found.items
+    (range_with_len 0 (if has asked (make_right_of kind) then length parents + 1 else 0)) found.items

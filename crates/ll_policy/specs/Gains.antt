@@ -32,9 +32,6 @@ pub record IsGain (is_file : ℕ → Bool) (new : List Granting) (old : Granting
   pub directory : is_file gain.directory ≡ false
   pub excess : IsExcess is_file root old (granting_there gain.directory new) gain.chain.items
 
--- what is found of one directory, and of an old layer: nothing if gains are kept, else what shows that they aren't
-abbrev pub TellsGainInto : (ℕ → Bool) → List Granting → Granting → ℕ → Option Gain → Type 0
-TellsGainInto is_file new old directory found = MatchOption found (KeepsGainsInto is_file new old directory) (IsGain is_file new old)
-
+-- what is found of an old layer: nothing if gains are kept, else what shows that they aren't
 abbrev pub TellsGain : (ℕ → Bool) → List Granting → Granting → Option Gain → Type 0
 TellsGain is_file new old found = MatchOption found (KeepsGains is_file new old) (IsGain is_file new old)

@@ -1,14 +1,12 @@
 pub mod Chains
 pub mod Choices
-pub mod Places
 pub mod Granted
 pub mod Policies
 pub mod WaysUp
 pub mod Gains
 pub mod Found
 pub mod Regions
-pub mod AlikeMoves
-pub mod PassingMoves
+pub mod Verdicts
 pub mod Moving
 pub mod FoundMoves
 pub mod WorkedPolicies

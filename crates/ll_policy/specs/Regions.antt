@@ -7,9 +7,8 @@ use Rattle.ll_rights.specs.Rights.{FsRight, has}
 use Rattle.ll_rights.specs.NetRights.{NetRight}
 use Rattle.ll_rules.specs.Layers.{RulesOn}
 use Rattle.ll_policy.specs.declared.regions.Passing.{Passing}
-use Rattle.ll_policy.specs.Chains.{Granting, some_among, passes}
+use Rattle.ll_policy.specs.Chains.{Granting, some_among, passes, places_of}
 use Rattle.ll_policy.specs.Granted.{granting, granting_on_ports}
-use Rattle.ll_policy.specs.Places.{places_of}
 
 -- ---- chains
 

@@ -27,10 +27,6 @@ way_up tree nodes path = filter (λ number. is_prefix (path_at tree (node number
 abbrev pub is_file_at : List Entry → ℕ → Bool
 is_file_at tree number = not (is_dir (kind_at tree (node number)))
 
--- a test of objects tells which nodes of a tree are files
-abbrev pub TellsFiles : (ℕ → Bool) → List Entry → Type 0
-TellsFiles is_file tree = (number : ℕ) → number < length tree → is_file number ≡ is_file_at tree number
-
 -- the target of a move is a directory, or an object that is there already
 abbrev pub IsTargetOf : List Entry → Target → Type 0
 IsTargetOf tree (New directory) = kind_at tree directory ≡ Dir
@@ -39,6 +35,6 @@ IsTargetOf tree (Over there) = Unit {0}
 -- Two domains with rules on the nodes of a tree, of which a test tells the files.
 pub record AreRuledIn (is_file : ℕ → Bool) (old new : List (RulesOn ℕ)) (tree : List Entry) : Type 0 where
   pub listed : IsTree tree
-  pub tells : TellsFiles is_file tree
+  pub tells : (number : ℕ) → number < length tree → is_file number ≡ is_file_at tree number
   pub old_inside : All (AreInTree tree) old
   pub new_inside : All (AreInTree tree) new

@@ -12,10 +12,9 @@ ghost use Rattle.ll_rules.specs.declared.moves.Target.TheVariants.{New, Over};
 ghost use Rattle.ll_rules.specs.{Layers.RulesOn, LayerNumbers.is_among};
 ghost use Rattle.ll_rules.specs.Checks.{refusing};
 ghost use Rattle.ll_rules.specs.Moves.{move_verdict};
-ghost use Rattle.ll_policy.specs.AlikeMoves.{AreAlike, stays, within_one_directory};
+ghost use Rattle.ll_policy.specs.Verdicts.{AreAlike, stays, within_one_directory, lets_pass, lets_use, renaming, linking, exchanging};
 ghost use Rattle.ll_rules.specs.InTree.{all_in_tree};
 ghost use Rattle.ll_policy.specs.Moving.{GoesBy, about_moves, link_passes, rename_passes};
-ghost use Rattle.ll_policy.specs.PassingMoves.{lets_pass, lets_use, renaming, linking, exchanging};
 
 /// The layers that refuse a set of rights are those that refuse some right of it.
 #[tactic(auto, using(crate::proofs::RightByRight::right_by_right))]

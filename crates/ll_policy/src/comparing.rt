@@ -5,10 +5,10 @@ ghost use Rattle.std.specs.Fn.{FnReturnsAtPair};
 ghost use Rattle.std.specs.List.{AllZip};
 ghost use Rattle.ll_rights.specs.CodeRights.{fs_right};
 ghost use Rattle.ll_rights.specs.Rights as for_files;
-ghost use Rattle.ll_policy.specs.Chains.{AreDirectories};
-ghost use Rattle.ll_policy.specs.Found.{TellsObjects, TellsGains, TellsSingleObjects, OfEach, said};
+ghost use Rattle.ll_policy.specs.Chains.{AreDirectories, Tells, is_file_in};
+ghost use Rattle.ll_policy.specs.Found.{TellsSingle, OfEach, said};
+ghost use Rattle.ll_policy.specs.Gains.{TellsGain};
 ghost use Rattle.ll_policy.specs.Granted.{root};
-ghost use Rattle.ll_policy.specs.Places.{is_file_in};
 ghost use Rattle.ll_policy.specs.Policies.{rules_of};
 
 use crate::deciding::{ROOT, each_enough, excesses};
@@ -74,7 +74,7 @@ impl Compared<'_> {
         asked: Fs,
     ) -> Result<Vec<Vec<Option<Vec<usize>>>>, AllocError>
         requires { AreDirectories (is_file_in self.now.files.now) root }
-        ensures { IfOk result (OfEach (TellsObjects (is_file_in self.now.files.now))
+        ensures { IfOk result (OfEach (Tells (is_file_in self.now.files.now) root)
             asked self.now.old.now self.now.new.now) }
     {
         Ok(found_of_each(alloc, asked, self.old, self.new, |old, new| {
@@ -89,7 +89,7 @@ impl Compared<'_> {
         alloc: Global,
         asked: Fs,
     ) -> Result<Vec<Vec<Vec<usize>>>, AllocError>
-        ensures { IfOk result (OfEach (TellsSingleObjects (length self.now.files.now))
+        ensures { IfOk result (OfEach (TellsSingle (length self.now.files.now))
             asked self.now.old.now self.now.new.now) }
     {
         let count = self.files.len();
@@ -101,7 +101,7 @@ impl Compared<'_> {
     /// What gains a right in an old layer and in no new one: for each right and, if it is asked about, each old layer.
     pub fn more_gains(&self, alloc: Global, asked: Fs) -> Result<Vec<Vec<Option<Gain>>>, AllocError>
         requires { AreDirectories (is_file_in self.now.files.now) root }
-        ensures { IfOk result (OfEach (TellsGains (is_file_in self.now.files.now))
+        ensures { IfOk result (OfEach (TellsGain (is_file_in self.now.files.now))
             asked self.now.old.now self.now.new.now) }
     {
         Ok(found_of_each(alloc, asked, self.old, self.new, |old, new| {

@@ -1,9 +1,8 @@
 //! Whether new layers let more pass than an old one.
 
 ghost use Rattle.std.specs.Prelude.{◌≡◌, ◌≢◌, ◌||◌, [], not, true, false, None, IfOk};
-ghost use Rattle.ll_policy.specs.Chains.{is_among, lets, some_among, passes, AreDirectories, Tells};
+ghost use Rattle.ll_policy.specs.Chains.{is_among, lets, some_among, passes, AreDirectories, Tells, is_file_in, places_of};
 ghost use Rattle.std.specs.List.{AllZip};
-ghost use Rattle.ll_policy.specs.Places.{is_file_in, places_of};
 ghost use Rattle.ll_policy.specs.Choices.{are_within, is_narrow, narrow_ones, some_grants, all_grant, is_open, open_file, counts, is_extra, is_further, AreBelow, IsChainOfExtra, is_enough, enough_of};
 ghost use Rattle.ll_policy.specs.Found.{TellsSingle};
 

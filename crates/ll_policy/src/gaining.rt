@@ -1,12 +1,11 @@
 //! Whether objects gain rights in new layers where they do in an old one.
 
-ghost use Rattle.std.specs.Prelude.{◌≡◌, ◌&&◌, not, IfOk};
+ghost use Rattle.std.specs.Prelude.{◌≡◌, ◌&&◌, not, IfOk, MatchOption};
 ghost use Rattle.std.specs.List.{AllZip};
-ghost use Rattle.ll_policy.specs.Chains.{AreDirectories, Tells, is_among};
+ghost use Rattle.ll_policy.specs.Chains.{AreDirectories, Tells, is_among, is_file_in};
 ghost use Rattle.ll_policy.specs.Choices.{narrow_ones};
-ghost use Rattle.ll_policy.specs.Gains.{granting_there, TellsGain, TellsGainInto};
+ghost use Rattle.ll_policy.specs.Gains.{granting_there, IsGain, KeepsGainsInto, TellsGain};
 ghost use Rattle.ll_policy.specs.Granted.{root};
-ghost use Rattle.ll_policy.specs.Places.{is_file_in};
 
 use crate::deciding::{ROOT, excess, is_closed, is_file, narrow_ones, open_file};
 use crate::each::made_of_each;
@@ -78,8 +77,9 @@ impl Beside<'_> {
 
     /// Whether something may gain the right in one directory in the old layer and in no new one.
     fn gain_into(&self, alloc: Global, directory: usize) -> Result<Option<Gain>, AllocError>
-        ensures { IfOk result (TellsGainInto (is_file_in self.now.files.now) self.now.new.now
-            self.now.old.now directory) }
+        ensures { IfOk result (λ found. MatchOption found (KeepsGainsInto
+            (is_file_in self.now.files.now) self.now.new.now self.now.old.now directory)
+            (IsGain (is_file_in self.now.files.now) self.now.new.now self.now.old.now)) }
     {
         if !self.is_asked(directory) {
             return Ok(None);

@@ -1,8 +1,7 @@
 //! What a layer says of one right.
 
 ghost use Rattle.std.specs.Prelude.{◌≡◌, ◌<◌, All, IfOk, map};
-ghost use Rattle.ll_policy.specs.Chains.{is_among, some_among};
-ghost use Rattle.ll_policy.specs.Places.{places_of};
+ghost use Rattle.ll_policy.specs.Chains.{is_among, some_among, places_of};
 ghost use Rattle.ll_rights.specs.CodeRights.{fs_right, net_right};
 ghost use Rattle.ll_rules.specs.Layers.{handles};
 ghost use Rattle.ll_policy.specs.Granted.{granting, granting_on_ports};
@@ -42,7 +41,7 @@ fn marks<S: RightSet>(alloc: Global, sets: &[S], right: S::Right) -> Result<Vec<
 
 impl Model for Granting {
     ghost use Rattle.ll_policy.specs.Chains as chains;
-    ghost use Rattle.ll_policy.specs.Places.{places_of};
+    ghost use Rattle.ll_policy.specs.Chains.{places_of};
 
     ghost Value = { chains.Granting };
 

@@ -16,13 +16,13 @@ ghost use Rattle.ll_rules.specs.WorkedRules.{linked, file_a_f, dir_b};
 ghost use Rattle.ll_policy.specs.WorkedPolicies.{both, stricter};
 ghost use Rattle.ll_rules.specs.InTree.{all_in_tree, IsTargetIn};
 ghost use Rattle.ll_rules.specs.{Checks.refusing, Checks.refusing_port, Moves.move_verdict};
-ghost use Rattle.ll_policy.specs.Chains.{Granting, IsChain, IsExcess, NothingMore, NothingMoreThan, passes};
+ghost use Rattle.ll_policy.specs.Chains.{Granting, IsChain, IsExcess, NothingMore, NothingMoreThan, Tells, passes};
 ghost use Rattle.ll_policy.specs.Choices.{enough_of};
 ghost use Rattle.ll_policy.specs.Granted.{granting, granting_on_ports, root, NothingMoreOnObjects};
 ghost use Rattle.ll_policy.specs.Regions.{single};
-ghost use Rattle.ll_policy.specs.Gains.{AllKeepGains};
+ghost use Rattle.ll_policy.specs.Gains.{AllKeepGains, TellsGain};
 ghost use Rattle.ll_policy.specs.{declared.gaining.Gain.Gain as Gained};
-ghost use Rattle.ll_policy.specs.Found.{TellsObjects, TellsGains, is_nothing};
+ghost use Rattle.ll_policy.specs.Found.{OfLayers, is_nothing};
 ghost use Rattle.ll_policy.specs.WaysUp.{AreRuledIn, IsTargetOf, all_ruled, is_file_at, way_up};
 
 /// Old layers are compared one by one, and there is an excess of none of which new layers let nothing more pass.
@@ -107,11 +107,11 @@ pub fn ports_are_refused_one_by_one()
 pub fn nothing_is_found_where_there_is_nothing_more()
     ensures objects { (is_file : ℕ → Bool) (old new : List (RulesOn ℕ))
         (found : List (Vec (Option (Vec ℕ Global)) Global))
-        → AllZip (TellsObjects is_file old new) files.all_rights found
+        → AllZip (OfLayers (Tells is_file root) old new) files.all_rights found
         → (is_nothing found ≡ true) ↔ NothingMoreOnObjects is_file old new }
     ensures gains { (is_file : ℕ → Bool) (old new : List (RulesOn ℕ))
         (found : List (Vec (Option Gained) Global))
-        → AllZip (TellsGains is_file old new) files.all_rights found
+        → AllZip (OfLayers (TellsGain is_file) old new) files.all_rights found
         → (is_nothing found ≡ true) ↔ AllKeepGains is_file old new }
 {}
 

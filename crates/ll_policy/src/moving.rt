@@ -6,7 +6,7 @@ ghost use Rattle.ll_rights.specs.CodeRights.{fs_right};
 ghost use Rattle.ll_rights.specs.Kinds.{make_right_of, remove_right_of};
 ghost use Rattle.ll_rights.specs.Rights as for_files;
 ghost use Rattle.ll_policy.specs.Chains as chains;
-ghost use Rattle.ll_policy.specs.Places.{is_file_in};
+ghost use Rattle.ll_policy.specs.Chains.{is_file_in};
 ghost use Rattle.ll_policy.specs.Policies.{rules_of};
 ghost use Rattle.ll_policy.specs.Regions.{single};
 ghost use Rattle.ll_policy.specs.Moving as specs;

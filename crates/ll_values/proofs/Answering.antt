@@ -12,7 +12,7 @@ use Rattle.ll_lines.specs.Readers.{Fails}
 use Rattle.ll_lines.specs.Reading.{IsBad}
 use Rattle.ll_lines.proofs.MemoryLemmas.{unless-map}
 use Rattle.ll_lines.proofs.ReadingLemmas.{read_lines_next, bad_from_fault, meets_fault}
-use Rattle.ll_values.specs.Answers.{by_line, AnswerEach}
+use Rattle.ll_values.specs.Answers.{by_line}
 
 -- ---- the lines before those that are left read as entries
 
@@ -60,7 +60,7 @@ answered_next read IsAnswer bytes lines line others answers entry answer first s
     }
 
 pub answered_all : {Entry X : Type 0} (read : List ℕ → Result Entry Cause) (IsAnswer : Line → X → Type 0) (bytes : List ℕ) (lines : List Line)
-    (answers : List X) → lines ≡ [] → AreAnsweredTo read IsAnswer bytes lines answers → AnswerEach IsAnswer bytes answers
+    (answers : List X) → lines ≡ [] → AreAnsweredTo read IsAnswer bytes lines answers → AllZip IsAnswer (filled_lines bytes) answers
 answered_all read IsAnswer bytes lines answers none so_far =
     let all : filled_lines bytes ≡ so_far.before = so_far.cut ∙ ap (λ ls. so_far.before ++ ls) none ∙ append-nil so_far.before in
     subst (λ ls. AllZip IsAnswer ls answers) (sym all) so_far.each

@@ -1,19 +1,13 @@
 -- Answers to the lines of a file, of which each that isn't blank asks for one.
 -- Source: landaudit-rules(1).
 use Rattle.std.specs.Prelude.{◌≡◌, ℕ, List, None, Result}
-use Rattle.std.specs.List.{AllZip}
 use Rattle.ll_lines.specs.declared.fault.Cause.{Cause}
 use Rattle.ll_lines.specs.declared.fault.ReadFault.{ReadFault}
-use Rattle.ll_lines.specs.Lines.{Line, filled_lines}
 use Rattle.ll_lines.specs.Reading.{Format, IsBad}
 
 -- a line at fault asks for nothing, whatever the lines before it are
 abbrev pub by_line : {Entry : Type 0} → (List ℕ → Result Entry Cause) → Format Entry
 by_line read = record { entry_of_line = λ line. read line.bytes; fault_after = λ earlier entry. None }
-
--- an answer for each line that isn't blank
-abbrev pub AnswerEach : {X : Type 0} → (Line → X → Type 0) → List ℕ → List X → Type 0
-AnswerEach IsAnswer bytes answers = AllZip IsAnswer (filled_lines bytes) answers
 
 -- with status 3 some line has a fault, and nothing is written
 pub record IsRefused {Entry Output : Type 0} (format : Format Entry) (bytes : List ℕ) (old new : Output) : Type 0 where

@@ -1,7 +1,6 @@
 use Rattle.std.proofs.Common.{◌≡◌, ℕ, ◌||◌, drop}
 use Rattle.std.specs.List.{list_all}
-use Rattle.ll_policy.specs.Chains.{is_among}
-use Rattle.ll_policy.specs.Places.{is_file_in, places_from, places_of}
+use Rattle.ll_policy.specs.Chains.{is_among, is_file_in, places_from, places_of}
 use Rattle.ll_policy.proofs.deciding.are_held.Given as goal
 
 -- what is left is held exactly if all is

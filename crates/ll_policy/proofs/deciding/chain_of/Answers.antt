@@ -1,5 +1,5 @@
 use Rattle.std.proofs.Common.{◌∙◌, ℕ, ap, sym, Vec, Global}
-use Rattle.ll_policy.specs.Places.{is_file_in}
+use Rattle.ll_policy.specs.Chains.{is_file_in}
 use Rattle.ll_policy.specs.Choices.{is_further}
 use Rattle.ll_policy.proofs.Lists.{range_kept, range_left}
 use Rattle.ll_policy.proofs.deciding.chain_of.Goals as goal

@@ -1,5 +1,5 @@
 use Rattle.std.proofs.Common.{rules}
-use Rattle.ll_policy.specs.Places.{is_file_in}
+use Rattle.ll_policy.specs.Chains.{is_file_in}
 use Rattle.ll_policy.proofs.Exactly.{always_lets, holds, exceeds}
 use Rattle.ll_policy.proofs.deciding.excess.Goals as goal
 

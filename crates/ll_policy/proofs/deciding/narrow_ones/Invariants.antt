@@ -1,6 +1,6 @@
 use Rattle.std.proofs.Common.{◌≡◌, ◌++◌, drop}
 use Rattle.std.specs.Prelude.{filter}
-use Rattle.ll_policy.specs.Places.{is_file_in}
+use Rattle.ll_policy.specs.Chains.{is_file_in}
 use Rattle.ll_policy.specs.Choices.{is_narrow}
 use Rattle.ll_policy.proofs.deciding.narrow_ones.Given as goal
 

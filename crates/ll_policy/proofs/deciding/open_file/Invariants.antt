@@ -1,6 +1,6 @@
 use Rattle.std.proofs.Common.{◌≡◌, drop}
 use Rattle.std.specs.Prelude.{find}
-use Rattle.ll_policy.specs.Places.{is_file_in, places_from, places_of}
+use Rattle.ll_policy.specs.Chains.{is_file_in, places_from, places_of}
 use Rattle.ll_policy.specs.Choices.{is_open}
 use Rattle.ll_policy.proofs.deciding.open_file.Given as goal
 

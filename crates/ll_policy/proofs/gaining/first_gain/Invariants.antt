@@ -1,6 +1,6 @@
 use Rattle.std.proofs.Common.{ℕ, ◌<◌}
 use Rattle.ll_policy.specs.Gains.{KeepsGainsInto}
-use Rattle.ll_policy.specs.Places.{is_file_in}
+use Rattle.ll_policy.specs.Chains.{is_file_in}
 use Rattle.ll_policy.proofs.gaining.first_gain.Given as goal
 
 -- gains are kept in the directories so far

@@ -1,5 +1,5 @@
 use Rattle.std.proofs.Common.{rules, map}
-use Rattle.ll_policy.specs.Places.{is_file_in}
+use Rattle.ll_policy.specs.Chains.{is_file_in}
 use Rattle.ll_policy.specs.Policies.{rules_of}
 use Rattle.ll_policy.proofs.MovesInRegions.{told_of_moves}
 use Rattle.ll_policy.proofs.moving.moves_of.Goals as goal

@@ -1,5 +1,5 @@
 use Rattle.std.proofs.Common.{rules}
-use Rattle.ll_policy.specs.Places.{is_file_in}
+use Rattle.ll_policy.specs.Chains.{is_file_in}
 use Rattle.ll_policy.proofs.GainLemmas.{closed_there}
 use Rattle.ll_policy.proofs.gaining.Beside.gain_at.Goals as goal
 

@@ -1,5 +1,5 @@
 use Rattle.std.proofs.Common.{rules}
-use Rattle.ll_policy.specs.Places.{is_file_in}
+use Rattle.ll_policy.specs.Chains.{is_file_in}
 use Rattle.ll_policy.proofs.GainLemmas.{not_asked, asked, is_gain}
 use Rattle.ll_policy.proofs.gaining.Beside.gain_into.Goals as goal
 

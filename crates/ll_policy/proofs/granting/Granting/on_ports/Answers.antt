@@ -2,7 +2,7 @@ use Rattle.std.proofs.Common.{rules, ◌∙◌, List, Bool, ap}
 use Rattle.ll_rights.specs.NetRights.{has}
 use Rattle.ll_rights.specs.declared.net.Net.{Net}
 use Rattle.ll_rights.specs.CodeRights.{net_right}
-use Rattle.ll_policy.specs.Places.{places_of}
+use Rattle.ll_policy.specs.Chains.{places_of}
 use Rattle.ll_policy.proofs.Marks.{marked, same_granting}
 use Rattle.ll_policy.proofs.granting.Granting.on_ports.Goals as goal
 

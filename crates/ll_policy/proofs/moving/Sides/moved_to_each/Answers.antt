@@ -1,4 +1,4 @@
-use Rattle.ll_policy.specs.Places.{is_file_in}
+use Rattle.ll_policy.specs.Chains.{is_file_in}
 use Rattle.ll_policy.specs.FoundMoves.{passes_by, TellsMovedTo}
 use Rattle.ll_policy.proofs.Lists.{zip_next}
 use Rattle.ll_policy.proofs.moving.Sides.moved_to_each.Goals as goal

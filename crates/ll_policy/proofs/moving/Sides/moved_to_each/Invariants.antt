@@ -1,5 +1,5 @@
 use Rattle.std.specs.List.{AllZip, range_with_len}
-use Rattle.ll_policy.specs.Places.{is_file_in}
+use Rattle.ll_policy.specs.Chains.{is_file_in}
 use Rattle.ll_policy.specs.FoundMoves.{passes_by, TellsMovedTo}
 use Rattle.ll_policy.proofs.moving.Sides.moved_to_each.Given as goal
 
