@@ -10,8 +10,8 @@ use Rattle.ll_lines.specs.LineByLine.{read_lines, reading}
 use Rattle.ll_lines.proofs.ReadingLemmas.{read_lines_end, good_from_reading}
 use Rattle.ll_values.proofs.Answering.{reads_next}
 use Rattle.ll_calling.specs.PolicyLines.{LayerSeen, policy_on, policy_format}
-use Rattle.ll_calling.specs.Taking.{IsTaken}
-use Rattle.ll_calling.specs.Texts.{AreCalls, lines_at, is_refused_at}
+use Rattle.ll_calling.specs.Answers.{AreCalls, IsTaken}
+use Rattle.ll_calling.specs.Texts.{lines_at, is_refused_at}
 
 -- the policies of the lines before those that are left have been taken in
 pub record AreTaken (abi : Abi) (bytes : List ℕ) (left : List Line) (text : List ℕ) (refused : Bool) : Type 0 where

@@ -1,15 +1,12 @@
 -- Groups of rights: sets of rights with one name.
 -- Source: docs/POLICIES.md.
-use Rattle.std.specs.Prelude.{ℕ, List, [], ◌∷◌, not, filter, codes, Option, Some, None, if◌then◌else◌}
+use Rattle.std.specs.Prelude.{ℕ, List, [], ◌∷◌, not, filter, codes, Option, Some, None, option_map, if◌then◌else◌}
 use Rattle.std.specs.List.{list_any}
-use Rattle.std.specs.Option.{option_map}
 use Rattle.std.specs.Str.{bytes_eq}
-use Rattle.ll_rights.specs.declared.fs.Fs.{Fs}
-use Rattle.ll_rights.specs.declared.net.Net.{Net}
 use Rattle.ll_rights.specs.Rights as files
 use Rattle.ll_rights.specs.Rights.{FsRight, execute, read_file, read_dir}
 use Rattle.ll_rights.specs.NetRights as network
-use Rattle.ll_rights.specs.Families.{for_files, for_network, set_of}
+use Rattle.ll_rights.specs.Families.{Family, set_of}
 
 -- all rights that don't only read or execute
 abbrev pub writing_rights : List FsRight
@@ -28,8 +25,5 @@ unfoldable pub group_on_ports : List ℕ → Option (List network.NetRight)
 group_on_ports word = if bytes_eq word (codes "all") then Some network.named_rights else None
 
 -- the set of the rights of a group
-abbrev pub group_of_files : List ℕ → Option Fs
-group_of_files word = option_map (set_of for_files) (group_named word)
-
-abbrev pub group_of_ports : List ℕ → Option Net
-group_of_ports word = option_map (set_of for_network) (group_on_ports word)
+abbrev pub group_of : {S R : Type 0} → Family S R → (List ℕ → Option (List R)) → List ℕ → Option S
+group_of family rights_of word = option_map (set_of family) (rights_of word)

@@ -24,7 +24,7 @@ use Rattle.ll_fitting.specs.declared.written.PortRule.{PortRule}
 use Rattle.ll_fitting.specs.declared.written.Scopes.{Scopes}
 use Rattle.ll_fitting.specs.Written.{Layer}
 use Rattle.ll_fitting.specs.Misfits.{misfit}
-use Rattle.ll_calling.specs.Groups.{group_of_files, group_of_ports}
+use Rattle.ll_calling.specs.Groups.{group_of, group_named, group_on_ports}
 
 -- what the words of a member make of what no word makes, one after another
 unfoldable pub words_at : {Whole : Type 0} → (Whole → Data → Result Whole Cause) → Whole → List ℕ → Data → Result Whole Cause
@@ -50,23 +50,19 @@ abbrev pub rights_at : {S R : Type 0} → Family S R → (List ℕ → Option S)
 rights_at family group name value = words_at (with_word family group) (record { named = no_right family; grouped = no_right family }) name value
 
 abbrev pub access_at : List ℕ → Data → Result (Access Fs) Cause
-access_at = rights_at for_files group_of_files
+access_at = rights_at for_files (group_of for_files group_named)
 
 abbrev pub port_access_at : List ℕ → Data → Result (Access Net) Cause
-port_access_at = rights_at for_network group_of_ports
+port_access_at = rights_at for_network (group_of for_network group_on_ports)
 
 -- ---- scopes
-
-abbrev pub with_scope_named : Scopes → List ℕ → Result Scopes Cause
-with_scope_named scopes word =
-    if bytes_eq word (codes "abstract_unix_socket") then Ok (record { abstract_unix_socket = true; signal = scopes.signal })
-    else if bytes_eq word (codes "signal") then Ok (record { abstract_unix_socket = scopes.abstract_unix_socket; signal = true })
-    else Err Field
 
 unfoldable pub with_scope : Scopes → Data → Result Scopes Cause
 with_scope scopes value = do
   word ← text_in value
-  with_scope_named scopes word
+  if bytes_eq word (codes "abstract_unix_socket") then Ok (record { abstract_unix_socket = true; signal = scopes.signal })
+      else if bytes_eq word (codes "signal") then Ok (record { abstract_unix_socket = scopes.abstract_unix_socket; signal = true })
+      else Err Field
 
 abbrev pub scopes_at : Data → Result Scopes Cause
 scopes_at value = words_at with_scope (record { abstract_unix_socket = false; signal = false }) (codes "scoped") value
@@ -117,12 +113,6 @@ port_rule_in value = do
   port ← number_at (codes "port") value
   Ok (record { allowed = access; port = port })
 
-abbrev pub rules_at : Data → Result (List RuleSeen) Cause
-rules_at value = list_at (codes "path_beneath") rule_in value
-
-abbrev pub port_rules_at : Data → Result (List PortRule) Cause
-port_rules_at value = list_at (codes "net_port") port_rule_in value
-
 -- ---- layers
 
 pub record LayerSeen : Type 0 where
@@ -136,20 +126,17 @@ unfoldable pub layer_in : Data → Result LayerSeen Cause
 layer_in value = do
   handled_files ← access_at (codes "handled_access_fs") value
   handled_network ← port_access_at (codes "handled_access_net") value
-  rules ← rules_at value
-  port_rules ← port_rules_at value
+  rules ← list_at (codes "path_beneath") rule_in value
+  port_rules ← list_at (codes "net_port") port_rule_in value
   scopes ← scopes_at value
   Ok (record { handled_files = handled_files; handled_network = handled_network; rules = rules; port_rules = port_rules; scopes = scopes })
 
--- a rule, and a layer, without the texts of the paths
-abbrev pub bare_rule : RuleSeen → PathRule
-bare_rule seen = seen.rule
-
+-- a layer without the texts of the paths
 abbrev pub written_in : LayerSeen → Layer
 written_in layer = record {
   handled_files = layer.handled_files;
   handled_network = layer.handled_network;
-  path_rules = map bare_rule layer.rules;
+  path_rules = map (λ seen. seen.rule) layer.rules;
   port_rules = layer.port_rules;
   scopes = layer.scopes;
 }
@@ -159,12 +146,9 @@ written_in layer = record {
 unfoldable pub if_fit : List LayerSeen → Result (List LayerSeen) Cause
 if_fit layers = if is_some (misfit (map written_in layers)) then Err Field else Ok layers
 
-abbrev pub layers_at : Data → Result (List LayerSeen) Cause
-layers_at value = list_at (codes "layer") layer_in value
-
 unfoldable pub policy_in : Data → Result (List LayerSeen) Cause
 policy_in value = do
-  layers ← layers_at value
+  layers ← list_at (codes "layer") layer_in value
   if_fit layers
 
 -- the policy on a line

@@ -1,7 +1,6 @@
 -- Calls, and the tables of rights, as lines of JSON.
 -- Source: landaudit-rules(1), "Calls" and "Rights"; docs/FORMATS.md, "The trace file".
-use Rattle.std.specs.Prelude.{◌≡◌, ℕ, Bool, false, List, [], ◌∷◌, ◌++◌, map, codes, flat_map, slice_get, Option, Some, None, if◌then◌else◌}
-use Rattle.std.specs.List.{list_any}
+use Rattle.std.specs.Prelude.{ℕ, Bool, false, List, [], ◌∷◌, ◌++◌, map, codes, flat_map, slice_get, unwrap_or, option_and_then, option_map, Option, Some, None, if◌then◌else◌}
 use Rattle.std.specs.Option.{is_some}
 use Rattle.std.specs.Borrow.{Bor}
 use Rattle.json.specs.Json.{Json, string, array, Items, no_items, item}
@@ -12,7 +11,6 @@ use Rattle.ll_rights.specs.Abis.{all_versions, number_of, knows_fs, knows_net}
 use Rattle.ll_rights.specs.Rights as files
 use Rattle.ll_rights.specs.NetRights as network
 use Rattle.ll_rights.specs.Families.{Family, for_files, for_network, set_of}
-use Rattle.ll_lines.specs.Reading.{IsGood}
 use Rattle.ll_values.specs.Texts.{object_of, whole_json, line_of}
 use Rattle.ll_fitting.specs.declared.fitting.FittedPathRule.{FittedPathRule}
 use Rattle.ll_fitting.specs.declared.fitting.FittedPortRule.{FittedPortRule}
@@ -26,7 +24,7 @@ use Rattle.ll_enforcing.specs.Calls.{calls_of}
 use Rattle.ll_calling.specs.declared.objects.Shown.{Shown}
 use Rattle.ll_calling.specs.declared.objects.Shown.TheVariants as shown
 use Rattle.ll_calling.specs.Groups.{group_named, group_on_ports}
-use Rattle.ll_calling.specs.PolicyLines.{RuleSeen, LayerSeen, written_in, policy_format}
+use Rattle.ll_calling.specs.PolicyLines.{LayerSeen, written_in}
 
 -- the names of the rights that pass a test
 unfoldable pub name_items : {S R : Type 0} → Family S R → (R → Bool) → List R → Items
@@ -51,17 +49,10 @@ named member = (member.0.now, shown_json member.1)
 
 -- ---- calls: no process is named, and the ruleset is always number 0
 
-abbrev pub path_of_rule : Option RuleSeen → List ℕ
-path_of_rule None = []
-path_of_rule (Some seen) = seen.path
-
-abbrev pub path_in_layer : Option LayerSeen → ℕ → List ℕ
-path_in_layer None rule = []
-path_in_layer (Some layer) rule = path_of_rule (slice_get layer.rules rule)
-
 -- the path of a rule, by its layer's index and its own
 unfoldable pub path_in : List LayerSeen → ℕ → ℕ → List ℕ
-path_in layers layer rule = path_in_layer (slice_get layers layer) rule
+path_in layers layer rule =
+    unwrap_or (option_map (λ seen. seen.path) (option_and_then (λ own. slice_get own.rules rule) (slice_get layers layer))) []
 
 abbrev pub op : List ℕ → List ℕ × Json
 op name = (codes "op", string name)
@@ -115,13 +106,6 @@ lines_at abi layers =
 abbrev pub is_refused_at : Abi → List LayerSeen → Bool
 is_refused_at abi layers = is_some (first_refused (left_at abi layers))
 
--- The file reads as policies; the text has the calls of each, one policy after another.
-pub record AreCalls (abi : Abi) (bytes : List ℕ) (text : List ℕ) (refused : Bool) : Type 0 where
-  pub policies : List (List LayerSeen)
-  pub good : IsGood policy_format bytes policies
-  pub is_text : text ≡ flat_map (lines_at abi) policies
-  pub is_refused : refused ≡ list_any (is_refused_at abi) policies
-
 -- ---- the tables of rights: what each version knows, what each group stands for, and what applies to what is no directory
 
 abbrev pub abi_line : Abi → List ℕ
@@ -141,8 +125,5 @@ group_line name =
 abbrev pub file_line : List ℕ
 file_line = line_of (object_of ((codes "of", string (codes "file")) ∷ (codes "fs", names_json for_files (files.has file_rights)) ∷ []))
 
-abbrev pub group_lines : List ℕ
-group_lines = flat_map group_line (codes "all" ∷ codes "read" ∷ codes "write" ∷ codes "execute" ∷ [])
-
 unfoldable pub tables : List ℕ
-tables = flat_map abi_line all_versions ++ group_lines ++ file_line
+tables = flat_map abi_line all_versions ++ flat_map group_line (codes "all" ∷ codes "read" ∷ codes "write" ∷ codes "execute" ∷ []) ++ file_line

@@ -5,9 +5,8 @@ ghost use Rattle.ll_lines.specs.declared.fault.Cause.TheVariants.{Memory as NoMe
 ghost use Rattle.ll_lines.specs.{LineByLine.line_view, Readers.Fails, Reading.IsBad};
 ghost use Rattle.ll_values.specs.Texts.{line_of};
 ghost use Rattle.ll_calling.specs.PolicyLines.{policy_on, policy_format, written_in};
-ghost use Rattle.ll_calling.specs.Seen.{layer_seen};
 ghost use Rattle.ll_calling.specs.Texts as texts;
-ghost use Rattle.ll_calling.specs.Taking.{IsTaken};
+ghost use Rattle.ll_calling.specs.Answers.{AreCalls, IsTaken};
 
 use crate::objects::Shown::{Files, Network, Number, Whole, Word};
 use crate::objects::object_line;
@@ -29,7 +28,7 @@ pub struct Called {
 /// The path of a rule, by its layer's index and its own.
 #[tactic(auto, unfolding(crate::specs::Texts::path_in))]
 fn path_in<'a>(layers: &'a [LayerRead], layer: usize, rule: usize) -> &'a str
-    ensures { result.now ≡ texts.path_in (map layer_seen layers.now) layer rule }
+    ensures { result.now ≡ texts.path_in layers.now layer rule }
 {
     match layers.get(layer) {
         None => "",
@@ -106,7 +105,7 @@ fn ruleset_line(alloc: Global, name: &str, layer: usize) -> Result<Vec<u8>, Allo
 #[tactic(auto, unfolding(crate::specs::Texts::call_json))]
 fn call_line(alloc: Global, layers: &[LayerRead], call: Call) -> Result<Vec<u8>, AllocError>
     ensures { IfOk result (λ line. line.items
-        ≡ line_of (texts.call_json (map layer_seen layers.now) call)) }
+        ≡ line_of (texts.call_json layers.now call)) }
 {
     match call {
         Call::NoNewPrivs => object_line(alloc, &[("op", Word("nnp"))]),
@@ -132,7 +131,7 @@ fn put_calls(
     calls: &[Call],
 ) -> Result<(), AllocError>
     ensures { OnOk result (text.new.items ≡ text.old.items
-        ++ flat_map (λ call. line_of (texts.call_json (map layer_seen layers.now) call))
+        ++ flat_map (λ call. line_of (texts.call_json layers.now call))
         calls.now) }
 {
     for call in calls {
@@ -170,11 +169,11 @@ fn put_policy(
     text: &mut Vec<u8>,
     read: &PolicyRead,
 ) -> Result<bool, AllocError>
-    requires { read.now.policy ≡ map written_in (map layer_seen read.now.layers.items) }
+    requires { read.now.policy ≡ map written_in read.now.layers.items }
     ensures text { IfOk result (λ _. text.new.items ≡ text.old.items
-        ++ texts.lines_at abi (map layer_seen read.now.layers.items)) }
+        ++ texts.lines_at abi read.now.layers.items) }
     ensures refused { IfOk result (λ refused. refused
-        ≡ texts.is_refused_at abi (map layer_seen read.now.layers.items)) }
+        ≡ texts.is_refused_at abi read.now.layers.items) }
 {
     let calls = enforce(alloc, &read.policy, abi)?;
     let left = read.policy.fit(alloc, abi)?;
@@ -206,7 +205,7 @@ fn take_policy(
 /// that was at hand.
 #[tactic(auto, using(crate::proofs::Taken::taken_all))]
 pub fn call_lines(alloc: Global, bytes: &[u8], abi: Abi) -> Result<Called, ReadFault>
-    ensures calls { IfOk result (λ called. texts.AreCalls abi bytes.now called.text.items
+    ensures calls { IfOk result (λ called. AreCalls abi bytes.now called.text.items
         called.refused) }
     ensures fault { IfErr result (λ fault. fault.cause ≢ NoMemoryLeft
         → IsBad policy_format bytes.now fault) }

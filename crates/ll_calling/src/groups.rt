@@ -2,7 +2,7 @@
 
 ghost use Rattle.std.specs.Prelude.{◌≡◌};
 ghost use Rattle.ll_rights.specs.Rights as files;
-ghost use Rattle.ll_rights.specs.Families.{for_files, set_of};
+ghost use Rattle.ll_rights.specs.Families.{for_files, for_network, set_of};
 ghost use Rattle.ll_calling.specs.Groups as groups;
 
 use bitflags::Flags;
@@ -37,7 +37,7 @@ pub(crate) trait Grouped: RightSet {
 }
 
 impl Grouped for Fs {
-    ghost group = { groups.group_of_files };
+    ghost group = { groups.group_of for_files groups.group_named };
 
     #[tactic(auto, unfolding(crate::specs::Groups::group_named))]
     fn group(word: &str) -> Option<Fs> {
@@ -52,7 +52,7 @@ impl Grouped for Fs {
 }
 
 impl Grouped for Net {
-    ghost group = { groups.group_of_ports };
+    ghost group = { groups.group_of for_network groups.group_on_ports };
 
     #[tactic(auto, unfolding(crate::specs::Groups::group_on_ports))]
     fn group(word: &str) -> Option<Net> {

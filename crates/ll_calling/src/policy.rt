@@ -5,7 +5,6 @@ ghost use Rattle.serde_json.specs.View.{view};
 ghost use Rattle.ll_lines.specs.Readers.{Gives};
 ghost use Rattle.ll_fitting.specs.Written.{written};
 ghost use Rattle.ll_calling.specs.PolicyLines as lines;
-ghost use Rattle.ll_calling.specs.Seen.{rule_seen, layer_seen};
 
 use crate::access::{access_of, scopes_of};
 use crate::lists::{Listed, list_of};
@@ -16,6 +15,7 @@ use ll_rights::{Fs, Net};
 use ll_values::value_of;
 use serde_json::Value;
 use std::alloc::{AllocError, Global};
+use std::marker::Model;
 
 /// A layer with the paths of its rules.
 #[derive(Drop)]
@@ -27,6 +27,20 @@ pub struct LayerRead {
     pub scopes: Scopes,
 }
 
+impl Model for LayerRead {
+    ghost use Rattle.ll_calling.specs.PolicyLines.{LayerSeen};
+
+    ghost Value = { LayerSeen };
+
+    ghost view = { λ read. record {
+      handled_files = read.handled_files;
+      handled_network = read.handled_network;
+      rules = read.rules.items;
+      port_rules = read.port_rules.items;
+      scopes = read.scopes;
+    } };
+}
+
 /// A policy, and its layers with the paths of their rules.
 #[derive(Drop)]
 pub struct PolicyRead {
@@ -35,10 +49,6 @@ pub struct PolicyRead {
 }
 
 impl Listed for LayerRead {
-    ghost Seen = { lines.LayerSeen };
-
-    ghost seen = { layer_seen };
-
     ghost seen_in = { lines.layer_in };
 
     #[tactic(auto, unfolding(crate::specs::PolicyLines::layer_in))]
@@ -60,7 +70,7 @@ impl Listed for LayerRead {
 
 /// Rules without the texts of their paths.
 fn path_rules_of(alloc: Global, rules: &[RuleRead]) -> Result<Vec<PathRule>, AllocError>
-    ensures { IfOk result (λ bare. bare.items ≡ map lines.bare_rule (map rule_seen rules.now)) }
+    ensures { IfOk result (λ bare. bare.items ≡ map (λ seen. seen.rule) rules.now) }
 {
     let mut bare = Vec::new(alloc);
     for rule in rules {
@@ -71,7 +81,7 @@ fn path_rules_of(alloc: Global, rules: &[RuleRead]) -> Result<Vec<PathRule>, All
 
 /// A layer without the texts of its paths.
 fn written_of(alloc: Global, layer: &LayerRead) -> Result<Layer, AllocError>
-    ensures { IfOk result (λ bare. written bare ≡ lines.written_in (layer_seen layer.now)) }
+    ensures { IfOk result (λ bare. written bare ≡ lines.written_in layer.now) }
 {
     Ok(Layer {
         handled_files: layer.handled_files,
@@ -85,7 +95,7 @@ fn written_of(alloc: Global, layer: &LayerRead) -> Result<Layer, AllocError>
 /// Layers without the texts of their paths.
 fn all_written(alloc: Global, layers: &[LayerRead]) -> Result<Vec<Layer>, AllocError>
     ensures { IfOk result (λ bare. map written bare.items
-        ≡ map lines.written_in (map layer_seen layers.now)) }
+        ≡ map lines.written_in layers.now) }
 {
     let mut bare = Vec::new(alloc);
     for layer in layers {
@@ -97,10 +107,10 @@ fn all_written(alloc: Global, layers: &[LayerRead]) -> Result<Vec<Layer>, AllocE
 /// The policy of layers.
 #[tactic(auto, unfolding(crate::specs::PolicyLines::if_fit))]
 fn policy_with(alloc: Global, layers: Vec<LayerRead>) -> Result<PolicyRead, Cause>
-    ensures layers { Gives (λ read. map layer_seen read.layers.items) result
-        (lines.if_fit (map layer_seen layers.items)) }
+    ensures layers { Gives (λ read. read.layers.items) result
+        (lines.if_fit layers.items) }
     ensures policy { IfOk result (λ read. read.policy
-        ≡ map lines.written_in (map layer_seen read.layers.items)) }
+        ≡ map lines.written_in read.layers.items) }
 {
     let bare = all_written(alloc, &layers)?;
     match Policy::new(bare) {
@@ -112,10 +122,10 @@ fn policy_with(alloc: Global, layers: Vec<LayerRead>) -> Result<PolicyRead, Caus
 /// The policy that a value describes.
 #[tactic(auto, unfolding(crate::specs::PolicyLines::policy_in))]
 fn policy_of(alloc: Global, value: &Value) -> Result<PolicyRead, Cause>
-    ensures layers { Gives (λ read. map layer_seen read.layers.items) result
+    ensures layers { Gives (λ read. read.layers.items) result
         (lines.policy_in (view value.now)) }
     ensures policy { IfOk result (λ read. read.policy
-        ≡ map lines.written_in (map layer_seen read.layers.items)) }
+        ≡ map lines.written_in read.layers.items) }
 {
     let layers = list_of(alloc, value, "layer")?;
     policy_with(alloc, layers)
@@ -125,10 +135,10 @@ impl PolicyRead {
     /// Reads the policy on a line: one JSON object.
     #[tactic(auto, unfolding(crate::specs::PolicyLines::policy_on))]
     pub fn read(alloc: Global, line: &[u8]) -> Result<PolicyRead, Cause>
-        ensures layers { Gives (λ read. map layer_seen read.layers.items) result
+        ensures layers { Gives (λ read. read.layers.items) result
             (lines.policy_on line.now) }
         ensures policy { IfOk result (λ read. read.policy
-            ≡ map lines.written_in (map layer_seen read.layers.items)) }
+            ≡ map lines.written_in read.layers.items) }
     {
         let value = value_of(alloc, line)?;
         policy_of(alloc, &value)

@@ -1,9 +1,11 @@
 //! The policies of a file answered, and the tables of rights written.
 
-ghost use Rattle.std.specs.Prelude.{◌≡◌, ◌⊎◌};
+ghost use Rattle.std.specs.Prelude.{◌≡◌, ◌⊎◌, true, false};
 ghost use Rattle.ll_values.specs.Answers.{IsRefused};
+ghost use Rattle.std.specs.Io.KnownBytes.{Appends};
 ghost use Rattle.ll_calling.specs.PolicyLines.{policy_format};
-ghost use Rattle.ll_calling.specs.Writing.{WritesCalls, WritesTables};
+ghost use Rattle.ll_calling.specs.Answers.{WritesCalls};
+ghost use Rattle.ll_calling.specs.Texts.{tables};
 
 use crate::calls::call_lines;
 use crate::tables::tables;
@@ -23,7 +25,10 @@ pub fn write_calls<O: Write, E: Write>(
     err: &mut E,
 ) -> u8
     ensures status { (result ≡ 0) ⊎ (result ≡ 1) ⊎ (result ≡ 3) ⊎ (result ≡ 4) }
-    ensures calls { WritesCalls abi bytes.now result (O.contents out.old) (O.contents out.new) }
+    ensures calls { result ≡ 0
+        → WritesCalls abi bytes.now false (O.contents out.old) (O.contents out.new) }
+    ensures refused { result ≡ 1
+        → WritesCalls abi bytes.now true (O.contents out.old) (O.contents out.new) }
     ensures bad { result ≡ 3 → IsRefused policy_format bytes.now out.old out.new }
     ensures quiet { (result ≡ 0) ⊎ (result ≡ 1) → err.new ≡ err.old }
 {
@@ -41,7 +46,7 @@ pub fn write_calls<O: Write, E: Write>(
 /// Writes the tables of rights to `out`, and gives the status: 0, or 4 where memory runs out or `out` can't be written.
 pub fn write_tables<O: Write, E: Write>(alloc: Global, out: &mut O, err: &mut E) -> u8
     ensures status { (result ≡ 0) ⊎ (result ≡ 4) }
-    ensures tables { WritesTables result (O.contents out.old) (O.contents out.new) }
+    ensures tables { result ≡ 0 → Appends (O.contents out.old) (O.contents out.new) tables }
 {
     let text = match tables(alloc) {
         Ok(text) => text,

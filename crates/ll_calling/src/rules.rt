@@ -3,9 +3,7 @@
 ghost use Rattle.std.specs.Prelude.{◌≡◌};
 ghost use Rattle.serde_json.specs.View.{view};
 ghost use Rattle.ll_lines.specs.Readers.{Reads};
-ghost use Rattle.ll_fitting.specs.declared.written.PortRule as port_rule;
 ghost use Rattle.ll_calling.specs.PolicyLines as lines;
-ghost use Rattle.ll_calling.specs.Seen.{rule_seen};
 
 use crate::access::access_of;
 use crate::lists::Listed;
@@ -16,12 +14,22 @@ use ll_tree::kind_of;
 use ll_values::{number_of, text_in_list, text_of};
 use serde_json::Value;
 use std::alloc::Global;
+use std::marker::Model;
 
 /// A rule on a path.
 #[derive(Drop)]
 pub struct RuleRead {
     pub rule: PathRule,
     pub path: String,
+}
+
+impl Model for RuleRead {
+    ghost use Rattle.std.specs.Prelude.{string_bytes};
+    ghost use Rattle.ll_calling.specs.PolicyLines.{RuleSeen};
+
+    ghost Value = { RuleSeen };
+
+    ghost view = { λ read. record { rule = read.rule; path = string_bytes read.path } };
 }
 
 /// What is at the path of a rule.
@@ -68,10 +76,6 @@ fn allowed_by(included: bool, access: Access<Fs>) -> Access<Fs>
 }
 
 impl Listed for RuleRead {
-    ghost Seen = { lines.RuleSeen };
-
-    ghost seen = { rule_seen };
-
     ghost seen_in = { lines.rule_in };
 
     #[tactic(auto, unfolding(crate::specs::PolicyLines::rule_in))]
@@ -93,10 +97,6 @@ impl Listed for RuleRead {
 }
 
 impl Listed for PortRule {
-    ghost Seen = { port_rule.PortRule };
-
-    ghost seen = { λ rule. rule };
-
     ghost seen_in = { lines.port_rule_in };
 
     #[tactic(auto, unfolding(crate::specs::PolicyLines::port_rule_in))]
