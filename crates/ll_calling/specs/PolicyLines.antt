@@ -126,8 +126,8 @@ unfoldable pub layer_in : Data → Result LayerSeen Cause
 layer_in value = do
   handled_files ← access_at (codes "handled_access_fs") value
   handled_network ← port_access_at (codes "handled_access_net") value
-  rules ← list_at (codes "path_beneath") rule_in value
-  port_rules ← list_at (codes "net_port") port_rule_in value
+  rules ← list_at (codes "path_beneath") (λ index. rule_in) value
+  port_rules ← list_at (codes "net_port") (λ index. port_rule_in) value
   scopes ← scopes_at value
   Ok (record { handled_files = handled_files; handled_network = handled_network; rules = rules; port_rules = port_rules; scopes = scopes })
 
@@ -148,7 +148,7 @@ if_fit layers = if is_some (misfit (map written_in layers)) then Err Field else 
 
 unfoldable pub policy_in : Data → Result (List LayerSeen) Cause
 policy_in value = do
-  layers ← list_at (codes "layer") layer_in value
+  layers ← list_at (codes "layer") (λ index. layer_in) value
   if_fit layers
 
 -- the policy on a line

@@ -7,12 +7,11 @@ ghost use Rattle.ll_fitting.specs.Written.{written};
 ghost use Rattle.ll_calling.specs.PolicyLines as lines;
 
 use crate::access::{access_of, scopes_of};
-use crate::lists::{Listed, list_of};
-use crate::rules::RuleRead;
+use crate::rules::{PortRules, RuleRead, Rules};
 use ll_fitting::{Access, Layer, PathRule, Policy, PortRule, Scopes};
 use ll_lines::Cause;
 use ll_rights::{Fs, Net};
-use ll_values::value_of;
+use ll_values::{Reader, list_of, value_of};
 use serde_json::Value;
 use std::alloc::{AllocError, Global};
 use std::marker::Model;
@@ -48,15 +47,29 @@ pub struct PolicyRead {
     pub policy: Policy,
 }
 
-impl Listed for LayerRead {
-    ghost seen_in = { lines.layer_in };
+/// Reads layers.
+struct Layers;
+
+impl Reader for Layers {
+    type Item = LayerRead;
+
+    ghost Seen = { lines.LayerSeen };
+
+    ghost seen = { λ layer. layer };
+
+    ghost seen_in = { λ reader index. lines.layer_in };
 
     #[tactic(auto, unfolding(crate::specs::PolicyLines::layer_in))]
-    fn read(alloc: Global, value: &Value) -> Result<LayerRead, Cause> {
+    fn read(
+        &self,
+        alloc: Global,
+        _others: &[LayerRead],
+        value: &Value,
+    ) -> Result<LayerRead, Cause> {
         let handled_files = access_of(value, "handled_access_fs")?;
         let handled_network = access_of(value, "handled_access_net")?;
-        let rules = list_of(alloc, value, "path_beneath")?;
-        let port_rules = list_of(alloc, value, "net_port")?;
+        let rules = list_of(&Rules, alloc, value, "path_beneath")?;
+        let port_rules = list_of(&PortRules, alloc, value, "net_port")?;
         let scopes = scopes_of(value)?;
         Ok(LayerRead {
             handled_files,
@@ -127,7 +140,7 @@ fn policy_of(alloc: Global, value: &Value) -> Result<PolicyRead, Cause>
     ensures policy { IfOk result (λ read. read.policy
         ≡ map lines.written_in read.layers.items) }
 {
-    let layers = list_of(alloc, value, "layer")?;
+    let layers = list_of(&Layers, alloc, value, "layer")?;
     policy_with(alloc, layers)
 }
 

@@ -87,27 +87,15 @@ layer_in objects ports value = do
   })
 
 unfoldable pub layers_at : List ℕ → ℕ → ℕ → Data → Result (List LayerSeen) Cause
-layers_at name objects ports value = list_at name (layer_in objects ports) value
+layers_at name objects ports value = list_at name (λ index. layer_in objects ports) value
 
 -- ---- the comparison
 
 -- which objects are files; object 0 is the root, a directory
 unfoldable pub files_at : Data → Result (List Bool) Cause
 files_at value = do
-  files ← list_at (codes "files") truth_in value
+  files ← list_at (codes "files") (λ index. truth_in) value
   if slice_index_or files 0 true then Err Field else Ok files
-
--- what one object more is in, which comes before it
-unfoldable pub with_parent : List ℕ → Data → Result (List ℕ) Cause
-with_parent parents value = do
-  parent ← place_in (length parents + 1) value
-  Ok (parents ++ parent ∷ [])
-
--- what each object after the root is in
-unfoldable pub parents_at : Data → Result (List ℕ) Cause
-parents_at value = do
-  items ← items_at (codes "parents") value
-  fold_items with_parent [] items
 
 -- how many ports are numbered
 unfoldable pub port_count_at : Data → Result ℕ Cause
@@ -131,10 +119,11 @@ asked_in value = do
   moves ← asked_at (codes "moves") value
   Ok (record { regions = regions; objects = objects; single = single; gains = gains; moves = moves })
 
+-- each object after the root is in one that comes before it
 unfoldable pub comparison_in : Data → Result Comparison Cause
 comparison_in value = do
   files ← files_at value
-  parents ← parents_at value
+  parents ← list_at (codes "parents") (λ index. place_in (index + 1)) value
   ports ← port_count_at value
   asked ← asked_in value
   old ← layers_at (codes "old") (length files) ports value

@@ -1,18 +1,18 @@
 //! A comparison of two policies, as a line says it.
 
-ghost use Rattle.std.specs.Prelude.{◌≡◌, IfOk, length, map, false, []};
-ghost use Rattle.serde_json.specs.View.{view, items_view};
+ghost use Rattle.std.specs.Prelude.{◌≡◌, ◌+◌, ℕ, Bool, IfOk, map, false};
+ghost use Rattle.serde_json.specs.View.{view};
 ghost use Rattle.ll_lines.specs.Readers.{Gives, Reads};
 ghost use Rattle.ll_policy.specs.Chains.{is_file_in};
-ghost use Rattle.ll_values.specs.Lists.{fold_items, one_more, truth_in};
-ghost use Rattle.ll_comparison.specs.Comparisons.{scopes_in, files_at, with_parent, parents_at, port_count_at, asked_at, asked_in, layer_in, layers_at, comparison_in, comparison_on, seen, all_seen};
+ghost use Rattle.ll_values.specs.Lists.{place_in, truth_in};
+ghost use Rattle.ll_comparison.specs.Comparisons.{LayerSeen, scopes_in, files_at, port_count_at, asked_at, asked_in, layer_in, layers_at, comparison_in, comparison_on, seen, all_seen};
 
 use crate::rules::granted_by_rules;
 use ll_lines::Cause;
 use ll_policy::Layer;
 use ll_rights::Fs;
 use ll_values::{
-    flag_of, fs_of, items_of, net_of, number_of, place_in_list, truth_in_list, value_of,
+    Reader, flag_of, fs_of, list_of, net_of, number_of, place_in_list, truth_in_list, value_of,
 };
 use serde_json::Value;
 use std::alloc::Global;
@@ -52,57 +52,38 @@ pub struct Comparison {
     pub new: Vec<Layer>,
 }
 
-/// What the values of a list are read as, each after those before it.
-trait Listed: Copy {
-    ghost use Rattle.std.specs.Prelude.{List, Result};
-    ghost use Rattle.serde_json.specs.Data.{Data};
-    ghost use Rattle.serde_json.specs.View.{view};
-    ghost use Rattle.ll_lines.specs.declared.fault.Cause as cause;
-    ghost use Rattle.ll_lines.specs.Readers.{Gives};
+/// Reads which objects are files.
+struct Files;
 
-    // The same with one value more.
-    ghost after: { List Self → Data → Result (List Self) cause.Cause };
+impl Reader for Files {
+    type Item = bool;
 
-    /// Takes in one value more.
-    fn take(all: &mut Vec<Self>, value: &Value) -> Result<(), Cause>
-        ensures { Gives (λ _. all.new.items) result (after all.old.items (view value.now)) };
-}
+    ghost Seen = { Bool };
 
-/// True or false.
-impl Listed for bool {
-    ghost after = { one_more truth_in };
+    ghost seen = { λ is_file. is_file };
 
-    #[tactic(auto, unfolding(ll_values::specs::Lists::one_more))]
-    fn take(truths: &mut Vec<bool>, value: &Value) -> Result<(), Cause> {
-        let truth = truth_in_list(value)?;
-        truths.push(truth)?;
-        Ok(())
+    ghost seen_in = { λ reader index. truth_in };
+
+    fn read(&self, _alloc: Global, _others: &[bool], value: &Value) -> Result<bool, Cause> {
+        Ok(truth_in_list(value)?)
     }
 }
 
-/// What one object more is in.
-impl Listed for usize {
-    ghost after = { with_parent };
+/// Reads what each object after the root is in, which comes before it.
+struct Parents;
 
-    #[tactic(auto, unfolding(crate::specs::Comparisons::with_parent))]
-    fn take(parents: &mut Vec<usize>, value: &Value) -> Result<(), Cause> {
-        let parent = place_in_list(parents.len() + 1, value)?;
-        parents.push(parent)?;
-        Ok(())
-    }
-}
+impl Reader for Parents {
+    type Item = usize;
 
-/// What the values of a list are read as.
-#[tactic(auto, using(ll_values::proofs::Folds::fold_fault, ll_values::proofs::Folds::fold_end))]
-fn all_in<T: Listed>(alloc: Global, values: &[Value]) -> Result<Vec<T>, Cause>
-    ensures { Gives (λ all. all.items) result
-        (fold_items T.after [] (items_view values.now)) }
-{
-    let mut all = Vec::new(alloc);
-    for value in values {
-        T::take(&mut all, value)?;
+    ghost Seen = { ℕ };
+
+    ghost seen = { λ parent. parent };
+
+    ghost seen_in = { λ reader index. place_in (index + 1) };
+
+    fn read(&self, _alloc: Global, others: &[usize], value: &Value) -> Result<usize, Cause> {
+        Ok(place_in_list(others.len() + 1, value)?)
     }
-    Ok(all)
 }
 
 /// Which objects are files.
@@ -111,21 +92,11 @@ fn files_of(alloc: Global, value: &Value) -> Result<Vec<bool>, Cause>
     ensures files { Gives (λ files. files.items) result (files_at (view value.now)) }
     ensures root { IfOk result (λ files. is_file_in files.items 0 ≡ false) }
 {
-    let values = items_of(value, "files")?;
-    let files = all_in::<bool>(alloc, values)?;
+    let files = list_of(&Files, alloc, value, "files")?;
     if files.first().copied().unwrap_or(true) {
         return Err(Cause::Field);
     }
     Ok(files)
-}
-
-/// What each object after the root is in.
-#[tactic(auto, unfolding(crate::specs::Comparisons::parents_at))]
-fn parents_of(alloc: Global, value: &Value) -> Result<Vec<usize>, Cause>
-    ensures { Gives (λ parents. parents.items) result (parents_at (view value.now)) }
-{
-    let values = items_of(value, "parents")?;
-    all_in(alloc, values)
 }
 
 /// How many ports are numbered.
@@ -178,59 +149,39 @@ fn scopes_of(value: &Value) -> Result<(bool, bool), Cause>
     Ok((sockets, signals))
 }
 
-/// A layer with rules on so many objects and ports.
-#[tactic(auto, unfolding(crate::specs::Comparisons::layer_in))]
-fn layer_of(alloc: Global, objects: usize, ports: usize, value: &Value) -> Result<Layer, Cause>
-    ensures { Gives seen result (layer_in objects ports (view value.now)) }
-{
-    let files = fs_of(value, "fs")?;
-    let network = net_of(value)?;
-    let on_objects = granted_by_rules(alloc, objects, "object_rules", "objects", value)?;
-    let on_ports = granted_by_rules(alloc, ports, "port_rules", "ports", value)?;
-    let (abstract_unix_socket, signal) = scopes_of(value)?;
-    Ok(Layer {
-        files,
-        network,
-        on_objects,
-        on_ports,
-        abstract_unix_socket,
-        signal,
-    })
-}
-
-/// Takes in a layer.
-#[tactic(auto, unfolding(ll_values::specs::Lists::one_more))]
-fn take_layer(
-    alloc: Global,
-    layers: &mut Vec<Layer>,
+/// Reads layers with rules on so many objects and ports.
+#[derive(Clone, Copy)]
+struct Layers {
     objects: usize,
     ports: usize,
-    value: &Value,
-) -> Result<(), Cause>
-    ensures { Gives (λ _. map seen layers.new.items) result
-        (one_more (layer_in objects ports) (map seen layers.old.items) (view value.now)) }
-{
-    let layer = layer_of(alloc, objects, ports, value)?;
-    layers.push(layer)?;
-    Ok(())
 }
 
-/// A layer for each value of a list.
-#[tactic(auto, using(ll_values::proofs::Folds::fold_fault, ll_values::proofs::Folds::fold_end))]
-fn layers_in(
-    alloc: Global,
-    objects: usize,
-    ports: usize,
-    values: &[Value],
-) -> Result<Vec<Layer>, Cause>
-    ensures { Gives (λ layers. map seen layers.items) result
-        (fold_items (one_more (layer_in objects ports)) [] (items_view values.now)) }
-{
-    let mut layers = Vec::new(alloc);
-    for value in values {
-        take_layer(alloc, &mut layers, objects, ports, value)?;
+impl Reader for Layers {
+    type Item = Layer;
+
+    ghost Seen = { LayerSeen };
+
+    ghost seen = { seen };
+
+    ghost seen_in = { λ reader index. layer_in reader.objects reader.ports };
+
+    #[tactic(auto, unfolding(crate::specs::Comparisons::layer_in))]
+    fn read(&self, alloc: Global, _others: &[Layer], value: &Value) -> Result<Layer, Cause> {
+        let Layers { objects, ports } = *self;
+        let files = fs_of(value, "fs")?;
+        let network = net_of(value)?;
+        let on_objects = granted_by_rules(alloc, objects, "object_rules", "objects", value)?;
+        let on_ports = granted_by_rules(alloc, ports, "port_rules", "ports", value)?;
+        let (abstract_unix_socket, signal) = scopes_of(value)?;
+        Ok(Layer {
+            files,
+            network,
+            on_objects,
+            on_ports,
+            abstract_unix_socket,
+            signal,
+        })
     }
-    Ok(layers)
 }
 
 /// The layers of a policy.
@@ -245,8 +196,7 @@ fn layers_of(
     ensures { Gives (λ layers. map seen layers.items) result
         (layers_at name.now objects ports (view value.now)) }
 {
-    let values = items_of(value, name)?;
-    layers_in(alloc, objects, ports, values)
+    list_of(&Layers { objects, ports }, alloc, value, name)
 }
 
 /// The comparison that a value describes.
@@ -256,7 +206,7 @@ fn comparison_of(alloc: Global, value: &Value) -> Result<Comparison, Cause>
     ensures root { IfOk result (λ comparison. is_file_in comparison.files.items 0 ≡ false) }
 {
     let files = files_of(alloc, value)?;
-    let parents = parents_of(alloc, value)?;
+    let parents = list_of(&Parents, alloc, value, "parents")?;
     let ports = port_count_of(value)?;
     let asked = asked_of(value)?;
     let old = layers_of(alloc, "old", files.len(), ports, value)?;

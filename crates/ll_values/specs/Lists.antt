@@ -1,6 +1,6 @@
 -- The values of a list, read one after another.
 -- Source: docs/FORMATS.md, "Lines" and "What does not read".
-use Rattle.std.specs.Prelude.{ℕ, Bool, nat_lt, List, [], ◌∷◌, ◌++◌, option_and_then, ok_or, Result, Ok, Err, if◌then◌else◌}
+use Rattle.std.specs.Prelude.{ℕ, Bool, nat_lt, List, [], ◌∷◌, ◌++◌, length, option_and_then, ok_or, Result, Ok, Err, if◌then◌else◌}
 use Rattle.serde_json.specs.Data.{Data, Items, no_items, item}
 use Rattle.serde_json.specs.Find.{as_bool, as_number, as_u64}
 use Rattle.ll_lines.specs.declared.fault.Cause.{Cause}
@@ -14,14 +14,14 @@ fold_items add whole (item value others) = do
   more ← add whole value
   fold_items add more others
 
--- one more behind those before it
-unfoldable pub one_more : {X : Type 0} → (Data → Result X Cause) → List X → Data → Result (List X) Cause
+-- one more behind so many before it
+unfoldable pub one_more : {X : Type 0} → (ℕ → Data → Result X Cause) → List X → Data → Result (List X) Cause
 one_more read earlier value = do
-  x ← read value
+  x ← read (length earlier) value
   Ok (earlier ++ x ∷ [])
 
--- the values of a member that is a list, each read by itself
-abbrev pub list_at : {X : Type 0} → List ℕ → (Data → Result X Cause) → Data → Result (List X) Cause
+-- the values of a member that is a list, each read behind so many
+abbrev pub list_at : {X : Type 0} → List ℕ → (ℕ → Data → Result X Cause) → Data → Result (List X) Cause
 list_at name read value = do
   items ← items_at name value
   fold_items (one_more read) [] items
