@@ -1,47 +1,22 @@
 -- The slot of a name, and what the slots show after one member more.
-use Rattle.std.proofs.Common.{◌≡◌, ℕ, zero, suc, replicate, ◌<◌, ◌==◌, Bool, true, false, cond, List}
+use Rattle.std.proofs.Common.{◌≡◌, ℕ, zero, suc, replicate, ◌<◌, Bool, true, false, cond, List}
 use Rattle.std.proofs.Common.{length, get_or, slice_set, Option, Some, None, refl, sym, ap, ◌∙◌, arith, true≢false, lit<}
-use Rattle.std.specs.Prelude.{◌≢◌}
+use Rattle.std.specs.Prelude.{◌≢◌, slice_get}
 use Rattle.std.specs.Str.{bytes_eq}
 use Rattle.std.proofs.lemmas.List.{get_or-set_same, get_or-set_other}
 use Rattle.std.proofs.lemmas.Slice.Eq.{bytes_eq-Decides}
 use Rattle.json.specs.Json as json
 use Rattle.json.specs.Find.{later_or}
-use Rattle.ll_members.specs.Slots.{spelt, named, slot_of, slot_at, Shows, Keeps, AreMissing}
+use Rattle.ll_members.specs.Slots.{names, spelt, named, slot_of, slot_at, Shows, Keeps, AreMissing}
 use Rattle.ll_members.specs.declared.row.Members.{Members}
 use Rattle.ll_members.specs.declared.row.Slot.{Slot}
 use Rattle.ll_members.specs.declared.row.Slot.TheVariants.{Missing}
 use Rattle.ll_members.specs.declared.row.Name.{Name}
-use Rattle.ll_members.specs.declared.row.Name.TheVariants.{Op, Pid, Child, Rs, Fs, Net, Path, From, To}
-use Rattle.ll_members.specs.declared.row.Name.TheVariants.{Port, Fd, Mode, Create, Trunc, Kind, Exchange, Nnp, Admin, Driver}
-
--- the name whose slot has a number
-name_at : ℕ → Option Name
-name_at n =
-    cond (n == 0) (Some Op) (
-    cond (n == 1) (Some Pid) (
-    cond (n == 2) (Some Child) (
-    cond (n == 3) (Some Rs) (
-    cond (n == 4) (Some Fs) (
-    cond (n == 5) (Some Net) (
-    cond (n == 6) (Some Path) (
-    cond (n == 7) (Some From) (
-    cond (n == 8) (Some To) (
-    cond (n == 9) (Some Port) (
-    cond (n == 10) (Some Fd) (
-    cond (n == 11) (Some Mode) (
-    cond (n == 12) (Some Create) (
-    cond (n == 13) (Some Trunc) (
-    cond (n == 14) (Some Kind) (
-    cond (n == 15) (Some Exchange) (
-    cond (n == 16) (Some Nnp) (
-    cond (n == 17) (Some Admin) (
-    cond (n == 18) (Some Driver) (
-    None)))))))))))))))))))
+use Rattle.ll_members.specs.declared.row.Name.TheVariants.{Op}
 
 -- a name is named by its spelling, and its slot is its own
-each_name : (name : Name) → (named (spelt name) ≡ Some name) × (slot_of name < 19) × (name_at (slot_of name) ≡ Some name)
-unfolding named spelt slot_of name_at
+each_name : (name : Name) → (named (spelt name) ≡ Some name) × (slot_of name < 19) × (slice_get names (slot_of name) ≡ Some name)
+unfolding named names spelt slot_of
 each_name Op = (refl, lit< tt, refl)
 each_name name = (refl, lit< tt, refl)
 
@@ -49,7 +24,7 @@ itself : (a b : Name) → Some a ≡ Some b → a ≡ b
 itself a b e = cc
 
 one_slot : (a b : Name) → slot_of a ≡ slot_of b → a ≡ b
-one_slot a b e = itself a b (sym (each_name a).2 ∙ ap name_at e ∙ (each_name b).2)
+one_slot a b e = itself a b (sym (each_name a).2 ∙ ap (slice_get names) e ∙ (each_name b).2)
 
 one_name : (key : List ℕ) (a b : Name) → named key ≡ Some a → key ≡ spelt b → a ≡ b
 one_name key a b e is = itself a b (sym e ∙ ap named is ∙ (each_name b).0)

@@ -1,7 +1,8 @@
 -- The members of a line's value, each in the slot of its name: the rights that a list of names stands for, what is left
 -- behind a value that is passed over, and what the slots show.
 -- Source: docs/FORMATS.md, "The tree file" and "The trace file"; the slots are the code's own.
-use Rattle.std.specs.Prelude.{◌≡◌, ℕ, List, ◌∷◌, Bool, true, Option, Some, None, codes, get_or, length, option_and_then, ok_or, false, Result, Ok, Err, if◌then◌else◌}
+use Rattle.std.specs.Prelude.{◌≡◌, ℕ, List, [], ◌∷◌, Bool, true, Option, Some, None, codes, get_or, length, option_and_then, ok_or, false, Result, Ok, Err, if◌then◌else◌}
+use Rattle.std.specs.List.{find, position_or_len}
 use Rattle.std.specs.Str.{bytes_eq}
 use Rattle.json.specs.Token.{Token}
 use Rattle.json.specs.Json as json
@@ -57,16 +58,16 @@ behind_members depth ts = behind have_range (json.members (json.value depth) (le
 unfoldable pub spelt : Name → List ℕ
 spelt Op = codes "op"
 spelt Pid = codes "pid"
-spelt Child = codes "child"
+spelt Path = codes "path"
+spelt Fd = codes "fd"
+spelt Mode = codes "mode"
 spelt Rs = codes "rs"
 spelt Fs = codes "fs"
 spelt Net = codes "net"
-spelt Path = codes "path"
+spelt Port = codes "port"
+spelt Child = codes "child"
 spelt From = codes "from"
 spelt To = codes "to"
-spelt Port = codes "port"
-spelt Fd = codes "fd"
-spelt Mode = codes "mode"
 spelt Create = codes "create"
 spelt Trunc = codes "trunc"
 spelt Kind = codes "kind"
@@ -75,51 +76,18 @@ spelt Nnp = codes "nnp"
 spelt Admin = codes "admin"
 spelt Driver = codes "driver"
 
+-- the names, in the order of their slots
+unfoldable pub names : List Name
+names =
+    Op ∷ Pid ∷ Path ∷ Fd ∷ Mode ∷ Rs ∷ Fs ∷ Net ∷ Port ∷ Child ∷ From ∷ To ∷ Create ∷ Trunc ∷ Kind ∷ Exchange ∷ Nnp ∷ Admin ∷ Driver ∷ []
+
 -- the name that a key is
 unfoldable pub named : List ℕ → Option Name
-named key =
-    if bytes_eq key (codes "op") then Some Op else (
-    if bytes_eq key (codes "pid") then Some Pid else (
-    if bytes_eq key (codes "path") then Some Path else (
-    if bytes_eq key (codes "fd") then Some Fd else (
-    if bytes_eq key (codes "mode") then Some Mode else (
-    if bytes_eq key (codes "rs") then Some Rs else (
-    if bytes_eq key (codes "fs") then Some Fs else (
-    if bytes_eq key (codes "net") then Some Net else (
-    if bytes_eq key (codes "port") then Some Port else (
-    if bytes_eq key (codes "child") then Some Child else (
-    if bytes_eq key (codes "from") then Some From else (
-    if bytes_eq key (codes "to") then Some To else (
-    if bytes_eq key (codes "create") then Some Create else (
-    if bytes_eq key (codes "trunc") then Some Trunc else (
-    if bytes_eq key (codes "kind") then Some Kind else (
-    if bytes_eq key (codes "exchange") then Some Exchange else (
-    if bytes_eq key (codes "nnp") then Some Nnp else (
-    if bytes_eq key (codes "admin") then Some Admin else (
-    if bytes_eq key (codes "driver") then Some Driver else (
-    None)))))))))))))))))))
+named key = find (λ name. bytes_eq key (spelt name)) names
 
 -- the number of a name's slot
 unfoldable pub slot_of : Name → ℕ
-slot_of Op = 0
-slot_of Pid = 1
-slot_of Child = 2
-slot_of Rs = 3
-slot_of Fs = 4
-slot_of Net = 5
-slot_of Path = 6
-slot_of From = 7
-slot_of To = 8
-slot_of Port = 9
-slot_of Fd = 10
-slot_of Mode = 11
-slot_of Create = 12
-slot_of Trunc = 13
-slot_of Kind = 14
-slot_of Exchange = 15
-slot_of Nnp = 16
-slot_of Admin = 17
-slot_of Driver = 18
+slot_of name = position_or_len (λ other. bytes_eq (spelt other) (spelt name)) names
 
 abbrev pub slot_at : Members → Name → Slot
 slot_at members name = get_or members.slots (slot_of name) Missing

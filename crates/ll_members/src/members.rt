@@ -18,9 +18,7 @@ pub(crate) fn text_in<'l>(slot: Slot<'l>) -> Result<&'l str, Cause>
 {
     match slot {
         Slot::Text(text) => Ok(text),
-        Slot::Missing | Slot::Number(_) | Slot::Truth(_) | Slot::Names(_) | Slot::Other => {
-            Err(Cause::Field)
-        }
+        _ => Err(Cause::Field),
     }
 }
 
@@ -29,9 +27,7 @@ fn number_in(slot: Slot<'_>) -> Result<u64, Cause>
 {
     match slot {
         Slot::Number(number) => number.ok_or(Cause::Field),
-        Slot::Missing | Slot::Text(_) | Slot::Truth(_) | Slot::Names(_) | Slot::Other => {
-            Err(Cause::Field)
-        }
+        _ => Err(Cause::Field),
     }
 }
 
@@ -40,9 +36,7 @@ fn truth_in(slot: Slot<'_>) -> Result<bool, Cause>
 {
     match slot {
         Slot::Truth(truth) => Ok(truth),
-        Slot::Missing | Slot::Text(_) | Slot::Number(_) | Slot::Names(_) | Slot::Other => {
-            Err(Cause::Field)
-        }
+        _ => Err(Cause::Field),
     }
 }
 
@@ -51,8 +45,7 @@ fn flag_in(slot: Slot<'_>) -> Result<bool, Cause>
 {
     match slot {
         Slot::Missing => Ok(false),
-        Slot::Truth(truth) => Ok(truth),
-        Slot::Text(_) | Slot::Number(_) | Slot::Names(_) | Slot::Other => Err(Cause::Field),
+        _ => truth_in(slot),
     }
 }
 
@@ -62,7 +55,7 @@ fn rights_in(slot: Slot<'_>) -> Result<Rights, Cause>
     match slot {
         Slot::Missing => Ok(Rights::none()),
         Slot::Names(rights) => rights.ok_or(Cause::Field),
-        Slot::Text(_) | Slot::Number(_) | Slot::Truth(_) | Slot::Other => Err(Cause::Field),
+        _ => Err(Cause::Field),
     }
 }
 

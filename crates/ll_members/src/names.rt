@@ -7,37 +7,17 @@ use crate::row::{Members, NAMES, Name, Slot};
 
 impl Name {
     /// The number of the name's slot.
-    #[tactic(auto, unfolding(crate::specs::Slots::slot_of))]
+    #[tactic(auto, unfolding(crate::specs::Slots::slot_of, crate::specs::Slots::names, crate::specs::Slots::spelt))]
     fn slot(self) -> usize
         ensures number { result ≡ slot_of self }
         ensures fits { result < 19 }
     {
-        match self {
-            Name::Op => 0,
-            Name::Pid => 1,
-            Name::Child => 2,
-            Name::Rs => 3,
-            Name::Fs => 4,
-            Name::Net => 5,
-            Name::Path => 6,
-            Name::From => 7,
-            Name::To => 8,
-            Name::Port => 9,
-            Name::Fd => 10,
-            Name::Mode => 11,
-            Name::Create => 12,
-            Name::Trunc => 13,
-            Name::Kind => 14,
-            Name::Exchange => 15,
-            Name::Nnp => 16,
-            Name::Admin => 17,
-            Name::Driver => 18,
-        }
+        self as usize
     }
 }
 
 /// The name that a key is. The names that most records have are tried first.
-#[tactic(auto, unfolding(crate::specs::Slots::named, crate::specs::Slots::spelt))]
+#[tactic(auto, unfolding(crate::specs::Slots::named, crate::specs::Slots::names, crate::specs::Slots::spelt))]
 pub(crate) fn name_of(key: &str) -> Option<Name>
     ensures named { result ≡ named key.now }
     ensures spelt { IfSome result (λ name. key.now ≡ spelt name) }

@@ -7,21 +7,21 @@ use crate::rights::Rights;
 /// How many names there are.
 pub(crate) const NAMES: usize = 19;
 
-/// The name of a member.
+/// The name of a member. The names that most records have stand first.
 #[derive(Clone, Copy)]
 pub enum Name {
     Op,
     Pid,
-    Child,
+    Path,
+    Fd,
+    Mode,
     Rs,
     Fs,
     Net,
-    Path,
+    Port,
+    Child,
     From,
     To,
-    Port,
-    Fd,
-    Mode,
     Create,
     Trunc,
     Kind,
