@@ -3,6 +3,7 @@ use Rattle.std.proofs.Common.{◌≡◌, ℕ, zero, suc, ◌+◌, Bool, true, fa
 use Rattle.std.proofs.Common.{None, cond, refl, sym, ap, ◌∙◌, if◌then◌else◌}
 use Rattle.std.specs.Prelude.{slice_get}
 use Rattle.std.proofs.lemmas.List.{length-map, take-map}
+use Rattle.std.specs.Option.{option_map_or}
 use Rattle.ll_rights.specs.declared.abi.Abi.{Abi}
 use Rattle.ll_rights.specs.Supported.{supported_fs, supported_net}
 use Rattle.ll_rights.specs.Rights as files
@@ -104,7 +105,7 @@ module _ (abi : Abi) where
   named-kept [] pid = refl
   named-kept (entry ∷ past) pid = rw (pid_started-kept entry.op entry.pid, named-kept past pid, count-kept past) refl
 
-  twice-kept : (past : List Entry) (started : Option ℕ) → entries.is_live_pid (map entry_kept past) started ≡ entries.is_live_pid past started
+  twice-kept : (past : List Entry) (started : Option ℕ) → option_map_or (is_live (map entry_kept past)) started false ≡ option_map_or (is_live past) started false
   twice-kept past None = refl
   twice-kept past (Some pid) = is_live-kept past pid
 

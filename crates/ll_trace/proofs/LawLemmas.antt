@@ -1,15 +1,16 @@
 -- Laws of reading traces.
 use Rattle.std.proofs.Common.{◌≡◌, ℕ, ◌||◌, Bool, true, false, List, [], ◌∷◌, map, reverse, Option, Some, None, Result, Ok, Err, cond, refl, sym, ap}
+use Rattle.std.specs.Option.{option_map_or}
 use Rattle.ll_lines.specs.declared.fault.Cause.{Cause}
 use Rattle.ll_lines.specs.declared.fault.Cause.TheVariants.{Twice, TooMany, UnknownProcess}
 use Rattle.ll_lines.specs.Reading.{first_fault, entries_of, IsGood}
 use Rattle.ll_lines.specs.LineByLine.{ReadsInOneWay}
 use Rattle.ll_lines.proofs.ReadingLemmas.{in_one_way as format_in_one_way}
 use Rattle.ll_trace.specs.declared.op.Record.{Record}
-use Rattle.ll_trace.specs.Entries.{Entry, entry_at, is_start_of, is_end_of, is_live, is_live_pid, is_unknown, is_twice, is_too_many, entry_fault, started_pid}
+use Rattle.ll_trace.specs.Entries.{Entry, entry_at, is_start_of, is_end_of, is_live, is_unknown, is_twice, is_too_many, entry_fault, started_pid}
 use Rattle.ll_trace.specs.Entries.{trace_file}
 use Rattle.ll_trace.specs.Records.{entry_of, records_after, IsTrace}
-use Rattle.ll_trace.specs.SingleUse.{is_used, is_used_pid, is_used_again, strict_entry_fault, strict_file}
+use Rattle.ll_trace.specs.SingleUse.{is_used, is_used_again, strict_entry_fault, strict_file}
 
 -- a live pid was used
 used-cases : (a b live used : Bool) → cond a true (cond b false live) ≡ true → (live ≡ true → used ≡ true) → (a || used) ≡ true
@@ -26,7 +27,7 @@ unused : (live used : Bool) → (live ≡ true → used ≡ true) → used ≡ f
 unused true used later e = absurd (let u : used ≡ true = later refl in cc)
 unused false used later e = refl
 
-unused_pid : (past : List Entry) (started : Option ℕ) → is_used_pid past started ≡ false → is_live_pid past started ≡ false
+unused_pid : (past : List Entry) (started : Option ℕ) → option_map_or (is_used past) started false ≡ false → option_map_or (is_live past) started false ≡ false
 unused_pid past None e = refl
 unused_pid past (Some pid) e = unused (is_live past pid) (is_used past pid) (live_is_used past pid) e
 

@@ -1,15 +1,16 @@
 -- The processes of a trace that was read are numbered in the order of the records that start them.
 use Rattle.std.proofs.Common.{◌≡◌, ℕ, zero, suc, ◌+◌, ◌<◌, ◌≤◌, Bool, true, false, not, ◌&&◌, cond, List, [], ◌∷◌, take, map, Option, Some, None, refl, sym, ap}
 use Rattle.std.proofs.Common.{◌∙◌, subst, inl, inr, arith, if◌then◌else◌, ◌||◌, length, lit≤}
-use Rattle.std.specs.Prelude.{slice_get, is_some, unwrap_or, nat_le}
+use Rattle.std.specs.Prelude.{◌==◌, slice_get, is_some, unwrap_or, nat_le}
 use Rattle.std.proofs.lemmas.Bool.{cases_Bool, leb-false}
 use Rattle.std.proofs.lemmas.Option.{none-some, same_Some}
+use Rattle.std.specs.Option.{option_map_or}
 use Rattle.ll_lines.specs.declared.fault.Cause.{Cause}
 use Rattle.ll_lines.specs.declared.fault.Cause.TheVariants.{UnknownProcess, Twice, TooMany}
 use Rattle.ll_trace.specs.declared.reader.TheConstants.{MOST_PROCESSES, MOST_RECORDS}
 use Rattle.ll_trace.specs.declared.op.Record.{Record}
 use Rattle.ll_trace.specs.Entries as entries
-use Rattle.ll_trace.specs.Entries.{Entry, started_pid, is_pid, is_start_of, is_end_of, is_live, process_named, entry_fault, is_unknown, is_twice, is_too_many}
+use Rattle.ll_trace.specs.Entries.{Entry, started_pid, is_start_of, is_end_of, is_live, process_named, entry_fault, is_unknown, is_twice, is_too_many}
 use Rattle.ll_trace.specs.Records.{entry_of, record_of, records_after, process_of}
 use Rattle.ll_trace.specs.Traces.{AreFaultless, AreRecords}
 use Rattle.ll_trace.specs.Processes.{is_start, process_count, IsNumbered}
@@ -18,9 +19,9 @@ use Rattle.std.proofs.lemmas.List.{length-map}
 
 -- ---- a live pid names a process that was started
 
-is_pid-some : (pid : ℕ) (o : Option ℕ) → is_pid pid o ≡ true → is_some o ≡ true
-is_pid-some pid None holds = holds
-is_pid-some pid (Some p) holds = refl
+holds-some : (test : ℕ → Bool) (o : Option ℕ) → option_map_or test o false ≡ true → is_some o ≡ true
+holds-some test None holds = holds
+holds-some test (Some p) holds = refl
 
 counted-if : (b : Bool) (n : ℕ) → (if b then n + 1 else n) ≡ cond b 1 0 + n
 counted-if true n = omega arith
@@ -47,7 +48,7 @@ live_named (entry ∷ past) pid live = elim (cases_Bool (is_start_of pid entry))
       (omega (
         arith,
         count-cons entry past,
-        one_more (is_some (started_pid entry)) (is_pid-some pid (started_pid entry) starts) (entries.process_count past),
+        one_more (is_some (started_pid entry)) (holds-some (λ started. started == pid) (started_pid entry) starts) (entries.process_count past),
       ))
   | inr goes ↦
       (let still : (if is_end_of pid entry then false else is_live past pid)

@@ -2,10 +2,11 @@
 use Rattle.std.proofs.Common.{◌≡◌, ℕ, Bool, true, false, refl, ap, ◌≢◌, zero, suc, ◌+◌, ◌<◌, ◌≤◌, cond, eqb, List, [], ◌∷◌, ◌++◌, length, take, Option, Some}
 use Rattle.std.proofs.Common.{None, sym, ◌∙◌, subst, inl, inr, arith}
 use Rattle.std.specs.Prelude.{is_some, slice_get}
+use Rattle.std.specs.Option.{option_flatten}
 use Rattle.ll_trace.specs.declared.op.Op.{Op}
 use Rattle.ll_trace.specs.declared.op.Op.TheVariants.{Start, Fork}
 use Rattle.ll_trace.specs.Entries.{is_start, pid_started}
-use Rattle.ll_trace.specs.Processes.{is_fork, is_starting, is_start, process_count, number_if, started_at, forked_at, forked_by, parents, only, parent_of}
+use Rattle.ll_trace.specs.Processes.{is_fork, is_starting, is_start, process_count, number_if, started_at, forked_at, forked_by, parents, parent_of}
 use Rattle.ll_trace.specs.Processes.{IsNumbered}
 use Rattle.std.proofs.Math.Dec.{eqb-suc-zero, eqb-zero-suc, eqb-suc-suc}
 use Rattle.std.proofs.lemmas.Bool.{cases_lt, cases_eq, eq-eqb, ne_eqb}
@@ -260,5 +261,5 @@ forked_from op own parent is = absurd (cc)
 pub parent_below : (rs : List Record) (p : ℕ) (parent : ProcessId) → IsNumbered rs → p < process_count rs → parent_of rs p ≡ Some parent → parent.0 < p
 parent_below rs p parent numbered there is =
     let (k, one) = start_of rs p there in
-    let forked = forked_from one.of.op one.of.process parent (ap only (sym (parent_at rs k p one)) ∙ is) in
+    let forked = forked_from one.of.op one.of.process parent (ap option_flatten (sym (parent_at rs k p one)) ∙ is) in
     omega (arith, numbered.goes_on k one.of one.at forked.1, one.number, ap (λ (p : ProcessId). p.0) forked.0)

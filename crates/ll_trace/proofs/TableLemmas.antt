@@ -9,9 +9,10 @@ use Rattle.std.proofs.lemmas.List.{get_or_append_left, get_or_at, length-append,
 use Rattle.std.proofs.lemmas.List.{length-take, take_more}
 use Rattle.std.proofs.lemmas.List.Sorted.{searched}
 use Rattle.std.proofs.lemmas.Option.{slice_get_within, slice_get_read}
+use Rattle.std.specs.Option.{option_flatten}
 use Rattle.ll_trace.specs.declared.op.Record.{Record}
-use Rattle.ll_trace.specs.Processes.{is_starting, process_count, started_at, own_from, own_records, forked_by, parent_of, only, IsNumbered}
-use Rattle.ll_trace.specs.Indexed.{AreStarts, Adds, Indexes, lists}
+use Rattle.ll_trace.specs.Processes.{is_starting, process_count, started_at, own_from, own_records, forked_by, parent_of, IsNumbered}
+use Rattle.ll_trace.specs.Traces.{AreStarts, Adds, Indexes, lists}
 use Rattle.ll_trace.proofs.Numbers.{with_first, StartedAt, count-all, count-le, count-started, process_count-push, started_at-is, started_at-push, started_once}
 use Rattle.ll_trace.proofs.Numbers.{count-more, numbered_below, parents-push, length-parents, parent_below}
 use Rattle.std.specs.Prelude.{All, IfSome, slice_get}
@@ -184,7 +185,7 @@ pub parent_read : (tables : Tables) (records : List Record) (process : ℕ) (r :
 parent_read tables records process r numbered indexes lt is =
     let got : slice_get tables.parents.items process ≡ Some r =
     slice_get_read tables.parents.items (length tables.parents.items) process r refl (omega (arith, parents_read tables records process indexes lt)) is in
-    let value : parent_of records process ≡ r = ap (λ ps. only (slice_get ps process)) (sym indexes.by_process) ∙ ap only got in
+    let value : parent_of records process ≡ r = ap (λ ps. option_flatten (slice_get ps process)) (sym indexes.by_process) ∙ ap option_flatten got in
     (sym value, IfSome_by r (λ parent. parent.0 < process) (λ parent some. parent_below records process parent numbered lt (value ∙ some)))
 
 own_index : (b : Bool) (n m : ℕ) (indices : List ℕ) → n < m → AllByRecursion (λ k. k < m) indices → AllByRecursion (λ k. k < m) (cond b (n ∷ indices) indices)

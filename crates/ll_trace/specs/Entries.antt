@@ -1,6 +1,7 @@
 -- The entries of a trace file: which of them start or end a process, which pid is live, and which entry is at fault by those before it.
 -- Source: docs/FORMATS.md, "The trace file".
 use Rattle.std.specs.Prelude.{ℕ, ◌+◌, ◌==◌, ◌&&◌, ◌||◌, Bool, true, false, not, nat_le, List, [], ◌∷◌, length, reverse, Option, Some, None, is_some, codes, Result, Ok, if◌then◌else◌}
+use Rattle.std.specs.Option.{option_map_or}
 use Rattle.ll_lines.specs.declared.fault.Cause.{Cause}
 use Rattle.ll_lines.specs.declared.fault.Cause.TheVariants.{Twice, TooMany, UnknownProcess}
 use Rattle.ll_lines.specs.Members.{value_at, number_at, ◌>>=◌}
@@ -38,13 +39,9 @@ pid_started _ pid = None
 abbrev pub started_pid : Entry → Option ℕ
 started_pid entry = pid_started entry.op entry.pid
 
-abbrev pub is_pid : ℕ → Option ℕ → Bool
-is_pid pid None = false
-is_pid pid (Some started) = started == pid
-
 -- whether an entry starts a process under a pid
 abbrev pub is_start_of : ℕ → Entry → Bool
-is_start_of pid entry = is_pid pid (started_pid entry)
+is_start_of pid entry = option_map_or (λ started. started == pid) (started_pid entry) false
 
 unfoldable pub is_exit : Op → Bool
 is_exit Exit = true
@@ -76,12 +73,8 @@ abbrev pub is_unknown : List Entry → Entry → Bool
 is_unknown past entry = not (is_start entry.op) && not (is_live past entry.pid)
 
 -- an entry that starts a process under a pid that is live
-abbrev pub is_live_pid : List Entry → Option ℕ → Bool
-is_live_pid past None = false
-is_live_pid past (Some pid) = is_live past pid
-
 abbrev pub is_twice : List Entry → Entry → Bool
-is_twice past entry = is_live_pid past (started_pid entry)
+is_twice past entry = option_map_or (is_live past) (started_pid entry) false
 
 -- the 1,000,001st entry, or one that starts the 65,537th process
 abbrev pub is_too_many : List Entry → Entry → Bool

@@ -2,6 +2,7 @@
 -- Source: docs/FORMATS.md, "The trace file".
 use Rattle.std.specs.Prelude.{◌≡◌, ℕ, ◌+◌, ◌==◌, Bool, true, false, List, [], ◌∷◌, map, reverse, Option, Some, None, option_map, if◌then◌else◌}
 use Rattle.std.specs.FinMap.{get}
+use Rattle.std.specs.Option.{option_map_or}
 use Rattle.ll_trace.specs.declared.reader.Entry as declared
 use Rattle.ll_trace.specs.declared.owners.Owner.{Owner}
 use Rattle.ll_trace.specs.declared.reader.Reader.{Reader}
@@ -11,16 +12,14 @@ use Rattle.ll_trace.specs.Traces.{AreRecords}
 
 -- whether the latest process of a pid runs
 abbrev pub runs : Option Owner → Bool
-runs None = false
-runs (Some owner) = owner.running
+runs owner = option_map_or (λ (one : Owner). one.running) owner false
 
 -- the number of that process
 abbrev pub number : Option Owner → Option ℕ
 number owner = option_map (λ (one : Owner). one.process.0) owner
 
 abbrev pub stopped : Option Owner → Option Owner
-stopped None = None
-stopped (Some owner) = Some (record owner { running = false })
+stopped owner = option_map (λ (one : Owner). record one { running = false }) owner
 
 -- the latest process of a pid
 abbrev pub owner_of : List Entry → ℕ → Option Owner

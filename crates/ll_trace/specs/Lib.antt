@@ -6,7 +6,6 @@ pub mod Records
 pub mod Processes
 pub mod Kept
 pub mod Parts
-pub mod Indexed
 pub mod Traces
 pub mod SingleUse
 pub mod BestEffort

@@ -25,24 +25,16 @@ path_at value = do
   text ← text_at (codes "path") value
   path_in text
 
-abbrev pub modes : List (List ℕ × Mode)
-modes = (codes "r", Read) ∷ (codes "w", Write) ∷ (codes "rw", Both) ∷ []
-
 unfoldable pub mode_at : Data → Result Mode Cause
-mode_at value = word_at (codes "mode") modes value
-
-abbrev pub sorts : List (List ℕ × Sort)
-sorts = (codes "reg", sort.Regular) ∷ (codes "device", sort.Device) ∷ (codes "other", sort.Other) ∷ []
+mode_at value = word_at (codes "mode") ((codes "r", Read) ∷ (codes "w", Write) ∷ (codes "rw", Both) ∷ []) value
 
 unfoldable pub sort_at : Data → Result Sort Cause
-sort_at value = word_at (codes "kind") sorts value
+sort_at value = word_at (codes "kind") ((codes "reg", sort.Regular) ∷ (codes "device", sort.Device) ∷ (codes "other", sort.Other) ∷ []) value
 
 -- the kinds that mknod makes
-abbrev pub made_kinds : List (List ℕ × Kind)
-made_kinds = (codes "reg", Reg) ∷ (codes "char", Char) ∷ (codes "block", Block) ∷ (codes "fifo", Fifo) ∷ (codes "sock", Sock) ∷ []
-
 unfoldable pub made_kind_at : Data → Result Kind Cause
-made_kind_at value = word_at (codes "kind") made_kinds value
+made_kind_at value =
+    word_at (codes "kind") ((codes "reg", Reg) ∷ (codes "char", Char) ∷ (codes "block", Block) ∷ (codes "fifo", Fifo) ∷ (codes "sock", Sock) ∷ []) value
 
 -- a TCP port
 unfoldable pub port_at : Data → Result ℕ Cause

@@ -2,6 +2,7 @@
 -- Source: docs/FORMATS.md, "The trace file".
 use Rattle.std.specs.Prelude.{◌≡◌, ℕ, ◌+◌, ◌<◌, ◌==◌, Bool, true, false, List, [], ◌∷◌, take, map, count_by, filter, Option, Some, None, slice_get, if◌then◌else◌}
 use Rattle.std.specs.List.{filter_map, flat_map}
+use Rattle.std.specs.Option.{option_flatten}
 use Rattle.ll_trace.specs.declared.op.Record.{Record}
 use Rattle.ll_trace.specs.declared.op.ProcessId.{ProcessId}
 use Rattle.ll_trace.specs.declared.op.Op.{Op}
@@ -79,13 +80,9 @@ unfoldable pub parents : List Record → List (Option ProcessId)
 parents [] = []
 parents (r ∷ rs) = if is_starting r.op then forked_by r.op r.process ∷ parents rs else parents rs
 
-abbrev pub only : {A : Type 0} → Option (Option A) → Option A
-only None = None
-only (Some found) = found
-
 -- the parent of a process, where it has one
 abbrev pub parent_of : List Record → ℕ → Option ProcessId
-parent_of records process = only (slice_get (parents records) process)
+parent_of records process = option_flatten (slice_get (parents records) process)
 
 -- how often a process is in a list
 unfoldable pub times : ℕ → List ℕ → ℕ

@@ -23,11 +23,7 @@ texts_of (item value others) = text_of value ∷ texts_of others
 -- All that unfolds when an operation is found by its name, and its paths are looked at.
 unfoldable pub naming : Unit {0}
 unfolding
-    Rattle.ll_members.specs.Slots.spelt Rattle.ll_trace.specs.Operations.operations Rattle.ll_trace.specs.Operations.operation_named
-    Rattle.ll_trace.specs.Operations.paths_of Rattle.ll_trace.specs.Operations.are_spelt Rattle.ll_trace.specs.Members.path_in
+    Rattle.ll_members.specs.Slots.spelt Rattle.ll_trace.specs.Operations.operation_named Rattle.ll_trace.specs.Operations.operations
+    Rattle.ll_trace.specs.Operations.descriptor_operations Rattle.ll_trace.specs.Operations.path_operations Rattle.ll_trace.specs.Operations.paths_of
+    Rattle.ll_trace.specs.Operations.are_spelt Rattle.ll_trace.specs.Members.path_in
 naming = tt
-
--- All that unfolds when the paths of an operation are looked at.
-unfoldable pub spelling : Unit {0}
-unfolding Rattle.ll_trace.specs.Operations.paths_of Rattle.ll_trace.specs.Operations.are_spelt Rattle.ll_trace.specs.Members.path_in
-spelling = tt

@@ -1,6 +1,7 @@
 -- The stricter rule that a pid is never used again, for the law that traces which keep to it read as they did.
 -- Source: docs/FORMATS.md, "A pid that is used again".
-use Rattle.std.specs.Prelude.{◌≡◌, ℕ, ◌||◌, Bool, false, List, [], ◌∷◌, map, reverse, Option, Some, None}
+use Rattle.std.specs.Prelude.{◌≡◌, ℕ, ◌||◌, Bool, false, List, [], ◌∷◌, map, reverse, Option}
+use Rattle.std.specs.Option.{option_map_or}
 use Rattle.ll_lines.specs.declared.fault.Cause.{Cause}
 use Rattle.ll_lines.specs.Reading.{Format, IsGood}
 use Rattle.ll_trace.specs.declared.op.Record.{Record}
@@ -12,13 +13,9 @@ abbrev pub is_used : List Entry → ℕ → Bool
 is_used [] pid = false
 is_used (entry ∷ past) pid = is_start_of pid entry || is_used past pid
 
-abbrev pub is_used_pid : List Entry → Option ℕ → Bool
-is_used_pid past None = false
-is_used_pid past (Some pid) = is_used past pid
-
 -- an entry that starts a process under a pid which was used before
 abbrev pub is_used_again : List Entry → Entry → Bool
-is_used_again past entry = is_used_pid past (started_pid entry)
+is_used_again past entry = option_map_or (is_used past) (started_pid entry) false
 
 abbrev pub strict_entry_fault : List Entry → Entry → Option Cause
 strict_entry_fault past entry = entry_fault_by is_used_again past entry

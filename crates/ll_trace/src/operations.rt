@@ -3,8 +3,7 @@
 ghost use Rattle.std.specs.Prelude.{◌≡◌, codes};
 ghost use Rattle.ll_lines.specs.Readers.{Gives};
 ghost use Rattle.ll_members.specs.Slots.{ReadsOf};
-ghost use Rattle.ll_trace.specs.Operations.{descriptor_operations, named_in, op_name, operation_at};
-ghost use Rattle.ll_trace.specs.Operations.{operation_named, path_operations};
+ghost use Rattle.ll_trace.specs.Operations.{op_name, operation_at, operation_named};
 
 use crate::members::{made_kind_of, mode_of, path_of, port_of, sort_of};
 use crate::op::Op;
@@ -22,7 +21,7 @@ pub fn operation_of(alloc: Global, members: &Members<'_>) -> Result<Op, Cause>
     operation_by_name(alloc, name, members)
 }
 
-#[tactic(auto, unfolding(ll_members::specs::Slots::spelt, crate::specs::Operations::operations, crate::specs::Operations::operation_named))]
+#[tactic(auto, unfolding(crate::specs::SaidByName::naming))]
 fn operation_by_name(alloc: Global, name: &str, members: &Members<'_>) -> Result<Op, Cause>
     ensures { ReadsOf members.now (Gives (λ op. op) result)
         (λ value. operation_named name.now value) }
@@ -49,17 +48,6 @@ fn operation_by_name(alloc: Global, name: &str, members: &Members<'_>) -> Result
         "close_rs" => number_of(members, Name::Rs).map(|rs| Op::CloseRs { rs }),
         "restrict" => number_of(members, Name::Rs).map(|rs| Op::Restrict { rs }),
         "mount" => Ok(Op::Mount),
-        _ => descriptor_operation(alloc, name, members),
-    }
-}
-
-/// A call on a descriptor, a port or a path.
-#[tactic(auto, unfolding(ll_members::specs::Slots::spelt, crate::specs::Operations::descriptor_operations))]
-fn descriptor_operation(alloc: Global, name: &str, members: &Members<'_>) -> Result<Op, Cause>
-    ensures { ReadsOf members.now (Gives (λ op. op) result)
-        (λ value. named_in (descriptor_operations value) name.now) }
-{
-    match name {
         "adopt" => Ok(Op::Adopt {
             fd: number_of(members, Name::Fd)?,
             kind: sort_of(members)?,
@@ -76,17 +64,6 @@ fn descriptor_operation(alloc: Global, name: &str, members: &Members<'_>) -> Res
         }),
         "bind" => port_of(members).map(|port| Op::Bind { port }),
         "connect" => port_of(members).map(|port| Op::Connect { port }),
-        _ => path_operation(alloc, name, members),
-    }
-}
-
-/// A call on a path.
-#[tactic(auto, unfolding(ll_members::specs::Slots::spelt, crate::specs::Operations::path_operations))]
-fn path_operation(alloc: Global, name: &str, members: &Members<'_>) -> Result<Op, Cause>
-    ensures { ReadsOf members.now (Gives (λ op. op) result)
-        (λ value. named_in (path_operations value) name.now) }
-{
-    match name {
         "truncate" => path_of(alloc, members).map(|path| Op::Truncate { path }),
         "exec" => path_of(alloc, members).map(|path| Op::Exec { path }),
         "open" => open_of(alloc, members),
@@ -113,10 +90,10 @@ fn add_path_of(alloc: Global, members: &Members<'_>) -> Result<Op, Cause>
     Ok(Op::AddPath { rs, path, fs })
 }
 
-#[tactic(auto, unfolding(ll_members::specs::Slots::spelt, crate::specs::Operations::path_operations, crate::specs::SaidByName::spelling))]
+#[tactic(auto, unfolding(crate::specs::SaidByName::naming))]
 fn open_of(alloc: Global, members: &Members<'_>) -> Result<Op, Cause>
     ensures { ReadsOf members.now (Gives (λ op. op) result)
-        (λ value. named_in (path_operations value) (codes "open")) }
+        (λ value. operation_named (codes "open") value) }
 {
     let path = text_of(members, Name::Path)?;
     let fd = number_of(members, Name::Fd)?;
@@ -133,10 +110,10 @@ fn open_of(alloc: Global, members: &Members<'_>) -> Result<Op, Cause>
     })
 }
 
-#[tactic(auto, unfolding(ll_members::specs::Slots::spelt, crate::specs::Operations::path_operations, crate::specs::SaidByName::spelling))]
+#[tactic(auto, unfolding(crate::specs::SaidByName::naming))]
 fn mknod_of(alloc: Global, members: &Members<'_>) -> Result<Op, Cause>
     ensures { ReadsOf members.now (Gives (λ op. op) result)
-        (λ value. named_in (path_operations value) (codes "mknod")) }
+        (λ value. operation_named (codes "mknod") value) }
 {
     let path = text_of(members, Name::Path)?;
     let kind = made_kind_of(members)?;
@@ -144,10 +121,10 @@ fn mknod_of(alloc: Global, members: &Members<'_>) -> Result<Op, Cause>
     Ok(Op::Mknod { path, kind })
 }
 
-#[tactic(auto, unfolding(ll_members::specs::Slots::spelt, crate::specs::Operations::path_operations, crate::specs::SaidByName::spelling))]
+#[tactic(auto, unfolding(crate::specs::SaidByName::naming))]
 fn rename_of(alloc: Global, members: &Members<'_>) -> Result<Op, Cause>
     ensures { ReadsOf members.now (Gives (λ op. op) result)
-        (λ value. named_in (path_operations value) (codes "rename")) }
+        (λ value. operation_named (codes "rename") value) }
 {
     let from = text_of(members, Name::From)?;
     let to = text_of(members, Name::To)?;
@@ -157,10 +134,10 @@ fn rename_of(alloc: Global, members: &Members<'_>) -> Result<Op, Cause>
     Ok(Op::Rename { from, to, exchange })
 }
 
-#[tactic(auto, unfolding(ll_members::specs::Slots::spelt, crate::specs::Operations::path_operations, crate::specs::SaidByName::spelling))]
+#[tactic(auto, unfolding(crate::specs::SaidByName::naming))]
 fn link_of(alloc: Global, members: &Members<'_>) -> Result<Op, Cause>
     ensures { ReadsOf members.now (Gives (λ op. op) result)
-        (λ value. named_in (path_operations value) (codes "link")) }
+        (λ value. operation_named (codes "link") value) }
 {
     let from = text_of(members, Name::From)?;
     let to = text_of(members, Name::To)?;

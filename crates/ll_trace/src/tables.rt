@@ -1,7 +1,7 @@
 //! The processes of a trace, looked up by their numbers.
 
 ghost use Rattle.std.specs.Prelude.{◌≡◌, ◌+◌, ◌<◌, ◌^◌, [], ◌∷◌, ◌++◌, length, OnOk, IfOk, if◌then◌else◌};
-ghost use Rattle.ll_trace.specs.{Traces.AreRecords, Indexed.Indexes};
+ghost use Rattle.ll_trace.specs.Traces.{AreRecords, Indexes};
 
 use crate::op::{ProcessId, Record};
 use std::alloc::{AllocError, Global};
@@ -18,7 +18,7 @@ pub struct Tables {
 
 impl Tables {
     ghost use Rattle.ll_trace.specs.Processes.{is_starting, forked_by};
-    ghost use Rattle.ll_trace.specs.Indexed.{Adds, Indexes, lists, indices_noted};
+    ghost use Rattle.ll_trace.specs.Traces.{Adds, Indexes, lists, indices_noted};
 
     #[tactic(auto, unfolding(crate::proofs::TableLemmas::without_records))]
     fn new(alloc: Global) -> Tables

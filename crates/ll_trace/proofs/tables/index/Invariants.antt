@@ -1,5 +1,5 @@
 use Rattle.std.proofs.Common.{take}
-use Rattle.ll_trace.specs.Indexed.{Indexes}
+use Rattle.ll_trace.specs.Traces.{Indexes}
 use Rattle.ll_trace.proofs.tables.index.Given as goal
 
 abbrev pub invariant-loop-index : goal.invariant-loop-index

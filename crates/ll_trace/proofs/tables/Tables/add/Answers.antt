@@ -3,7 +3,7 @@ use Rattle.std.proofs.lemmas.List.{length-set}
 use Rattle.std.specs.declared.alloc.Global.{Global}
 use Rattle.ll_trace.specs.declared.op.Record.{Record}
 use Rattle.ll_trace.specs.Processes.{is_starting, forked_by}
-use Rattle.ll_trace.specs.Indexed.{Adds, lists}
+use Rattle.ll_trace.specs.Traces.{Adds, lists}
 use Rattle.ll_trace.specs.declared.tables.Tables.{Tables}
 use Rattle.ll_trace.proofs.TableLemmas.{length-grown, grown, length-lists, pushed}
 use Rattle.ll_trace.proofs.tables.Tables.add.Goals as goal
