@@ -1,5 +1,5 @@
 -- Which calls create a ruleset or add a rule, and what is the same of both forms of a ruleset after it.
-use Rattle.std.proofs.Common.{◌≡◌, ℕ, List, None, refl}
+use Rattle.std.proofs.Common.{◌≡◌, ℕ, List, None, rules}
 use Rattle.ll_rights.specs.declared.abi.Abi.{Abi}
 use Rattle.ll_rights.specs.declared.fs.Fs.{Fs}
 use Rattle.ll_rights.specs.declared.net.Net.{Net}
@@ -26,31 +26,21 @@ use Rattle.ll_rulebook.proofs.Settling.{AddsTo}
 module _ (tree : List Entry) (abi : Abi) (rs : ℕ) where
   pub create_creates : (fs : Fs) (net : Net) → create_fault abi fs net ≡ None → Creates tree abi rs fs net (calls.Create rs fs net)
   unfolding is_on_rulesets answer create_answer effect
-  create_creates fs net no_fault = record { on_rulesets = refl; allowed = λ rulesets s free. rw (free, no_fault) refl; creates = λ rulesets s. refl }
+  create_creates fs net no_fault = search rules
 
   pub create_empty_creates : Creates tree abi rs files.no_right network.no_right (calls.CreateEmpty rs)
   unfolding is_on_rulesets answer effect
-  create_empty_creates = record { on_rulesets = refl; allowed = λ rulesets s free. rw free refl; creates = λ rulesets s. refl }
+  create_empty_creates = search rules
 
   pub path_adds : (path : List ℕ) (fs : Fs) → AddsTo tree abi (calls.AddPath rs path fs) rs (λ one. add_path_refusal tree one (place tree path) fs)
       (λ other. with_rule_at tree other (place tree path) fs)
   unfolding is_on_rulesets answer add_path_answer effect
-  path_adds path fs = record {
-    on_rulesets = refl;
-    unheld = λ rulesets s none. rw none refl;
-    answers = λ rulesets s one other held same. rw (held, ← same.same_files) refl;
-    adds = λ rulesets s. refl;
-  }
+  path_adds path fs = search rules
 
   pub port_adds : (port : ℕ) (net : Net)
       → AddsTo tree abi (calls.AddPort rs port net) rs (λ one. add_port_refusal abi one port net) (λ other. with_port_rule other port net)
   unfolding is_on_rulesets answer add_port_answer effect
-  port_adds port net = record {
-    on_rulesets = refl;
-    unheld = λ rulesets s none. rw none refl;
-    answers = λ rulesets s one other held same. rw (held, ← same.same_network) refl;
-    adds = λ rulesets s. refl;
-  }
+  port_adds port net = search rules
 
 same_with_rule_at : (tree : List Entry) (a b : RulesOn Path) (spot : Place) (rights : Fs) → SameRules a b
     → SameRules (with_rule_at tree a spot rights) (with_rule_at tree b spot rights)

@@ -9,7 +9,7 @@ use Rattle.std.specs.List.{slice_get, AllZip}
 use Rattle.std.proofs.lemmas.Option.{get_or_from_slice_get, slice_get_within, same_Some, slice_get_read, slice_get-map}
 use Rattle.std.specs.FinMap.{FinMap, get, empty, get-empty}
 use Rattle.std.proofs.lemmas.Bool.{cases_eq, eq-eqb, ne_eqb}
-use Rattle.ll_rulebook.specs.Stores.{held_by, NowHolds, BeginsHolding, Stock, AddsRule, Extends, Freezes}
+use Rattle.ll_rulebook.specs.Stores.{held_by, NowHolds, BeginsHolding, Stock, AddsRule, Extends, Freezes, IsFrozenTo, AreFrozen, stock_of, rulesets_of}
 use Rattle.ll_trace.proofs.Numbers.{slice_get-push}
 use Rattle.std.specs.Option.{MatchOption}
 use Rattle.std.specs.Result.{IsOkUnless}
@@ -22,7 +22,6 @@ use Rattle.ll_rules.specs.declared.errno.RuleFault.TheVariants as faults
 use Rattle.ll_rules.specs.Layers.{RulesOn}
 use Rattle.ll_rules.specs.InTree.{AreInTree}
 use Rattle.ll_rulebook.specs.declared.store.Stored.{Stored}
-use Rattle.ll_rulebook.specs.Kept.{IsFrozenTo, AreFrozen, stock_of, rulesets_of}
 
 pub slice_get-set : {X : Type 0} (xs : List X) (i j : ℕ) (x : X) → i < length xs → slice_get (set xs i x) j ≡ cond (eqb j i) (Some x) (slice_get xs j)
 slice_get-set [] i j x within = absurd (omega arith)

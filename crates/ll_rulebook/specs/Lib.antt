@@ -1,4 +1,3 @@
 pub mod Stores
-pub mod Kept
 pub mod Settled
 pub mod Passes

@@ -2,7 +2,7 @@
 -- holds, under which numbers.
 -- Source: landlock_create_ruleset(2); the kernel's userspace document on Landlock, "Defining and enforcing a security
 -- policy" and "Inheritance".
-use Rattle.std.specs.Prelude.{◌≡◌, ℕ, ◌≤◌, List, [], ◌∷◌, ◌++◌, length, Option, Some, Result, Ok, Err, OnOk, OnErr, MatchOption, IsOkUnless, All, slice_get, slice_set, ◌+◌, ◌==◌, if◌then◌else◌, None, nat_eq}
+use Rattle.std.specs.Prelude.{◌≡◌, ℕ, ◌≤◌, List, [], ◌∷◌, ◌++◌, length, Option, Some, Result, Ok, Err, OnOk, OnErr, MatchOption, IsOkUnless, All, option_and_then, slice_get, slice_set, map, ◌+◌, ◌==◌, if◌then◌else◌, None, nat_eq}
 use Rattle.ll_rights.specs.declared.abi.Abi.{Abi}
 use Rattle.ll_rights.specs.declared.fs.Fs.{Fs}
 use Rattle.ll_rights.specs.declared.net.Net.{Net}
@@ -16,6 +16,7 @@ use Rattle.ll_semantics.specs.declared.answer.RulesetOutcome.{RulesetOutcome}
 use Rattle.ll_semantics.specs.declared.answer.RulesetOutcome.TheVariants.{Answered}
 use Rattle.ll_semantics.specs.Answers.{fails}
 use Rattle.ll_rules.specs.Layers.{RulesOn}
+use Rattle.ll_rulebook.specs.declared.store.Stored.{Stored}
 use Rattle.ll_rules.specs.KeptLayers.{SameRules, GrantsOnPort}
 use Rattle.ll_rules.specs.InTree.{in_tree, AreInTree}
 use Rattle.ll_rules.specs.RuleFaults.{add_path_fault, add_port_fault}
@@ -28,6 +29,12 @@ use Rattle.std.specs.FinMap.{FinMap, get}
 pub record Stock : Type 0 where
   pub rulesets : List (RulesOn ℕ)
   pub layers : List (RulesOn ℕ)
+
+abbrev pub rulesets_of : List Stored → List (RulesOn ℕ)
+rulesets_of stored = map (λ one. one.ruleset) stored
+
+abbrev pub stock_of : List Stored → List (RulesOn ℕ) → Stock
+stock_of stored layers = record { rulesets = rulesets_of stored; layers = layers }
 
 abbrev pub with_created : Stock → RulesOn ℕ → Stock
 with_created stock one = record stock { rulesets = stock.rulesets ++ one ∷ [] }
@@ -60,6 +67,13 @@ AddsPathRule tree spot files = AddsRule (λ before. add_path_fault tree before s
 abbrev pub AddsPortRule : Abi → ℕ → Net → Result (Unit {0}) RuleFault → ℕ → Stock → Stock → Type 0
 AddsPortRule abi port network = AddsRule (λ before. add_port_fault abi before port network) (λ before after. GrantsOnPort before after port network)
 
+-- A ruleset that names the layer that it was frozen to still is that layer.
+abbrev pub IsFrozenTo : List (RulesOn ℕ) → Stored → Type 0
+IsFrozenTo layers one = (id : LayerId) → one.frozen ≡ Some id → slice_get layers id.0 ≡ Some one.ruleset
+
+abbrev pub AreFrozen : List Stored → List (RulesOn ℕ) → Type 0
+AreFrozen stored layers = All (IsFrozenTo layers) stored
+
 -- at most one layer more, at the end
 pub record Extends (old new : List (RulesOn ℕ)) : Type 0 where
   pub more : List (RulesOn ℕ)
@@ -80,13 +94,9 @@ IsAnswerTo (Err (faults.Errno error)) outcome = outcome ≡ Answered (fails erro
 IsAnswerTo (Err faults.Moot) outcome = outcome ≡ Answered Moot
 IsAnswerTo (Err faults.Memory) outcome = ⊥
 
-abbrev pub at_number : Option (FinMap nat_cmp ℕ) → ℕ → Option ℕ
-at_number None number = None
-at_number (Some held) number = get held number
-
 -- the index of the ruleset that a process holds under a number
 unfoldable pub held_by : List (FinMap nat_cmp ℕ) → ℕ → ℕ → Option ℕ
-held_by tables process number = at_number (slice_get tables process) number
+held_by tables process number = option_and_then (λ held. get held number) (slice_get tables process)
 
 -- There are so many processes now, of which one holds these; each other one holds what it held.
 pub record NowHolds (old new : List (FinMap nat_cmp ℕ)) (count process : ℕ) (held : ℕ → Option ℕ) : Type 0 where

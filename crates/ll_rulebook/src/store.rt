@@ -4,8 +4,7 @@ ghost use Rattle.std.specs.Prelude.{◌≡◌, ℕ, ◌<◌, ◌^◌, [], List, 
 ghost use Rattle.ll_rules.specs.{Layers.RulesOn, KeptLayers.GrantsOnPort};
 ghost use Rattle.ll_rules.specs.InTree.{AreInTree, IsOfTree};
 ghost use Rattle.ll_rules.specs.RuleFaults.{add_path_fault, add_port_fault};
-ghost use Rattle.ll_rulebook.specs.Kept.{IsFrozenTo};
-ghost use Rattle.ll_rulebook.specs.Stores.{with_created, IsPathAdded, AddsPathRule, AddsPortRule, Freezes};
+ghost use Rattle.ll_rulebook.specs.Stores.{with_created, IsFrozenTo, IsPathAdded, AddsPathRule, AddsPortRule, Freezes};
 
 use ll_rights::{Abi, Fs, Net};
 use ll_rules::{Layer, LayerId, RuleFault, Ruleset};
@@ -62,8 +61,7 @@ pub(crate) struct Store {
 }
 
 impl Model for Store {
-    ghost use Rattle.ll_rulebook.specs.Stores.{Stock};
-    ghost use Rattle.ll_rulebook.specs.Kept.{stock_of, AreFrozen};
+    ghost use Rattle.ll_rulebook.specs.Stores.{Stock, stock_of, AreFrozen};
 
     ghost Value = { Stock };
 
