@@ -1,6 +1,6 @@
 -- What is kept of where each process's layers, descriptors and rulesets come from, and when it agrees with the origins.
 -- Source: landlock_restrict_self(2); landlock(7), "Inheritance"; open(2), close(2), dup(2).
-use Rattle.std.specs.Prelude.{◌≡◌, ℕ, ◌/◌, ◌%◌, List, Option, Some, None, get_or, length, option_map, slice_get, ltb, if◌then◌else◌}
+use Rattle.std.specs.Prelude.{◌≡◌, ℕ, ◌/◌, ◌%◌, List, Option, Some, None, get_or, length, option_and_then, option_map, slice_get, ltb, if◌then◌else◌}
 use Rattle.std.specs.FinMap.{get}
 use Rattle.ll_reasons.specs.Origins.{Origins, Sources}
 use Rattle.ll_origins.specs.declared.trail.ProcessOrigins.{ProcessOrigins}
@@ -17,8 +17,7 @@ leaf_at openings index = option_map (λ shared. shared.value) (slice_get opening
 
 -- what is at an index of a leaf, if there is one
 abbrev pub in_leaf : Option Leaf → ℕ → Option ℕ
-in_leaf None index = None
-in_leaf (Some leaf) index = get_or leaf.openings index None
+in_leaf leaf index = option_and_then (λ (one : Leaf). get_or one.openings index None) leaf
 
 -- the record that opened a descriptor, if it is open
 abbrev pub opened : Openings → ℕ → Option ℕ

@@ -171,7 +171,7 @@ impl TraceOrigins {
     }
 
     /// Follows the call of a process by the record at an index, and its answer.
-    #[tactic(auto, unfolding(ll_reasons::specs::Origins::sources_by))]
+    #[tactic(auto, using(crate::proofs::Trailing::sources_by_other), unfolding(ll_reasons::specs::Origins::sources_by))]
     fn follow_by(
         &mut self,
         alloc: Global,

@@ -1,20 +1,10 @@
-use Rattle.std.proofs.Common.{◌≡◌, ◌∙◌, ◌<◌, false, length, refl, rules, sym}
+use Rattle.std.proofs.Common.{◌≡◌, ◌∙◌, ◌<◌, false, length, refl, sym}
 use Rattle.ll_trace.specs.Entries.{is_start}
 use Rattle.ll_reasons.specs.Origins.{Origins, no_origins, traced}
 use Rattle.std.proofs.lemmas.Option.{slice_get_read}
 use Rattle.ll_origins.proofs.Trailing.{trails_changed, sources_by_fork, sources_by_other, sources_by_start}
 use Rattle.ll_origins.specs.TraceOrigins.{Follows}
 use Rattle.ll_origins.proofs.trail.TraceOrigins.follow_by.Goals as goal
-
-pub index-requires : goal.index-requires
-index-requires c =
-    let there : c.args.process.0 < length c.args.self.now.trails.items = c.requires (sym c.is_start.ensures ∙ c.if-is_start.false) in
-    search rules
-
-pub index_mut-requires : goal.index_mut-requires
-index_mut-requires c =
-    let there : c.args.process.0 < length c.args.self.now.trails.items = c.requires (sym c.is_start.ensures ∙ c.if-is_start.false) in
-    search rules
 
 pub returns-then-is_start : goal.returns-then-is_start
 returns-then-is_start c = λ sources are.
@@ -45,19 +35,3 @@ returns-in_ok-follow-in-Allowed c = λ sources are.
     (are.each c.args.process.0 c.index_mut.result.now
     (slice_get_read c.args.self.now.trails.items _ c.args.process.0 c.index_mut.result.now refl there
     c.index_mut.ensures.value))))
-
-pub returns-in-Moot : goal.returns-in-Moot
-returns-in-Moot c = λ sources are.
-    rw (
-      sources_by_other c.args.index c.args.seen.now c.args.process.0 c.args.answer sources (sym c.is_start.ensures ∙ c.if-is_start.false)
-          (sym c.is_fork.ensures ∙ c.if-is_fork.false),
-      c.in-Moot.is,
-    ) are
-
-pub returns-in-Refused : goal.returns-in-Refused
-returns-in-Refused c = λ sources are.
-    rw (
-      sources_by_other c.args.index c.args.seen.now c.args.process.0 c.args.answer sources (sym c.is_start.ensures ∙ c.if-is_start.false)
-          (sym c.is_fork.ensures ∙ c.if-is_fork.false),
-      c.in-Refused.is,
-    ) are
