@@ -68,6 +68,7 @@ impl OwnState {
 
     /// Answers one call that the process meets, and changes its state where the call is allowed. The outcome says what
     /// follows from the rulesets, which the processes share.
+    #[tactic(auto, unfolding(ll_trace::specs::Borrowed::meant, ll_semantics::specs::RulesetOutcomes::fitting))]
     pub fn answer_call(
         &mut self,
         call: &SeenCall<'_>,
@@ -85,32 +86,20 @@ impl OwnState {
         match outcome {
             RulesetOutcome::Answered(answer) => Ok(*answer),
             RulesetOutcome::Frozen(layer) => Ok(self.restrict(call.layers, Some(*layer))),
-            RulesetOutcome::ByState => self.answer_seen(call),
-        }
-    }
-
-    /// Answers a call of which the rulesets say nothing.
-    #[tactic(auto, unfolding(ll_trace::specs::Borrowed::meant, ll_semantics::specs::RulesetOutcomes::fitting))]
-    fn answer_seen(&mut self, call: &SeenCall<'_>) -> Result<Answer, AllocError>
-        ghost ctx: { CallContext }
-        requires met { IsMet ctx call.now.tree.now call.now.layers.now }
-        requires agrees { Agrees ctx.tree ctx.layers self.old ctx.state }
-        requires fits { OutcomeFits ctx call.now.seen.now RulesetOutcome.ByState }
-        ensures { IsJudged ctx call.now.seen.now self.new result }
-    {
-        match call.seen.call() {
-            Taken::Other(op) => self.answer_by_state(&Call {
-                op,
-                tree: call.tree,
-                layers: call.layers,
-                place: call.place,
-            }),
-            Taken::LeaveOutPath { .. } => Ok(Answer::Moot),
-            Taken::LeaveOutPort => Ok(Answer::Moot),
-            Taken::Create { .. }
-            | Taken::CreateEmpty { .. }
-            | Taken::AddPath { .. }
-            | Taken::AddPort { .. } => unreachable!(),
+            RulesetOutcome::ByState => match call.seen.call() {
+                Taken::Other(op) => self.answer_by_state(&Call {
+                    op,
+                    tree: call.tree,
+                    layers: call.layers,
+                    place: call.place,
+                }),
+                Taken::LeaveOutPath { .. } => Ok(Answer::Moot),
+                Taken::LeaveOutPort => Ok(Answer::Moot),
+                Taken::Create { .. }
+                | Taken::CreateEmpty { .. }
+                | Taken::AddPath { .. }
+                | Taken::AddPort { .. } => unreachable!(),
+            },
         }
     }
 
