@@ -19,7 +19,7 @@ use Rattle.ll_rules.specs.Layers.{granted, handles}
 use Rattle.ll_rules.specs.Moves.{asked_of_destination, asked_of_source, destination_of, kind_there, source_of}
 use Rattle.ll_rules.proofs.Booleans.{or_false}
 use Rattle.ll_semantics.specs.States.{Layer}
-use Rattle.ll_explanations.specs.MoveRequests.{IsMoveRequest}
+use Rattle.ll_explanations.specs.Asking.{IsMoveRequest}
 use Rattle.ll_explanations.specs.declared.moved.MoveRequest.{MoveRequest}
 use Rattle.ll_reasons.specs.Objections.{Objection, if_any, missing, on_crossing, on_directories, on_gain, on_other_gain, on_path, one_of}
 

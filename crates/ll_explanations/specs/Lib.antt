@@ -4,6 +4,5 @@ pub mod Meant
 pub mod Meanings
 pub mod InTree
 pub mod Adding
-pub mod MoveRequests
 pub mod Asking
 pub mod Explained

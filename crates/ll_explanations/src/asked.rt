@@ -1,14 +1,14 @@
 //! What each layer of a process objects to.
 
-ghost use Rattle.std.specs.Prelude.{◌≡◌, ◌∷◌, [], IfOk, IfSome, OnOk, All, option_map, option_to_list};
+ghost use Rattle.std.specs.Prelude.{◌≡◌, ◌∷◌, [], IfOk, IfSome, OnOk, option_map, option_to_list};
 ghost use Rattle.ll_rights.specs.Rights as files;
 ghost use Rattle.ll_tree.specs.Trees.{IsNode, path_at, kind_at};
 ghost use Rattle.ll_reasons.specs.Objections.{objecting, on_gain, on_mount, on_path, on_port};
-ghost use Rattle.ll_explanations.specs.Adding.{AddsOf};
+ghost use Rattle.ll_explanations.specs.Adding.{AddsOf, AreObjections};
 ghost use Rattle.ll_explanations.specs.Asking.{IsAsked, objected};
 ghost use Rattle.ll_explanations.specs.Confined.{rules_of, stacked};
-ghost use Rattle.ll_explanations.specs.InTree.{IsNoted, IsObjectionIn};
-ghost use Rattle.ll_explanations.specs.Meanings.{IsOne, by_layer, objection_in};
+ghost use Rattle.ll_explanations.specs.InTree.{IsObjectionIn};
+ghost use Rattle.ll_explanations.specs.Meanings.{IsOne, objection_in};
 
 use crate::confinement::{Confinement, OneLayer, made_by};
 use crate::missing::{Test, passing};
@@ -152,10 +152,8 @@ pub(crate) fn objections_of(
     asked: &Asked,
 ) -> Result<Noted, AllocError>
     requires { IsAsked ctx.now.tree.now asked.now }
-    ensures said { IfOk result (λ all. by_layer ctx.now.tree.now all.items
-        ≡ objecting (objected ctx.now.tree.now asked.now) (stacked ctx.now)) }
-    ensures noted { IfOk result
-        (λ all. All (IsNoted ctx.now.tree.now ctx.now.trail.now.layers.items) all.items) }
+    ensures { IfOk result (AreObjections ctx.now
+        (objecting (objected ctx.now.tree.now asked.now) (stacked ctx.now))) }
 {
     // Most refusals have one objection, and explanations are kept until the report is written.
     let mut all = Vec::with_capacity(alloc, 1)?;

@@ -1,11 +1,10 @@
 //! What layers object to in calls that descriptors decide: what was missing when they were opened.
 
-ghost use Rattle.std.specs.Prelude.{◌≡◌, All, IfOk, Some};
+ghost use Rattle.std.specs.Prelude.{IfOk, Some};
 ghost use Rattle.ll_rights.specs.CodeRights.{fs_right};
 ghost use Rattle.ll_reasons.specs.Explanations.{kept_by};
 ghost use Rattle.ll_origins.specs.TraceOrigins.{opened};
-ghost use Rattle.ll_explanations.specs.InTree.{IsNoted};
-ghost use Rattle.ll_explanations.specs.Meanings.{by_layer};
+ghost use Rattle.ll_explanations.specs.Adding.{AreObjections};
 
 use crate::call::Objected;
 use crate::confinement::{Confinement, made_by};
@@ -22,10 +21,8 @@ fn kept_since(
     numbers: LayerSet,
     opened: u32,
 ) -> Objected
-    ensures said { IfOk result (λ all. by_layer ctx.now.tree.now all.items
-        ≡ kept_by (fs_right right) numbers (Some opened)) }
-    ensures noted { IfOk result
-        (λ all. All (IsNoted ctx.now.tree.now ctx.now.trail.now.layers.items) all.items) }
+    ensures { IfOk result (AreObjections ctx.now
+        (kept_by (fs_right right) numbers (Some opened))) }
 {
     let objection = Objection::Kept { right, opened };
     let mut all = Vec::new(alloc);
@@ -53,10 +50,8 @@ pub(crate) fn kept_by_descriptor(
     numbers: LayerSet,
     fd: u64,
 ) -> Objected
-    ensures said { IfOk result (λ all. by_layer ctx.now.tree.now all.items
-        ≡ kept_by (fs_right right) numbers (opened ctx.now.trail.now.openings fd)) }
-    ensures noted { IfOk result
-        (λ all. All (IsNoted ctx.now.tree.now ctx.now.trail.now.layers.items) all.items) }
+    ensures { IfOk result (AreObjections ctx.now
+        (kept_by (fs_right right) numbers (opened ctx.now.trail.now.openings fd))) }
 {
     match ctx.trail.openings.get(fd) {
         None => Ok(Vec::new(alloc)),

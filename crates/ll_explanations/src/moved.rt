@@ -5,7 +5,7 @@ ghost use Rattle.ll_rights.specs.Rights.{has};
 ghost use Rattle.ll_tree.specs.Trees.{path_at};
 ghost use Rattle.ll_semantics.specs.Fits.{IsFitMove};
 ghost use Rattle.ll_reasons.specs.Objections.{on_crossing, on_directories, on_other_gain, on_path};
-ghost use Rattle.ll_explanations.specs.{Adding.AddsOf, Confined.rules_of, MoveRequests.IsMoveRequest};
+ghost use Rattle.ll_explanations.specs.{Adding.AddsOf, Asking.IsMoveRequest, Confined.rules_of};
 ghost use Rattle.ll_explanations.specs.{InTree.IsObjectionIn, Meanings.objection_in};
 
 use crate::asked::{gained, missing, push_any};

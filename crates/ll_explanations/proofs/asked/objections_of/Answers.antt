@@ -18,12 +18,11 @@ loop-index-preserved c =
     (layer_more ctx.tree.now ctx.trail.now.layers.items c.loop-index.index _ _ c.loop-index.invariant c.push_objections.new.all.items _
     c.in_ok-push_objections.ensures)
 
-pub returns-clause-said : goal.returns-clause-said
-returns-clause-said c =
-    let ctx = c.args.ctx.now in
-    c.loop-index.invariant.means
-    ∙ objecting_all (objected ctx.tree.now c.args.asked.now) ctx.tree.now ctx.layers.now ctx.domain.now c.loop-index.index
-    c.loop-index.auto.index-end c.loop-index-test.false
-
-pub returns-clause-noted : goal.returns-clause-noted
-returns-clause-noted c = c.loop-index.invariant.noted
+pub returns : goal.returns
+returns c =
+    let ctx = c.args.ctx.now in record {
+      said = c.loop-index.invariant.means
+          ∙ objecting_all (objected ctx.tree.now c.args.asked.now) ctx.tree.now ctx.layers.now ctx.domain.now c.loop-index.index
+          c.loop-index.auto.index-end c.loop-index-test.false;
+      noted = c.loop-index.invariant.noted;
+    }

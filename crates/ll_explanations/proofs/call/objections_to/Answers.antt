@@ -1,6 +1,6 @@
 use Rattle.std.proofs.Common.{refl}
 use Rattle.ll_rights.specs.NetRights.{bind_tcp, connect_tcp, only}
-use Rattle.ll_explanations.proofs.call.objections_to_other.Goals as goal
+use Rattle.ll_explanations.proofs.call.objections_to.Goals as goal
 
 pub objections_of-requires-in-Bind : goal.objections_of-requires-in-Bind
 unfolding only
