@@ -68,7 +68,7 @@ impl OwnState {
 
     /// Answers one call that the process meets, and changes its state where the call is allowed. The outcome says what
     /// follows from the rulesets, which the processes share.
-    #[tactic(auto, unfolding(ll_trace::specs::Borrowed::meant, ll_semantics::specs::RulesetOutcomes::fitting))]
+    #[tactic(auto, unfolding(ll_trace::specs::Borrowed::meant, ll_semantics::specs::RulesetOutcomes::fitting, crate::specs::ConfinedCalls::answering))]
     pub fn answer_call(
         &mut self,
         call: &SeenCall<'_>,
