@@ -6,8 +6,7 @@ ghost use Rattle.ll_semantics.specs.Fits.{IsFitMove};
 ghost use Rattle.ll_semantics.specs.Requests.{request, wanted};
 ghost use Rattle.ll_reasons.specs.Explanations.{objections_to};
 ghost use Rattle.ll_reasons.specs.Objections.{to_move, to_request};
-ghost use Rattle.ll_explanations.specs.Adding.{AreObjections};
-ghost use Rattle.ll_explanations.specs.Confined.{followed, stacked};
+ghost use Rattle.ll_explanations.specs.{Adding.AreObjections, Confined.followed, Confined.stacked};
 
 use crate::asked::{Asked, objections_of};
 use crate::confinement::Confinement;
