@@ -16,6 +16,7 @@ from landaudit_record.common.finished import LOOKING, READING_LINKS, SIGNALS, Fi
 from landaudit_record.common.problems import Problem
 from landaudit_record.common.reach import ABSTRACT, PTRACE, SIGNAL, ProcessLayer, refusing
 from landaudit_record.common.rights import ABIS
+from landaudit_record.engine.landaudit import BUILT
 from landaudit_record.policy import policies
 from landaudit_record.recorder.ports import Ports
 
@@ -309,6 +310,20 @@ class Judged(unittest.TestCase):
         (refusal,) = later.refusals
         self.assertEqual([(layer.number, layer.policy) for layer in refusal.layers], [(None, 2)])
         self.assertEqual((refusal.call, str(refusal.subject)), ("connect", "@n"))
+
+    @unittest.skipUnless(BUILT.exists(), f"{BUILT} is not built")
+    def test_moves_under_a_layer_of_scopes_alone(self) -> None:
+        """It refuses those to another directory, from the first ABI on that knows it (docs/SEMANTICS.md)."""
+        kinds = {"/a": "reg", "/b": "reg", "/d": "dir", "/d/f": "reg", "/e": "dir"}
+        write_lines(self.folder / "tree.jsonl", [{"path": path, "kind": kind} for path, kind in kinds.items()])
+        move = {"op": "rename", "pid": 11, "from": "/d/f", "to": "/e/f", "kernel": "ok"}
+        write_lines(self.folder / "trace.jsonl", [*TRACE, move])
+        self.policy.write_text('[[layer]]\nhandled_access_fs = ["refer"]\n[[layer.path_beneath]]\nallowed_access = '
+                               '["refer"]\nparent = "/"\n[[layer]]\nscoped = ["signal"]\n')
+        for abis, refused in (("3-7", [0, 0, 0, 1, 1]), ("5-6", [0, 1]), ("6-7", [1, 1]), ("5", [0])):
+            status, out, _ = called(["audit", self.folder, "--policy", self.policy, "--abi", abis, "--json"])
+            found = [one["refused"] for one in json.loads(out)["abis"]]
+            self.assertEqual((status, found), (int(any(refused)), refused), abis)
 
     def test_layers_that_the_program_puts_on_itself(self) -> None:
         own = [

@@ -5,6 +5,7 @@ from __future__ import annotations
 import argparse
 import sys
 from collections.abc import Iterator, Sequence
+from dataclasses import replace
 from pathlib import Path
 from typing import Any
 
@@ -19,7 +20,7 @@ from ...common.rights import ABI_OF_SCOPES, LATEST_ABI, NEWEST_ABI, OLDEST_ABI, 
 from ...engine import landaudit
 from ...engine.answers import Scoped, Tracing
 from ...engine.reading import Counted
-from ...policy import policies
+from ...policy import fitting, policies
 from ...summaries import page, reporting, summary_text, tree_text
 from ...summaries.reporting import JSON, TEXT
 from ...summaries.reporting.audited import Audited
@@ -142,6 +143,10 @@ def _write_page(arguments: argparse.Namespace, members: Sequence[Member], summar
 def _summaries(member: Member, auditing: Auditing, abis: range) -> list[Summary]:
     """Audits one recording. landaudit runs once for all ABIs that are judged with one trace; the newest comes last."""
     tried, asked = member.tried, judged(abis)
+    if tried is not None and abis[0] <= NEWEST_ABI < abis[-1] and fitting.refer_by_scopes(tried.policy):
+        older = replace(member, tried=replace(tried, recording=replace(tried.recording, scoped=())))
+        return [*_summaries(older, auditing, range(abis[0], NEWEST_ABI + 1)),
+                *_summaries(member, auditing, range(NEWEST_ABI + 1, abis[-1] + 1))]
     steps = [asked] if tried is None else tried.steps(asked, best_effort=auditing.best_effort)
     found = Summaries(asked, tried=tried is not None)
     for step in steps:
