@@ -44,6 +44,7 @@ class Reading(unittest.TestCase):
             ("open rw create trunc", "@/file",
              [{"op": "open", "path": "@/file", "mode": "rw", "create": True, "trunc": True}]),
             ("open r", "@/link", [{"op": "open", "path": "@/file", "mode": "r"}]),
+            ("open r", "/proc/self/status", [{"op": "open", "path": "/proc/self/status", "mode": "r"}]),
             ("exec", "@/way/../link", RUNNING),
             ("unlink", "@/way/../link", [{"op": "unlink", "path": "@/link"}]),
             ("rmdir", "@/dir/", [{"op": "rmdir", "path": "@/dir"}]),
@@ -68,6 +69,13 @@ class Reading(unittest.TestCase):
         os.symlink("loop", self.folder / "loop")
         with self.assertRaisesRegex(Problem, "refused 1, path: .*/loop is a loop of symbolic links"):
             self.read('[[refused]]\ncall = "open r"\npath = "@/loop"')
+
+    def test_a_path_that_goes_on_from_a_file(self) -> None:
+        """The kernel says ENOTDIR (path_resolution(7)) and does not ask Landlock."""
+        for call, path in (("open r", "file/"), ("open r", "file/x"), ("open r", "file/.."), ("mkdir", "file/new"),
+                           ("open w create", "link/f/new")):
+            with self.subTest(path), self.assertRaisesRegex(Problem, "refused 1, path: .* is no directory on this machine"):
+                self.read(f'[[refused]]\ncall = "{call}"\npath = "{self.folder}/{path}"\n' + 'kind = "reg"\n' * (path == "file/x"))
 
     def test_what_a_call_makes_is_not_there(self) -> None:
         for call, wanted in (
@@ -135,7 +143,7 @@ class Reading(unittest.TestCase):
             ('[[allowed]]\ncall = "open r"\npath = "@/n"\nkind = "dir"\n[[allowed]]\ncall = "exec"\npath = "@/n"\nkind = "reg"',
              "allowed 2, path: @/n has kind 'dir' in another case, and kind 'reg' here"),
             ('[[allowed]]\ncall = "open r"\npath = "@/file/x"\nkind = "reg"\n[[allowed]]\ncall = "exec"\npath = "@/file"',
-             "allowed 2, path: @/file has kind 'dir' in another case"),
+             "allowed 1, path: @/file is no directory on this machine, so @/file/x leads nowhere"),
             ('[[nothing]]\nrights = ["write"]', "nothing 1: under is missing"),
             ('[[nothing]]\nrights = []\nunder = "/"', "nothing 1, rights: is empty: name at least one right"),
             ('[[only]]\nrights = ["reed"]\nunder = "/"', "only 1, rights: unknown right for files 'reed', did you mean 'read'?"),

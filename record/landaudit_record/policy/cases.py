@@ -19,7 +19,7 @@ from __future__ import annotations
 from collections.abc import Iterator, Mapping
 from dataclasses import dataclass, field
 from pathlib import Path
-from typing import Any
+from typing import Any, NoReturn
 
 from ..common import resolving, variables
 from ..common.documents import DocumentPlace, check_keys, tables, unknown
@@ -269,6 +269,8 @@ class _CaseReader:
             led = resolving.walked(path if whole else directory or ROOT, DISK)
         except LinkLoop:
             (self.place / key).fault(f"{path} is a loop of symbolic links: name another path")
+        if led.blocked is not None:
+            self._leads_nowhere(key, led.blocked)
         if led.varies:
             (self.place / key).fault(f"not known where {path} leads: name what it leads to")
         return led.path if whole else joined(led.path, name)
@@ -276,9 +278,16 @@ class _CaseReader:
     def _list(self, path: str, kind: str, key: str) -> None:
         """Lists an object and the directories above it; one path has one kind in all cases."""
         while True:
+            seen = disk.look(path) if kind == "dir" else None
+            if seen is not None and seen.kind not in ("dir", "sym"):  # a link that is left is one of a process
+                self._leads_nowhere(key, path)
             known = self.tree.kinds.setdefault(path, kind)
             if known != kind:
                 (self.place / key).fault(f"{path} has kind {known!r} in another case, and kind {kind!r} here")
             if path == ROOT:
                 return
             path, kind = directory_of(path), "dir"
+
+    def _leads_nowhere(self, key: str, file: str) -> NoReturn:
+        """Raises the Problem that a path goes on from what is no directory: the kernel does not ask Landlock."""
+        (self.place / key).fault(f"{file} is no directory on this machine, so {self.table[key]} leads nowhere")
