@@ -16,7 +16,7 @@ TABLE = (TOP / "docs" / "ARCHITECTURE.md").read_text(encoding="utf-8").split("\n
 ORDER = [*re.findall(r"^\| `(\w+)/` \|", TABLE, re.M), "commands"]
 #: What starts landaudit, and the modules that do: on recorded calls, and one on calls that no program made.
 STARTS = {"start", "audit", "Run"}
-STARTING = {"audit/auditor.py", "commands/record/compare.py", "engine/asking.py"}
+STARTING = {"audit/auditor.py", "engine/asking.py"}
 
 
 def imported(file: Path) -> Iterator[str]:
