@@ -51,7 +51,7 @@ def cut_files(traces: Iterable[Path], most: int = 1) -> set[str]:
 
 
 def _changes(trace: Path) -> list[tuple[str, str, str]]:
-    """What a trace does that makes such a file or takes it away: the operation, its path, and where that is moved to."""
+    """What a trace does that makes such a file or takes it away: the operation, its path, and where that goes."""
     found = []
     for _, record in told(trace, _GOES, *CREATES):
         op = record.get("op")

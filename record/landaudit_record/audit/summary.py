@@ -73,7 +73,7 @@ class Refusal:
         return Refusal(self.call, Subject((path,)), self.error, layers, self.condition, self.unknown)
 
     def __hash__(self) -> int:
-        """The hash of what differs most, which is made once: audits over several ABIs look up each refusal many times."""
+        """The hash of what differs most, made once: audits over several ABIs look up each refusal many times."""
         return self._hash
 
 

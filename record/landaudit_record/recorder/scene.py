@@ -158,8 +158,9 @@ class Scene:
         process, error = thread.process, call.error
         if thread.layers < len(process.restricted):
             raise CannotSay("a call of a thread with fewer layers than its process")
-        if error == "EACCES" and members.get("unknown") != BEFORE_MODES and self._is_by_modes(process, call, op, members):
-            raise NotAsked(BY_MODES)
+        if error == "EACCES" and members.get("unknown") != BEFORE_MODES:
+            if self._is_by_modes(process, call, op, members):
+                raise NotAsked(BY_MODES)
         if process.unseen_layer and error in ERRORS_OF_LAYERS:
             raise CannotSay(BY_UNSEEN_LAYER)
         if error == "EXDEV" and self._between_mounts(process, members):
