@@ -13,9 +13,8 @@ use Rattle.ll_report.proofs.FoundJudged.{found_as_judged}
 use Rattle.ll_report.specs.declared.options.Options.{Options}
 use Rattle.ll_report.specs.declared.options.Shown.{Shown}
 use Rattle.ll_rights.specs.AbiRanges.{versions_in}
-use Rattle.ll_json.specs.Judged.{AreFound}
-use Rattle.ll_json.specs.Versions.{Version}
-use Rattle.ll_json.specs.Reports.{found_of}
+use Rattle.ll_json.specs.Records.{Version}
+use Rattle.ll_json.specs.Reports.{AreFound, found_of}
 use Rattle.ll_audit.specs.ShownReports.{findings, found_at, version_at, versions_by}
 
 module _ (shown : Shown) (tree : List Entry) (trace : List Record) where

@@ -14,7 +14,7 @@ use Rattle.ll_report.specs.Found.{Found, found_under}
 use Rattle.ll_report.specs.Lines.{lines_of, refused_among}
 use Rattle.ll_report.specs.Report.{report_text}
 use Rattle.ll_report.specs.Rows.{refused_under_some, rows_text}
-use Rattle.ll_report.specs.Shown.{told_by}
+use Rattle.ll_report.specs.Made.{told_by}
 use Rattle.ll_report.proofs.OneVersion.{is_refused_count, is_report_text}
 use Rattle.ll_audit.specs.Audits.{BothRead, IsReport}
 use Rattle.ll_audit.specs.ShownReports.{IsReportWith, findings, found_at, plain_options}

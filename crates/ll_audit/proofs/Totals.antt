@@ -10,7 +10,7 @@ use Rattle.ll_trace.specs.declared.op.Record.{Record}
 use Rattle.ll_report.specs.declared.options.Options.{Options}
 use Rattle.ll_rights.specs.AbiRanges.{versions_in}
 use Rattle.ll_rights.proofs.AbiRanges.{versions_from}
-use Rattle.ll_report.specs.Shown.{Told}
+use Rattle.ll_report.specs.Made.{Told}
 use Rattle.ll_report.specs.Found.{Found}
 use Rattle.ll_report.specs.Rows.{are_several, shown_text, total_under_text, totals_from}
 use Rattle.ll_audit.specs.ShownReports.{IsTextReport, findings, found_at, total_at}

@@ -9,8 +9,8 @@ use Rattle.ll_report.specs.declared.options.Options.{Options}
 use Rattle.ll_audit.specs.declared.ranging.Progress.{Progress}
 use Rattle.ll_findings.specs.Findings.{FindingValue}
 use Rattle.ll_findings.proofs.TakenRecords.{all_taken}
-use Rattle.ll_json.specs.Judged.{AreFound}
-use Rattle.ll_json.specs.Versions.{Version}
+use Rattle.ll_json.specs.Reports.{AreFound}
+use Rattle.ll_json.specs.Records.{Version}
 use Rattle.ll_audit.specs.Ranging.{Adds, ComesTo, GoesOn, IsThrough}
 use Rattle.ll_audit.specs.ShownReports.{version_at}
 use Rattle.ll_rights.specs.AbiRanges.{is_in, versions_in}

@@ -6,7 +6,7 @@ use Rattle.ll_lines.specs.Reading.{Format, IsBad}
 use Rattle.ll_tree.specs.TreeReading.{tree_format}
 use Rattle.ll_lines.specs.declared.fault.ReadFault.{ReadFault}
 use Rattle.ll_trace.specs.Entries.{trace_file}
-use Rattle.ll_report.specs.Shown.{Told}
+use Rattle.ll_report.specs.Made.{Told}
 use Rattle.ll_report.specs.Report.{report_status}
 use Rattle.ll_audit.specs.declared.fault.Fault.TheVariants as fault
 use Rattle.ll_audit.specs.declared.lines.Failure.{Failure}

@@ -7,7 +7,7 @@ use Rattle.ll_trace.specs.declared.located.Located.{Located}
 use Rattle.ll_trace.specs.Taken.{records_by}
 use Rattle.ll_process.specs.Cases.{case_of}
 use Rattle.ll_findings.specs.Findings.{AddsFinding, FindingValue, StandsInFront}
-use Rattle.ll_json.specs.Judged.{AreFound}
+use Rattle.ll_json.specs.Reports.{AreFound}
 use Rattle.ll_report.specs.declared.options.Options.{Options}
 use Rattle.ll_audit.specs.ShownReports.{versions_by}
 use Rattle.ll_audit.specs.declared.ranging.Progress.{Progress}

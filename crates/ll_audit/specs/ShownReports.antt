@@ -9,11 +9,11 @@ use Rattle.ll_rights.specs.Abis.{number_of}
 use Rattle.ll_tree.specs.Trees.{Entry}
 use Rattle.ll_trace.specs.declared.op.Record.{Record}
 use Rattle.ll_trace.specs.Taken.{records_by}
-use Rattle.ll_report.specs.Shown.{Told}
+use Rattle.ll_report.specs.Made.{Told}
 use Rattle.ll_report.specs.Found.{Found, found_under}
 use Rattle.ll_report.specs.Rows.{are_several, refused_under_some, rows_text, total_under_text}
 use Rattle.ll_json.specs.Reports.{IsJsonReport}
-use Rattle.ll_json.specs.Versions.{Version}
+use Rattle.ll_json.specs.Records.{Version}
 use Rattle.ll_command.specs.declared.command.TheConstants.{VERSION}
 use Rattle.ll_report.specs.declared.options.Format.{Format}
 use Rattle.ll_report.specs.declared.options.Format.TheVariants.{Json, Text}
@@ -54,15 +54,12 @@ version_at options records abi = record { abi = abi; records = records_by option
 abbrev pub versions_by : Options → List Record → List Version
 versions_by options records = map (version_at options records) (versions_in options.abis)
 
-abbrev pub IsReportInJson : Options → List Entry → List Record → Told → Type 0
-IsReportInJson options tree records report =
-    IsJsonReport options.shown tree (number_of options.abis.oldest) (versions_by options records) records VERSION.now report
-
 -- ---- the report that the options ask for
 
 abbrev pub IsReportIn : Format → Options → List Entry → List Record → Told → Type 0
 IsReportIn Text options tree records report = IsTextReport options tree records report
-IsReportIn Json options tree records report = IsReportInJson options tree records report
+IsReportIn Json options tree records report =
+    IsJsonReport options.shown tree (number_of options.abis.oldest) (versions_by options records) records VERSION.now report
 
 abbrev pub IsReportBy : Options → List Entry → List Record → Told → Type 0
 IsReportBy options tree records report = IsReportIn options.format options tree records report

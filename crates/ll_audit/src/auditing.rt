@@ -4,7 +4,7 @@ ghost use Rattle.std.specs.Prelude.{◌≡◌, ◌≢◌, ℕ, List, IfOk, IfErr
 ghost use Rattle.ll_lines.specs.declared.fault.Cause.TheVariants.{Memory as NoMemoryLeft};
 ghost use Rattle.ll_tree.specs.TreeReading.{IsTreeOf};
 ghost use Rattle.ll_trace.specs.Records.{IsTrace};
-ghost use Rattle.ll_report.specs.Shown.{told_by};
+ghost use Rattle.ll_report.specs.Made.{told_by};
 ghost use Rattle.ll_audit.specs.Audits.{IsWorkerCount, IsFaultOf, IsReport};
 ghost use Rattle.ll_audit.specs.ShownReports.{IsReportBy, IsReportWith, told_in};
 ghost use Rattle.ll_audit.specs.Inputs.{trace_bytes, tree_bytes};

@@ -10,7 +10,7 @@ ghost use Rattle.ll_rules.specs.declared.domain.TheConstants.{MOST_LAYERS};
 ghost use Rattle.ll_trace.specs.declared.reader.TheConstants.{MOST_PROCESSES, MOST_RECORDS};
 ghost use Rattle.ll_trace.specs.{declared.op.Record.Record, Entries.entry_at, Records.entry_of};
 ghost use Rattle.ll_semantics.specs.declared.answer.Answer.{Answer};
-ghost use Rattle.ll_report.specs.{Lines.line_of, Rows.shown_text, declared.report.Report.Report as Made, Shown.told_by};
+ghost use Rattle.ll_report.specs.{Lines.line_of, Rows.shown_text, declared.report.Report.Report as Made, Made.told_by};
 ghost use Rattle.ll_report.specs.declared.options.Options.{Options as Asked};
 ghost use Rattle.ll_rights.specs.AbiRanges.{IsRising, versions_in};
 ghost use Rattle.ll_audit.specs.{declared.source.TheConstants.LARGEST_FILE, Audits.IsReport};

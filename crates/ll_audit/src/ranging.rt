@@ -2,7 +2,7 @@
 
 ghost use Rattle.std.specs.Prelude.{◌≡◌, ◌+◌, ◌<◌, ◌^◌, IfOk, IfErr, length};
 ghost use Rattle.ll_rights.specs.{Abis.number_of};
-ghost use Rattle.ll_json.specs.Judged.{AreFound};
+ghost use Rattle.ll_json.specs.Reports.{AreFound};
 ghost use Rattle.ll_audit.specs.Causes.{IsOutOfMemoryOrThreads};
 ghost use Rattle.ll_audit.specs.ShownReports.{versions_by};
 ghost use Rattle.ll_audit.specs.Ranging.{ComesTo, GoesOn, IsOf, IsThrough};

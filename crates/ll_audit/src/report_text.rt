@@ -2,7 +2,7 @@
 
 ghost use Rattle.std.specs.Prelude.{◌≡◌, IfOk, OnOk};
 ghost use Rattle.std.specs.Io.KnownBytes.{Appends};
-ghost use Rattle.ll_report.specs.{Report.report_status, Shown.told_by, Writing.AppendsBeginning};
+ghost use Rattle.ll_report.specs.{Made.told_by, Report.report_status, Writing.AppendsBeginning};
 ghost use Rattle.ll_audit.specs.ShownReports.{told_in};
 
 use ll_json::JsonRows;

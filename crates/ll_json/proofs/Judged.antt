@@ -1,7 +1,7 @@
 -- The rows that are made of findings are the lines of what is judged.
 use Rattle.std.proofs.Common.{◌≡◌, ◌∙◌, ℕ, Bool, true, false, List, [], ◌∷◌, ◌++◌, Option, Some, None}
 use Rattle.std.proofs.Common.{refl, sym, ap, ap₂, inl, inr}
-use Rattle.std.specs.Prelude.{if◌then◌else◌, option_and_then, slice_get, unwrap_or}
+use Rattle.std.specs.Prelude.{option_and_then, slice_get, unwrap_or}
 use Rattle.std.proofs.lemmas.Bool.{cases_Bool}
 use Rattle.json.specs.Print.{print}
 use Rattle.json.specs.Token as token
@@ -30,12 +30,10 @@ use Rattle.ll_explain.specs.Words.{line_of}
 use Rattle.ll_explain.proofs.SaidAsRead.{line_there, opened_there}
 use Rattle.ll_json.specs.Layering.{head_of, next_tokens, objections_from, opening}
 use Rattle.ll_json.specs.Parts.{named_tokens}
-use Rattle.ll_json.specs.Records.{answer_members, layers_json, members_at, members_of_both, members_with, why_members}
+use Rattle.ll_json.specs.Records.{Version, answer_members, layers_json, members_at, members_of_both, members_text, members_with, why_members}
 use Rattle.ll_report.specs.Printed.{printed_of}
 use Rattle.ll_json.specs.Rows.{members_tokens, said_of}
-use Rattle.ll_json.specs.Spans.{members_text}
 use Rattle.ll_json.specs.Values.{answer_tokens, layers_tokens, plain_members}
-use Rattle.ll_json.specs.Versions.{Version}
 use Rattle.ll_json.specs.Why.{objection_json}
 use Rattle.ll_json.proofs.Meant.{answer_means}
 

@@ -16,21 +16,18 @@ use Rattle.ll_trace.specs.declared.op.Record.{Record}
 use Rattle.ll_findings.specs.Findings.{FindingValue}
 use Rattle.ll_report.specs.declared.options.Shown.{Shown}
 use Rattle.ll_report.specs.Counted.{grouped}
-use Rattle.ll_report.specs.Kinds.{Kind, is_first, is_said_before, is_told, kind_from, kind_text, kinds_of, kinds_text, said_at}
-use Rattle.ll_report.specs.Made.{Made, line_numbers, rows_of, text_of}
+use Rattle.ll_report.specs.Kinds.{Kind, is_first, is_said_before, is_told, kind_from, kind_text, kinds_text, said_at}
+use Rattle.ll_report.specs.Made.{line_numbers, rows_of, text_of}
 use Rattle.ll_report.specs.Rows.{is_refused_under_some, is_row_left_out}
-use Rattle.ll_report.specs.Versions.{answers_in, some_refuses}
+use Rattle.ll_report.specs.Versions.{if_shown, made_in, some_refuses}
 use Rattle.ll_report.proofs.ByKind.{text_by_kind}
 use Rattle.ll_report.proofs.Making.{length-rows, row_is}
 use Rattle.ll_report.proofs.RowsSaid.{count_same}
-use Rattle.ll_json.specs.Judged.{AreFound}
 use Rattle.ll_json.specs.Parts.{Named, array_of, line_text, named_tokens, values_tokens}
-use Rattle.ll_json.specs.Records.{call_members, kind_json, said_members}
-use Rattle.ll_json.specs.Reports.{IsJsonReport, found_of, kind_line, kind_lines, lines_from, said_line, said_lines, said_under, shown_lines}
-use Rattle.ll_json.specs.Reports.{totals_from, totals_json}
-use Rattle.ll_json.specs.Rows.{call_tokens, json_made, kind_head, kind_tokens, row_as}
-use Rattle.ll_json.specs.Spans.{answers_json, members_text}
-use Rattle.ll_json.specs.Versions.{Version}
+use Rattle.ll_json.specs.Records.{Version, answers_json, call_members, kind_json, members_text, said_members}
+use Rattle.ll_json.specs.Reports.{AreFound, IsJsonReport, found_of, kind_line, kind_lines, row_line, said_line, said_lines, said_under, shown_lines}
+use Rattle.ll_json.specs.Reports.{totals_json}
+use Rattle.ll_json.specs.Rows.{call_tokens, kind_head, kind_tokens, last_line, row_as, row_text}
 use Rattle.ll_json.proofs.Enclosing.{named_end, values_end}
 use Rattle.ll_json.proofs.Printed.{ends_with, print_more}
 use Rattle.ll_json.proofs.RowsTold as told
@@ -184,7 +181,7 @@ module _ (shown : Shown) (oldest : ℕ) (tree : List Entry) (versions : List Ver
 module _ (shown : Shown) (oldest : ℕ) (tree : List Entry) (versions : List Version) (later : List Record) (findings : List FindingValue)
     (found : AreFound shown.explanations tree later versions findings) where
   said_are : (index : ℕ) (records : List Record) → index + length records ≤ length later
-      → rows_of (row_as true shown oldest tree later findings) index records ≡ rows_of (said_line shown tree oldest versions) index records
+      → rows_of (if_shown (λ _. row_as true) shown oldest tree later findings) index records ≡ rows_of (said_line shown tree oldest versions) index records
   unfolding rows_of
   said_are index [] fits = refl
   said_are index (r ∷ others) fits =
@@ -196,22 +193,26 @@ module _ (shown : Shown) (oldest : ℕ) (tree : List Entry) (versions : List Ver
   shown_are : (kinds : Bool) (last : List ℕ)
       → text_of (grouped kind_head kinds (record {
         lines = line_numbers later;
-        shown = rows_of (row_as kinds shown oldest tree later findings) 0 later;
+        shown = rows_of (if_shown (λ _. row_as kinds) shown oldest tree later findings) 0 later;
         last = last;
       }))
-      ≡ (if kinds then kind_lines shown tree oldest versions later else lines_from shown tree oldest versions 0 later) ++ last
+      ≡ (if kinds then kind_lines shown tree oldest versions later else flat_map (λ row. row) (rows_of (row_line shown tree oldest versions) 0 later)) ++ last
   shown_are true last =
-      text_by_kind kind_head (record { lines = line_numbers later; shown = rows_of (row_as true shown oldest tree later findings) 0 later; last = last })
+      text_by_kind kind_head (record {
+        lines = line_numbers later;
+        shown = rows_of (if_shown (λ _. row_as true) shown oldest tree later findings) 0 later;
+        last = last;
+      })
       ∙ ap (λ (rows : List (List ℕ)). kinds_text kind_head (line_numbers later) rows ++ last) (said_are 0 later (omega arith))
       ∙ ap (λ (lines : List ℕ). lines ++ last) (kinds_told shown oldest tree versions later)
   shown_are false last = ap (λ (lines : List ℕ). lines ++ last) (told.rows_are shown oldest tree versions later findings found 0 later (omega arith))
 
   pub report_is : (program : List ℕ) → IsJsonReport shown tree oldest versions later program (record {
-    text = text_of (grouped kind_head shown.kinds (json_made shown oldest tree later findings program));
+    text = text_of (grouped kind_head shown.kinds (made_in row_text (last_line program) shown oldest tree later findings));
     refused = count_by (some_refuses findings) (range_with_len 0 (length later));
   })
   report_is program = record {
-    text = shown_are shown.kinds (json_made shown oldest tree later findings program).last
+    text = shown_are shown.kinds (last_line program oldest findings)
         ∙ ap (λ (totals : List Json). shown_lines shown tree oldest versions later ++ line_text (totals_json totals program))
         (told.totals_are shown tree later versions findings found oldest);
     refused = count_same (some_refuses findings) (is_refused_under_some (found_of shown tree versions))

@@ -15,7 +15,7 @@ use Rattle.ll_tree.specs.Trees.{Entry}
 use Rattle.ll_trace.specs.declared.op.Record.{Record}
 use Rattle.ll_report.specs.declared.options.Shown.{Shown}
 use Rattle.ll_json.specs.Reports.{kind_at, last_json, row_json}
-use Rattle.ll_json.specs.Versions.{Version}
+use Rattle.ll_json.specs.Records.{Version}
 use Rattle.ll_json.proofs.Shallow.{shallow_kind, shallow_last, shallow_row}
 use Rattle.ll_json.proofs.Visible.{visible}
 use Rattle.ll_json.specs.ReadBack.{FitsWords, ItemsFitWords, MembersFitWords, ReadsBack}

@@ -2,8 +2,8 @@
 use Rattle.std.proofs.Common.{◌≡◌, ◌∙◌, ◌+◌, ◌-◌, ◌<◌, ◌≤◌, ℕ, zero, suc, Bool, true, false}
 use Rattle.std.proofs.Common.{cond, List, [], ◌∷◌, ◌++◌, Some, drop, get_or, length, map}
 use Rattle.std.proofs.Common.{refl, sym, ap, ap₂, subst, append_assoc, arith, codes}
-use Rattle.std.specs.Prelude.{bytes_eq, count_by, if◌then◌else◌, slice_get}
-use Rattle.std.specs.List.{flat_map, range_with_len}
+use Rattle.std.specs.Prelude.{bytes_eq, if◌then◌else◌, slice_get}
+use Rattle.std.specs.List.{flat_map}
 use Rattle.std.proofs.lemmas.List.Elements.{length_all_zip}
 use Rattle.std.proofs.lemmas.Option.{slice_get-get_or}
 use Rattle.json.specs.Json.{Json}
@@ -21,21 +21,18 @@ use Rattle.ll_findings.specs.Findings.{FindingValue}
 use Rattle.ll_report.specs.declared.options.Shown.{Shown}
 use Rattle.ll_report.specs.Found.{Found, answer_at}
 use Rattle.ll_report.specs.Lines.{verdict_of}
-use Rattle.ll_report.specs.Made.{rows_of, text_of}
+use Rattle.ll_report.specs.Made.{rows_of}
 use Rattle.ll_report.specs.Report.{is_refused, verdict_text}
 use Rattle.ll_report.specs.Printed.{printed_of, printed_under}
 use Rattle.ll_report.specs.Rows.{answers_said, is_refused_under_some, is_row_left_out}
 use Rattle.ll_report.specs.Spans.{Span, spans_from, spans_of}
 use Rattle.ll_report.proofs.Making.{next_rows}
-use Rattle.ll_report.proofs.RowsSaid.{any_map, count_same, map_map, refused_alone}
-use Rattle.ll_report.specs.Versions.{answers_in, some_refuses}
-use Rattle.ll_json.specs.Judged.{AreFound, IsFound}
-use Rattle.ll_json.specs.Versions.{Version}
+use Rattle.ll_report.proofs.RowsSaid.{any_map, map_map, refused_alone}
+use Rattle.ll_report.specs.Versions.{answers_in, if_shown, some_refuses}
 use Rattle.ll_json.specs.Parts.{Named, line_text, named_tokens, values_tokens}
-use Rattle.ll_json.specs.Records.{answer_json, answer_members, members_at, members_with, record_json}
-use Rattle.ll_json.specs.Reports.{IsJsonReport, found_of, lines_from, row_line, said_under, total_json, totals_from, totals_json}
+use Rattle.ll_json.specs.Records.{Version, answer_json, answer_members, answers_json, members_at, members_text, members_with, record_json, span_json}
+use Rattle.ll_json.specs.Reports.{AreFound, IsFound, found_of, row_line, said_under, total_json, totals_from}
 use Rattle.ll_json.specs.Rows.{head_tokens, line_of, opening_tokens, row_as, said_of, separated, span_text, versions_tokens}
-use Rattle.ll_json.specs.Spans.{answers_json, members_text, span_json}
 use Rattle.ll_json.proofs.Enclosing.{named_end, values_end}
 use Rattle.ll_json.proofs.Judged.{members_are, said_is}
 use Rattle.ll_json.proofs.Printed.{ends_object, ends_with, print_more}
@@ -261,7 +258,7 @@ module _ (shown : Shown) (oldest : ℕ) (tree : List Entry) (versions : List Ver
       → ((r : Record) (values : List Json) (text : List ℕ) → print_from false (values_tokens values) ≡ text
       → line r values ≡ print (opening_tokens kinds r) ++ (text ++ codes "]}\n"))
       → (index : ℕ) (r : Record) → index < length later
-      → row_as kinds shown oldest tree later findings index r
+      → if_shown (λ _. row_as kinds) shown oldest tree later findings index r
       ≡ (if is_row_left_out shown (found_of shown tree versions) index then [] else line r (answers_json oldest (said_under shown tree versions index)))
   row_is kinds line printed index r below =
       let said : List (List Named) = said_under shown tree versions index in
@@ -273,12 +270,12 @@ module _ (shown : Shown) (oldest : ℕ) (tree : List Entry) (versions : List Ver
       ∙ sym (printed r (answers_json oldest said) (separated false spans) (separated_is oldest said false spans (fit_all oldest said each.1))))
 
   pub rows_are : (index : ℕ) (records : List Record) → index + length records ≤ length later
-      → flat_map (λ (row : List ℕ). row) (rows_of (row_as false shown oldest tree later findings) index records)
-      ≡ lines_from shown tree oldest versions index records
-  unfolding rows_of lines_from
+      → flat_map (λ (row : List ℕ). row) (rows_of (if_shown (λ _. row_as false) shown oldest tree later findings) index records)
+      ≡ flat_map (λ (row : List ℕ). row) (rows_of (row_line shown tree oldest versions) index records)
+  unfolding rows_of
   rows_are index [] fits = refl
   rows_are index (r ∷ others) fits =
-      next_rows (row_as false shown oldest tree later findings) index r others
+      next_rows (if_shown (λ _. row_as false) shown oldest tree later findings) index r others
       ∙ ap₂ (λ (line rest : List ℕ). line ++ rest)
       (row_is false (λ (x : Record) (values : List Json). line_text (record_json x values)) line_printed index r (omega (arith, fits)))
       (rows_are (index + 1) others (omega (arith, fits)))

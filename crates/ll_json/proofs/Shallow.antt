@@ -25,12 +25,11 @@ use Rattle.ll_report.specs.Found.{Found}
 use Rattle.ll_report.specs.declared.options.Shown.{Shown}
 use Rattle.ll_report.specs.Spans.{spans_of}
 use Rattle.ll_json.specs.Parts.{Named, array_of, items_of, members_of}
-use Rattle.ll_json.specs.Records.{answer_members, bare_layer, call_members, explained_if, layers_json, members_at, members_of_both}
+use Rattle.ll_json.specs.Records.{Version, answer_members, answers_json, bare_layer, call_members, explained_if, layers_json, members_at, members_of_both}
+use Rattle.ll_json.specs.Records.{members_text, span_json}
 use Rattle.ll_json.specs.Records.{paths_members, port_members, reason_members, said_members, why_members}
 use Rattle.ll_json.specs.Reports.{found_of, kind_at, last_json, row_json, said_under, totals_from}
-use Rattle.ll_json.specs.Spans.{answers_json, members_text, span_json}
-use Rattle.ll_json.specs.Versions.{Version}
-use Rattle.ll_json.specs.Why.{condition_json, layer_json, objection_json, port_rights_json, reason_json, rights_json}
+use Rattle.ll_json.specs.Why.{by_word, condition_json, layer_json, objection_json, port_rights_json, reason_json, rights_json}
 
 -- values made one by one, none of which is deep
 mapped : {A : Type 0} (f : A → Json) (n : ℕ) → ((a : A) → depth (f a) ≤ n) → (list : List A) → items_depth (items_of (map f list)) ≤ n
@@ -66,7 +65,7 @@ all_layers records layers numbers (failure condition) = omega (arith, bare numbe
 all_layers records layers numbers (mootness reason) = omega (arith, bare numbers)
 
 condition : (c : Condition) → depth (condition_json c) ≤ 2
-unfolding condition_json
+unfolding by_word condition_json
 condition (conditions.unknown abi rights) = omega (arith, named rights)
 condition (conditions.portless abi) = omega arith
 condition conditions.rightless = omega arith
@@ -80,7 +79,7 @@ condition conditions.full = omega arith
 condition conditions.other = omega arith
 
 reason : (r : Reason) → depth (reason_json r) ≤ 1
-unfolding reason_json
+unfolding by_word reason_json
 reason (reasons.absent path) = omega arith
 reason (reasons.no_directory path) = omega arith
 reason (reasons.present path) = omega arith

@@ -1,12 +1,9 @@
 pub mod Parts
-pub mod Versions
 pub mod Writing
 pub mod Why
 pub mod Layering
 pub mod Records
 pub mod Values
-pub mod Spans
 pub mod Reports
 pub mod Rows
-pub mod Judged
 pub mod ReadBack

@@ -1,7 +1,10 @@
 -- A record or a kind of records, and the answers to it, as JSON, with their explanations.
 -- Source: docs/FORMATS.md, "The report", "Explanations" and "Kinds".
-use Rattle.std.specs.Prelude.{ℕ, Bool, List, [], ◌∷◌, ◌++◌, map, Option, Some, None, codes, slice_get, if◌then◌else◌}
+use Rattle.std.specs.Prelude.{◌-◌, ℕ, Bool, List, [], ◌∷◌, ◌++◌, get_or, map, Option, Some, None, codes, slice_get, if◌then◌else◌}
 use Rattle.json.specs.Json.{Json, string}
+use Rattle.json.specs.Print.{print}
+use Rattle.json.specs.Token as token
+use Rattle.ll_rights.specs.declared.abi.Abi.{Abi}
 use Rattle.ll_tree.specs.Trees.{Entry}
 use Rattle.ll_trace.specs.declared.op.Record.{Record}
 use Rattle.ll_trace.specs.declared.op.Op.{Op}
@@ -13,9 +16,14 @@ use Rattle.ll_reasons.specs.Reasons.{Reason}
 use Rattle.ll_reasons.specs.Explanations.{Explanation, nothing, objections, failure, mootness, explained_at, origins_at}
 use Rattle.ll_report.specs.Calls.{port_of}
 use Rattle.ll_report.specs.Lines.{error_name}
-use Rattle.ll_json.specs.Parts.{Named, array_of, object_of, whole}
-use Rattle.ll_json.specs.Versions.{Version}
+use Rattle.ll_report.specs.Spans.{Span, spans_of}
+use Rattle.ll_json.specs.Parts.{Named, array_of, named_tokens, object_of, whole}
 use Rattle.ll_json.specs.Why.{condition_json, layer_json, reason_json}
+
+-- a version of Landlock's interface, and the records as they are taken under it
+pub record Version : Type 0 where
+  pub abi : Abi
+  pub records : List Record
 
 -- ---- the members of an answer; where explanations aren't shown, the explanation is `nothing`
 
@@ -55,17 +63,22 @@ versions_json first last = array_of (whole first ∷ whole last ∷ [])
 abbrev pub answer_json : ℕ → ℕ → List Named → Json
 answer_json first last members = object_of ((codes "abi", versions_json first last) ∷ members)
 
+-- members as they are printed, to the end of their object
+abbrev pub members_text : List Named → List ℕ
+members_text members = print (named_tokens members ++ token.end_object ∷ [])
+
+-- the versions of a span have the members of the first of them
+abbrev pub span_json : ℕ → List (List Named) → Span → Json
+span_json oldest said span = answer_json span.first span.last (get_or said (span.first - oldest) [])
+
+-- the answers of neighbouring versions, of which the oldest has this number: those that are printed alike are one
+abbrev pub answers_json : ℕ → List (List Named) → List Json
+answers_json oldest said = map (span_json oldest said) (spans_of oldest (map members_text said))
+
 -- ---- the record
 
--- what tells of a record which it is: its line, its pid and its operation
-abbrev pub about : Record → ℕ × ℕ × List ℕ
-about r = (r.line, r.pid, op_name r.op)
-
-abbrev pub record_of : ℕ × ℕ × List ℕ → List Json → Json
-record_of told answers = object_of ((codes "line", whole told.0) ∷ (codes "pid", whole told.1) ∷ (codes "op", string told.2) ∷ (codes "answers", array_of answers) ∷ [])
-
 abbrev pub record_json : Record → List Json → Json
-record_json r answers = record_of (about r) answers
+record_json r answers = object_of ((codes "line", whole r.line) ∷ (codes "pid", whole r.pid) ∷ (codes "op", string (op_name r.op)) ∷ (codes "answers", array_of answers) ∷ [])
 
 -- ---- the call
 
@@ -115,7 +128,7 @@ members_at explains tree version index =
 unfoldable pub printing : Unit {0}
 unfolding
     Rattle.json.specs.Print.print_from Rattle.json.specs.Print.escape_byte Rattle.ll_lines.specs.Paths.text_of
-    Rattle.ll_json.specs.Why.objection_json Rattle.ll_json.specs.Why.condition_json Rattle.ll_json.specs.Why.reason_json
-    Rattle.ll_json.specs.Why.layer_json Rattle.ll_json.specs.Records.answer_members Rattle.ll_json.specs.Records.layers_json
-    Rattle.ll_json.specs.Records.why_members
+    Rattle.ll_json.specs.Why.objection_json Rattle.ll_json.specs.Why.by_word Rattle.ll_json.specs.Why.condition_json
+    Rattle.ll_json.specs.Why.reason_json Rattle.ll_json.specs.Why.layer_json Rattle.ll_json.specs.Records.answer_members
+    Rattle.ll_json.specs.Records.layers_json Rattle.ll_json.specs.Records.why_members
 printing = tt

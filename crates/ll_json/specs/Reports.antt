@@ -1,22 +1,32 @@
 -- The report over versions as JSON: a line for each record that is shown, or for each kind of these, and one with the totals of each
 -- version. One version is a range of one.
 -- Source: docs/FORMATS.md, "The report as JSON" and "Kinds"; RFC 8259.
-use Rattle.std.specs.Prelude.{◌≡◌, ◌+◌, ℕ, List, [], ◌∷◌, ◌++◌, None, Option, Some, codes, if◌then◌else◌, length, map, slice_get}
-use Rattle.std.specs.List.{flat_map}
+use Rattle.std.specs.Prelude.{◌≡◌, ◌+◌, ℕ, Bool, List, [], ◌∷◌, ◌++◌, None, Option, Some, codes, if◌then◌else◌, length, map, slice_get}
+use Rattle.std.specs.List.{AllZip, flat_map}
 use Rattle.json.specs.Json.{Json, string}
 use Rattle.ll_tree.specs.Trees.{Entry}
 use Rattle.ll_trace.specs.declared.op.Record.{Record}
+use Rattle.ll_findings.specs.Findings.{FindingValue, Finds}
+use Rattle.ll_findings.specs.TakenRecords.{AreTaken}
 use Rattle.ll_report.specs.declared.options.Shown.{Shown}
-use Rattle.ll_report.specs.Shown.{Told}
 use Rattle.ll_report.specs.Found.{Found, found_under}
 use Rattle.ll_report.specs.Kinds.{Kind, kinds_of}
-use Rattle.ll_report.specs.Made.{rows_of}
+use Rattle.ll_report.specs.Made.{Told, rows_of}
 use Rattle.ll_report.specs.Report.{is_allowed, is_moot, is_refused}
 use Rattle.ll_report.specs.Rows.{count_under, is_row_left_out, refused_under_some}
 use Rattle.ll_json.specs.Parts.{Named, array_of, line_text, object_of, whole}
-use Rattle.ll_json.specs.Records.{kind_json, members_at, record_json, said_members}
-use Rattle.ll_json.specs.Spans.{answers_json, members_text}
-use Rattle.ll_json.specs.Versions.{Version}
+use Rattle.ll_json.specs.Records.{Version, answers_json, kind_json, members_at, members_text, record_json, said_members}
+
+-- ---- what is found under versions
+
+-- what a finding has is found under a version, of what its kernel takes the records of the trace for
+pub record IsFound (explains : Bool) (tree : List Entry) (trace : List Record) (version : Version) (finding : FindingValue) : Type 0 where
+  pub finds : Finds explains tree version.abi version.records finding
+  pub taken : AreTaken trace version.records
+
+-- of each version there is what is found
+abbrev pub AreFound : Bool → List Entry → List Record → List Version → List FindingValue → Type 0
+AreFound explains tree trace = AllZip (IsFound explains tree trace)
 
 -- ---- the lines of records
 
@@ -37,12 +47,6 @@ abbrev pub row_line : Shown → List Entry → ℕ → List Version → ℕ → 
 row_line shown tree oldest versions index r =
     if is_row_left_out shown (found_of shown tree versions) index then []
     else line_text (row_json shown tree oldest versions index r)
-
--- the lines of records, the first of which is at an index of the trace
-unfoldable pub lines_from : Shown → List Entry → ℕ → List Version → ℕ → List Record → List ℕ
-lines_from shown tree oldest versions index [] = []
-lines_from shown tree oldest versions index (r ∷ others) =
-    row_line shown tree oldest versions index r ++ lines_from shown tree oldest versions (index + 1) others
 
 -- ---- the lines of kinds
 
@@ -100,7 +104,8 @@ last_json shown tree oldest versions program = totals_json (totals_from oldest (
 -- the lines of records, or of their kinds
 abbrev pub shown_lines : Shown → List Entry → ℕ → List Version → List Record → List ℕ
 shown_lines shown tree oldest versions records =
-    if shown.kinds then kind_lines shown tree oldest versions records else lines_from shown tree oldest versions 0 records
+    if shown.kinds then kind_lines shown tree oldest versions records
+    else flat_map (λ row. row) (rows_of (row_line shown tree oldest versions) 0 records)
 
 -- over versions, of which the oldest has this number, on records whose calls meet this tree
 pub record IsJsonReport (shown : Shown) (tree : List Entry) (oldest : ℕ) (versions : List Version) (records : List Record) (program : List ℕ) (report : Told) : Type 0 where

@@ -12,12 +12,9 @@ use Rattle.ll_trace.specs.Operations.{op_name}
 use Rattle.ll_semantics.specs.declared.answer.Answer.{Answer}
 use Rattle.ll_findings.specs.Findings.{FindingValue, said_by}
 use Rattle.ll_explanations.specs.declared.explanation.Explanation.{Explanation}
-use Rattle.ll_report.specs.declared.options.Shown.{Shown}
-use Rattle.ll_report.specs.Made.{Made, line_numbers, rows_of}
 use Rattle.ll_report.specs.Printed.{printed_under}
-use Rattle.ll_report.specs.Rows.{is_row_left_out}
 use Rattle.ll_report.specs.Spans.{Span, spans_of}
-use Rattle.ll_report.specs.Versions.{answers_in}
+use Rattle.ll_report.specs.Versions.{Telling, answers_in}
 use Rattle.ll_json.specs.Parts.{line_text, named_tokens}
 use Rattle.ll_json.specs.Records.{call_members, versions_json}
 use Rattle.ll_json.specs.Reports.{totals_from, totals_json}
@@ -86,19 +83,13 @@ kind_tokens records line =
 abbrev pub kind_head : ℕ → ℕ → List ℕ
 kind_head records line = print (kind_tokens records line) ++ codes ","
 
--- the row of the record at an index, which is told of alone or by its call
-abbrev pub row_as : Bool → Shown → ℕ → List Entry → List Record → List FindingValue → ℕ → Record → List ℕ
-row_as kinds shown oldest tree records findings index r =
-    if is_row_left_out shown (answers_in findings) index then []
-    else line_of kinds oldest r (printed_under said_of tree records findings index)
+-- how the record at an index is told of, alone or by its call
+abbrev pub row_as : Bool → ℕ → List Entry → List Record → List FindingValue → ℕ → Record → List ℕ
+row_as kinds oldest tree records findings index r = line_of kinds oldest r (printed_under said_of tree records findings index)
 
-abbrev pub row_text : Shown → ℕ → List Entry → List Record → List FindingValue → ℕ → Record → List ℕ
-row_text shown = row_as shown.kinds shown
+abbrev pub row_text : Telling
+row_text shown = row_as shown.kinds
 
--- what a report is made of, over versions of which the oldest has this number
-abbrev pub json_made : Shown → ℕ → List Entry → List Record → List FindingValue → List ℕ → Made
-json_made shown oldest tree records findings program = record {
-  lines = line_numbers records;
-  shown = rows_of (row_text shown oldest tree records findings) 0 records;
-  last = line_text (totals_json (totals_from oldest (answers_in findings)) program);
-}
+-- the last line, by what was found under versions of which the oldest has this number
+abbrev pub last_line : List ℕ → ℕ → List FindingValue → List ℕ
+last_line program oldest findings = line_text (totals_json (totals_from oldest (answers_in findings)) program)

@@ -50,11 +50,15 @@ layer_with records made number objections =
 unfoldable pub layer_json : List Record → List ℕ → ℕ × List Objection → Json
 layer_json records layers said = layer_with records (slice_get layers (said.0 - 1)) said.0 said.1
 
+-- an object that begins with a member whose value is a word
+unfoldable pub by_word : List ℕ → List ℕ → List Named → Json
+by_word name word more = object_of ((name, string word) ∷ more)
+
 -- ---- why a call fails by no layer
 
 -- the condition by its word, and what it names
 abbrev pub by_condition : List ℕ → List Named → Json
-by_condition word names = object_of ((codes "condition", string word) ∷ names)
+by_condition = by_word (codes "condition")
 
 unfoldable pub condition_json : Condition → Json
 condition_json (conditions.unknown abi rights) = by_condition (codes "unknown") ((codes "abi", whole (number_of abi)) ∷ (codes "rights", rights_json rights) ∷ [])
@@ -83,7 +87,7 @@ kind_name Sock = codes "sock"
 
 -- the reason by its word, and what it names
 abbrev pub by_reason : List ℕ → List Named → Json
-by_reason word names = object_of ((codes "reason", string word) ∷ names)
+by_reason = by_word (codes "reason")
 
 abbrev pub from_to : Path → Path → List Named
 from_to from to = (codes "from", path_json from) ∷ (codes "to", path_json to) ∷ []

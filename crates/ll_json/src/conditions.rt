@@ -1,5 +1,5 @@
 //! Why calls fail by no layer.
-#![tactic(auto, unfolding(crate::specs::Writing::writing))]
+#![tactic(auto, unfolding(crate::specs::Why::by_word, crate::specs::Writing::writing))]
 
 ghost use Rattle.std.specs.Prelude.{◌≡◌, ◌∷◌, [], codes};
 ghost use Rattle.json.specs.{Json.string, Tree.json_tokens};
@@ -47,13 +47,13 @@ fn write_unhandled<R: WordedSet>(out: &mut JsonText, word: &str, rights: R)
     out.end_object();
 }
 
-/// Writes which rights are for directories, where the path is that of something else.
-fn write_only_for_directories(out: &mut JsonText, op: &Op, rights: Fs)
-    ensures { out.new ≡ writing out.old (json_tokens (by_condition
-        (codes "only_for_directories") ((codes "rights", rights_json (rights_in rights))
+/// Writes, by a word for it, rights and the path of a call that adds a rule for one.
+fn write_rule(out: &mut JsonText, op: &Op, word: &str, rights: Fs)
+    ensures { out.new ≡ writing out.old (json_tokens
+        (by_condition word.now ((codes "rights", rights_json (rights_in rights))
         ∷ (codes "path", string (text_named op.now First)) ∷ []))) }
 {
-    begin_by(out, "condition", "only_for_directories");
+    begin_by(out, "condition", word);
     write_rights_as(out, "rights", rights);
     write_text(out, "path", text_of(op, Which::First));
     out.end_object();
@@ -74,7 +74,9 @@ pub(crate) fn write_condition(out: &mut JsonText, op: &Op, condition: &Condition
         Condition::UnhandledOnPorts(rights) => {
             write_unhandled(out, "unhandled_on_ports", *rights)
         }
-        Condition::OnlyForDirectories(rights) => write_only_for_directories(out, op, *rights),
+        Condition::OnlyForDirectories(rights) => {
+            write_rule(out, op, "only_for_directories", *rights)
+        }
         Condition::NoPort(port) => write_numbered(out, "condition", "no_port", "port", *port),
         Condition::Unprivileged => write_alone(out, "condition", "unprivileged"),
         Condition::Full => write_alone(out, "condition", "full"),

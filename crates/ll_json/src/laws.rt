@@ -17,7 +17,7 @@ ghost use Rattle.ll_json.specs.Records.{answer_json, answer_members};
 ghost use Rattle.ll_tree.specs.Trees.{Entry};
 ghost use Rattle.ll_trace.specs.declared.op.Record.{Record as OneRecord};
 ghost use Rattle.ll_report.specs.declared.options.Shown.{Shown as Options};
-ghost use Rattle.ll_json.specs.{ReadBack.FitsWords, ReadBack.ReadsBack, Versions.Version};
+ghost use Rattle.ll_json.specs.{ReadBack.FitsWords, ReadBack.ReadsBack, Records.Version};
 ghost use Rattle.ll_json.specs.Reports.{kind_at, last_json, row_json};
 ghost use Rattle.ll_json.specs.Why.{condition_json, objection_json, reason_json};
 

@@ -1,5 +1,5 @@
 //! Why the policy isn't asked.
-#![tactic(auto, unfolding(crate::specs::Writing::writing))]
+#![tactic(auto, unfolding(crate::specs::Why::by_word, crate::specs::Writing::writing))]
 
 ghost use Rattle.std.specs.Prelude.{◌≡◌, ◌∷◌, [], IsTrue, codes, is_some};
 ghost use Rattle.json.specs.Json.{string};

@@ -1,85 +1,45 @@
 //! The report as JSON: a line for each record that is shown or for each kind of these, and one with the totals of each version.
 #![tactic(auto, unfolding(crate::specs::Writing::writing))]
 
-ghost use Rattle.std.specs.Prelude.{◌≡◌, ◌+◌, ◌<◌, ◌^◌, IfOk, List, length};
+ghost use Rattle.std.specs.Prelude.{◌≡◌, ◌+◌, ◌<◌, ◌^◌, IfOk, List, OnOk, length};
 ghost use Rattle.ll_explain.specs.Buffers.{adding};
-ghost use Rattle.ll_json.specs.{Reports.IsJsonReport, Rows.kind_head};
-ghost use Rattle.ll_json.specs.Judged.{AreFound};
-ghost use Rattle.ll_json.specs.Versions.{Version};
+ghost use Rattle.ll_report.specs.Versions.{row_told};
+ghost use Rattle.ll_json.specs.Reports.{AreFound, IsJsonReport};
+ghost use Rattle.ll_json.specs.Rows.{kind_head, last_line, row_text};
+ghost use Rattle.ll_json.specs.Records.{Version};
 
 use crate::json_text::JsonText;
-use crate::rows::{push_row, write_kind};
+use crate::rows::{push_opening, write_kind};
+use crate::spans::push_answers;
 use crate::totals::push_last;
 use ll_explain::{TextBuffer, push_words};
-use ll_report::{
-    Audited, FindingsAt, Grouped, KindRows, Pages, RowReport, Rows, Shown, TooLong,
-    refused_under_some,
-};
+use ll_findings::Finding;
+use ll_report::{Audited, Grouped, Pages, Row, RowForm, RowReport, Shown, TooLong, report_in};
 use std::alloc::{AllocError, Global};
-use std::marker::Model;
 
-/// What a report as JSON is made of: the tree and the records as the oldest version takes them, what is found under
-/// each version, what is shown of it, the number of the oldest version, and the version of the program that writes it.
-/// All memory for the lines is there already.
+/// The report as JSON, which says by which version of the program it is written.
 #[derive(Drop)]
 pub struct JsonRows<'p> {
-    audited: Audited,
-    shown: Shown,
-    oldest: u64,
     program: &'p str,
-    pages: Pages,
 }
 
-impl<'p> Model for JsonRows<'p> {
-    ghost use Rattle.std.specs.Prelude.{◌+◌, ◌<◌, ◌^◌, length};
-    ghost use Rattle.ll_report.specs.Made.{Made};
-    ghost use Rattle.ll_json.specs.Rows.{json_made};
+impl<'p> RowForm for JsonRows<'p> {
+    ghost told = { row_text };
 
-    ghost Value = { Made };
-
-    ghost view = { λ rows. json_made rows.shown rows.oldest rows.audited.located.tree
-        rows.audited.located.trace rows.audited.findings rows.program.now };
-
-    ghost invariant = { λ rows. rows.oldest + length rows.audited.findings < 2 ^ 64 };
-}
-
-impl<'p> Rows for JsonRows<'p> {
-    ghost made_of = { λ made. made };
-
-    fn count(&self) -> usize {
-        self.audited.count()
-    }
-
-    fn push_row(&mut self, text: &mut TextBuffer, index: usize) -> Result<(), TooLong> {
-        let Audited { located, findings } = &self.audited;
-        let records = located.trace.records();
-        if let Some(record) = records.get(index) {
-            let row = FindingsAt {
-                tree: &located.tree,
-                records,
-                findings,
-                index,
-            };
-            push_row(text, &mut self.pages, &row, record, self.shown, self.oldest)?;
-        }
-        Ok(())
-    }
-
-    fn push_last(&mut self, text: &mut TextBuffer) {
-        push_last(
-            text,
-            self.oldest,
-            self.audited.findings.as_slice(),
-            self.program,
-        );
-    }
-}
-
-impl<'p> KindRows for JsonRows<'p> {
     ghost head = { kind_head };
 
-    fn line(&self, index: usize) -> u64 {
-        self.audited.line(index)
+    ghost last = { λ form oldest findings. last_line form.program.now oldest findings };
+
+    /// Adds a record's line, or its end from the call on where kinds are shown.
+    #[tactic(auto, using(ll_explain::proofs::Buffering::adding_both))]
+    fn push_row(text: &mut TextBuffer, pages: &mut Pages, row: &Row<'_>) -> Result<(), TooLong>
+        requires { row.now.oldest + length row.now.found.findings.now < 2 ^ 64 }
+        ensures { OnOk result (text.new ≡ adding text.old (row_told row_text row.now)) }
+    {
+        push_opening(text, row.shown.kinds, row.record);
+        push_answers(text, pages, &row.found, row.oldest)?;
+        push_words(text, "]}\n");
+        Ok(())
     }
 
     #[tactic(auto, using(crate::proofs::Printed::printed, ll_explain::proofs::Buffering::adding_both))]
@@ -90,6 +50,10 @@ impl<'p> KindRows for JsonRows<'p> {
         write_kind(&mut out, records, line);
         *text = out.into_text();
         push_words(text, ",");
+    }
+
+    fn push_last(&self, text: &mut TextBuffer, oldest: u64, findings: &[Finding]) {
+        push_last(text, oldest, findings, self.program);
     }
 }
 
@@ -109,14 +73,5 @@ pub fn json_report<'p>(
         → IsJsonReport shown audited.located.tree oldest versions audited.located.trace
         program.now report) }
 {
-    let refused = refused_under_some(&audited.findings, audited.count());
-    let rows = JsonRows {
-        audited,
-        shown,
-        oldest,
-        program,
-        pages: Pages::new(alloc)?,
-    };
-    let rows = Grouped::of(alloc, rows, shown.kinds)?;
-    RowReport::of(alloc, rows, refused)
+    report_in(alloc, JsonRows { program }, audited, shown, oldest)
 }

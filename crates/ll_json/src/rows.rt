@@ -1,20 +1,19 @@
-//! The lines of records and of kinds.
+//! How the lines of records and of kinds begin.
 #![tactic(auto, unfolding(crate::specs::Writing::writing))]
 
-ghost use Rattle.std.specs.Prelude.{◌≡◌, ◌∷◌, ◌++◌, ◌+◌, ◌<◌, ◌^◌, OnOk, length, option_map, option_to_list};
+ghost use Rattle.std.specs.Prelude.{◌≡◌, ◌∷◌, ◌++◌, option_map, option_to_list};
 ghost use Rattle.json.specs.Print.{print};
 ghost use Rattle.ll_explain.specs.Buffers.{adding};
 ghost use Rattle.ll_report.specs.Calls.{paths_in, port_in};
 ghost use Rattle.ll_json.specs.Parts.{named_tokens};
 ghost use Rattle.ll_json.specs.Records.{paths_members, port_members};
-ghost use Rattle.ll_json.specs.Rows.{call_tokens, head_tokens, kind_tokens, opening_tokens, row_text, said_of};
+ghost use Rattle.ll_json.specs.Rows.{call_tokens, head_tokens, kind_tokens, opening_tokens};
 ghost use Rattle.ll_json.specs.Writing.{writing};
 
 use crate::json_text::JsonText;
-use crate::spans::push_answers;
 use crate::words::{write_number, write_text};
-use ll_explain::{TextBuffer, push_words};
-use ll_report::{FindingsAt, Named, Pages, Shown, TooLong, is_left_out};
+use ll_explain::TextBuffer;
+use ll_report::Named;
 use ll_trace::Record;
 
 /// Writes which record a line is about.
@@ -71,7 +70,7 @@ fn write_call(out: &mut JsonText, found: &Record)
 
 /// Adds how a line tells of a record, or of its call alone, to the bracket before the answers.
 #[tactic(auto, using(crate::proofs::Printed::printed))]
-fn push_opening(text: &mut TextBuffer, kinds: bool, found: &Record)
+pub(crate) fn push_opening(text: &mut TextBuffer, kinds: bool, found: &Record)
     ensures { text.new ≡ adding text.old (print (opening_tokens kinds found.now)) }
 {
     let mut out = JsonText::behind(text.take());
@@ -90,29 +89,4 @@ pub(crate) fn write_kind(out: &mut JsonText, records: u64, line: u64)
     out.begin_object();
     write_number(out, "records", records);
     write_number(out, "line", line);
-}
-
-/// Adds the row of a record, unless it is left out: its line, or its end from the call on where kinds are shown, with the
-/// answers of neighbouring versions, of which the oldest has this number.
-#[tactic(auto, using(ll_explain::proofs::Buffering::adding_both, ll_explain::proofs::Buffering::adding_nothing))]
-pub(crate) fn push_row(
-    text: &mut TextBuffer,
-    pages: &mut Pages,
-    row: &FindingsAt<'_>,
-    found: &Record,
-    shown: Shown,
-    oldest: u64,
-) -> Result<(), TooLong>
-    requires { oldest + length row.now.findings.now < 2 ^ 64 }
-    ensures { OnOk result (text.new ≡ adding text.old (row_text shown oldest row.now.tree.now
-        row.now.records.now row.now.findings.now row.now.index found.now)) }
-{
-    let out = is_left_out(shown, row, pages)?;
-    if out {
-        return Ok(());
-    }
-    push_opening(text, shown.kinds, found);
-    push_answers(text, pages, row, oldest)?;
-    push_words(text, "]}\n");
-    Ok(())
 }

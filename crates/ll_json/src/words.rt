@@ -1,10 +1,10 @@
 //! Members that are texts and numbers, and objects of a fixed word.
-#![tactic(auto, unfolding(crate::specs::Writing::writing))]
+#![tactic(auto, unfolding(crate::specs::Why::by_word, crate::specs::Writing::writing))]
 
 ghost use Rattle.std.specs.Prelude.{◌≡◌, ◌∷◌, [], decimal};
 ghost use Rattle.json.specs.Token as token;
-ghost use Rattle.json.specs.{Json.string, Tree.json_tokens};
-ghost use Rattle.ll_json.specs.Parts.{object_of, whole};
+ghost use Rattle.json.specs.Tree.{json_tokens};
+ghost use Rattle.ll_json.specs.{Parts.whole, Why.by_word};
 ghost use Rattle.ll_json.specs.Writing.{writing};
 
 use crate::json_text::JsonText;
@@ -37,7 +37,7 @@ pub(crate) fn begin_by(out: &mut JsonText, name: &str, word: &str)
 /// Writes an object of a fixed word alone.
 pub(crate) fn write_alone(out: &mut JsonText, name: &str, word: &str)
     ensures { out.new ≡ writing out.old
-        (json_tokens (object_of ((name.now, string word.now) ∷ []))) }
+        (json_tokens (by_word name.now word.now [])) }
 {
     begin_by(out, name, word);
     out.end_object();
@@ -45,8 +45,8 @@ pub(crate) fn write_alone(out: &mut JsonText, name: &str, word: &str)
 
 /// Writes an object of a fixed word and a number.
 pub(crate) fn write_numbered(out: &mut JsonText, name: &str, word: &str, what: &str, number: u64)
-    ensures { out.new ≡ writing out.old (json_tokens
-        (object_of ((name.now, string word.now) ∷ (what.now, whole number) ∷ []))) }
+    ensures { out.new ≡ writing out.old
+        (json_tokens (by_word name.now word.now ((what.now, whole number) ∷ []))) }
 {
     begin_by(out, name, word);
     write_number(out, what, number);

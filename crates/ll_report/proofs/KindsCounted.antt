@@ -1,9 +1,9 @@
 -- Kinds that are counted, with a record more.
-use Rattle.std.proofs.Common.{◌≡◌, ◌≢◌, ◌∙◌, ◌+◌, ◌<◌, ◌≤◌, ◌&&◌, ◌||◌, ℕ, zero, suc, Bool, true, false, cond, List, [], ◌∷◌, ◌++◌}
+use Rattle.std.proofs.Common.{◌≡◌, ◌≢◌, ◌∙◌, ◌+◌, ◌<◌, ◌≤◌, ◌&&◌, ◌||◌, ℕ, Bool, true, false, cond, List, [], ◌∷◌, ◌++◌}
 use Rattle.std.proofs.Common.{refl, sym, ap, ap₂, subst, arith, inl, inr}
 use Rattle.std.proofs.Common.{get_or, length, set, take}
-use Rattle.std.specs.Prelude.{◌==◌, ◌⊎◌, Option, Some, None, bytes_eq, count_by, if◌then◌else◌, map, not}
-use Rattle.std.specs.List.{list_any, range_with_len}
+use Rattle.std.specs.Prelude.{◌==◌, ◌⊎◌, Option, Some, None, bytes_eq, count_by, if◌then◌else◌, not}
+use Rattle.std.specs.List.{list_any}
 use Rattle.std.proofs.lemmas.Bool.{cases_Bool, cases_eq, cases_lt, eqb-true, false_from_ne_true, false≢true}
 use Rattle.std.proofs.lemmas.List.{get_or-set_other, get_or-set_same, get_or_append_left, get_or_push, length-set, length_push}
 use Rattle.std.proofs.lemmas.List.{length-take-le, nil_from_length, get_or-take, take-append-le, take_all}

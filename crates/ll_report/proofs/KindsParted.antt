@@ -3,7 +3,7 @@ use Rattle.std.proofs.Common.{◌≡◌, ◌∙◌, ◌+◌, ◌<◌, ◌≤◌,
 use Rattle.std.proofs.Common.{refl, sym, ap, ap₂, subst, arith, inl, inr}
 use Rattle.std.proofs.Common.{get_or, length, take}
 use Rattle.std.specs.Prelude.{◌==◌, ◌⊎◌, bytes_eq, count_by, filter, if◌then◌else◌, map, not}
-use Rattle.std.specs.List.{All, list_any, range_with_len, sum_by}
+use Rattle.std.specs.List.{list_any, range_with_len, sum_by}
 use Rattle.std.proofs.lemmas.Bool.{cases_Bool, cases_lt, false≢true, not-true}
 use Rattle.std.proofs.lemmas.List.{get_or_past, length_push, take_all, take_more}
 use Rattle.std.proofs.lemmas.List.Elements.{All-map, All-weaker, filter_passes}
@@ -12,7 +12,7 @@ use Rattle.std.proofs.lemmas.List.FromFn.{sum_by-map-range_with_len_more}
 use Rattle.std.proofs.lemmas.List.Sums.{sum_by-cons, sum_by_push}
 use Rattle.std.proofs.lemmas.Slice.Eq.{bytes_eq-Decides}
 use Rattle.std.specs.Cmp.Lexicographic.{nat_list_eq_equiv}
-use Rattle.ll_report.specs.Kinds.{ArePartedByKind, IsLeast, is_kind_of, is_told, Kind, is_first, kind_from, kinds_of, records_like, said_at}
+use Rattle.ll_report.specs.Kinds.{ArePartedByKind, IsLeast, is_kind_of, is_told, Kind, is_first, kind_from, records_like, said_at}
 use Rattle.ll_report.specs.Counted.{records_from}
 use Rattle.ll_report.proofs.KindsCounted.{and_false, blank_apart, new_first, new_from, new_like, new_said, old_first, old_from, old_said, repeated}
 

@@ -10,9 +10,6 @@ use Rattle.std.proofs.lemmas.Option.{slice_get-get_or, slice_get_past, unwrap_or
 use Rattle.ll_trace.specs.declared.op.Record.{Record}
 use Rattle.ll_explain.specs.Buffers.{Buffered, adding}
 use Rattle.ll_explain.proofs.Buffering.{adding_nothing}
-use Rattle.ll_report.specs.declared.options.Shown.{Shown}
-use Rattle.ll_report.specs.Found.{Found}
-use Rattle.ll_report.specs.Rows.{row_text, rows_from, told_of}
 use Rattle.ll_report.specs.Made.{Made, line_numbers, part_at, row_at, rows_of}
 
 -- what the report has from an index on
@@ -52,6 +49,13 @@ row_is row index (suc k) (first ∷ others) r is =
     let next : index + 1 + k ≡ index + suc k = omega arith in
     row_is row (index + 1) k others r is ∙ ap (λ n. Some (row n r)) next
 
+-- rows that are the same for each record
+pub rows_same : (f g : ℕ → Record → List ℕ) → ((k : ℕ) (r : Record) → f k r ≡ g k r) → (index : ℕ) (records : List Record)
+    → rows_of f index records ≡ rows_of g index records
+unfolding rows_of
+rows_same f g same index [] = refl
+rows_same f g same index (r ∷ others) = ap₂ (λ row rows. row ∷ rows) (same index r) (rows_same f g same (index + 1) others)
+
 pub next_rows : (row : ℕ → Record → List ℕ) (index : ℕ) (r : Record) (others : List Record)
     → flat_map (λ x. x) (rows_of row index (r ∷ others)) ≡ row index r ++ flat_map (λ x. x) (rows_of row (index + 1) others)
 unfolding rows_of
@@ -80,12 +84,3 @@ module _ (row : ℕ → Record → List ℕ) (records : List Record) (last : Lis
     nothing_added past =
         let behind : length made.shown ≤ index = omega (arith, as_many, ltb-false index (length found) (sym past), ap length are) in
         adding_nothing text ∙ ap (λ x. adding text (unwrap_or x [])) (sym (slice_get_past made.shown index behind))
-
--- the report is made of its rows
-pub rows_are : (shown : Shown) (oldest : ℕ) (founds : List Found) (index : ℕ) (records : List Record)
-    → flat_map (λ row. row) (rows_of (λ k r. row_text shown oldest founds k (told_of r)) index records) ≡ rows_from shown oldest founds index records
-unfolding rows_from rows_of
-rows_are shown oldest founds index [] = refl
-rows_are shown oldest founds index (r ∷ others) =
-    next_rows (λ k x. row_text shown oldest founds k (told_of x)) index r others
-    ∙ ap (λ rest. row_text shown oldest founds index (told_of r) ++ rest) (rows_are shown oldest founds (index + 1) others)

@@ -10,8 +10,9 @@ use Rattle.ll_semantics.specs.declared.answer.Answer.TheVariants.{Moot}
 use Rattle.ll_report.specs.declared.options.TheConstants.{ALL_LINES}
 use Rattle.ll_report.specs.Found.{Found, answer_at}
 use Rattle.ll_report.specs.Lines.{line_of, lines_of, refused_among, verdict_of}
+use Rattle.ll_report.specs.Made.{rows_of}
 use Rattle.ll_report.specs.Report.{counts_text, count_of, is_allowed, is_moot, is_refused, line_text, report_text, total_text, verdict_text}
-use Rattle.ll_report.specs.Rows.{count_under, is_refused_under_some, refused_under_some, row_text, rows_from, rows_text, told_of, totals_from, totals_text}
+use Rattle.ll_report.specs.Rows.{count_under, is_refused_under_some, refused_under_some, row_text, rows_text, told_of, totals_from, totals_text}
 use Rattle.ll_report.proofs.LinesLeft.{count_of-answers, lines_of-length}
 use Rattle.ll_report.proofs.RowsSaid.{count_same}
 
@@ -48,8 +49,9 @@ module _ (found : Found) where
 
   rows_are_lines : (oldest index : ℕ) (records : List Record) (answers : List Answer) → length answers ≡ length records
       → ((k : ℕ) → unwrap_or (slice_get answers k) Moot ≡ answer_at found (index + k))
-      → rows_from ALL_LINES oldest (found ∷ []) index records ≡ flat_map line_text (lines_of records answers)
-  unfolding rows_from lines_of
+      → flat_map (λ row. row) (rows_of (λ k r. row_text ALL_LINES oldest (found ∷ []) k (told_of r)) index records)
+      ≡ flat_map line_text (lines_of records answers)
+  unfolding rows_of lines_of
   rows_are_lines oldest index [] [] many are = refl
   rows_are_lines oldest index [] (answer ∷ answers) many are = absurd (omega (arith, many))
   rows_are_lines oldest index (r ∷ others) [] many are = absurd (omega (arith, many))

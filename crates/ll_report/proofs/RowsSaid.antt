@@ -1,9 +1,9 @@
 -- What rows say, by the findings.
 use Rattle.std.proofs.Common.{◌≡◌, ◌∙◌, ℕ, ◌+◌, ◌<◌, ◌≤◌, Bool, true, false, ◌||◌, List, [], ◌∷◌, ◌++◌, length, map, drop, All, refl, sym}
 use Rattle.std.proofs.Common.{ap, ap₂, arith, codes, cond, inl, inr, subst, get_or}
-use Rattle.std.specs.Prelude.{count_by, nat_lt, unwrap_or, not, ◌&&◌, ◌⊎◌}
+use Rattle.std.specs.Prelude.{count_by, if◌then◌else◌, nat_lt, unwrap_or, not, ◌&&◌, ◌⊎◌}
 use Rattle.std.specs.List.{list_any, range_with_len}
-use Rattle.std.proofs.lemmas.Bool.{cases_Bool, cases_lt, false≢true}
+use Rattle.std.proofs.lemmas.Bool.{cases_Bool, cases_lt}
 use Rattle.std.proofs.lemmas.List.{drop_more, drop_all, length-map}
 use Rattle.std.proofs.lemmas.List.Elements.{All-head, All-tail}
 use Rattle.std.proofs.lemmas.List.Sums.{sum_by-cons}
@@ -18,14 +18,13 @@ use Rattle.ll_report.specs.declared.options.Shown.{Shown}
 use Rattle.ll_report.specs.declared.spans.Form.TheVariants.{Answers, Explanations}
 use Rattle.ll_findings.specs.Alike.{AreAlike, FindsAs}
 use Rattle.ll_report.specs.Printed.{printed_under, text_printed, verdict_printed}
-use Rattle.ll_report.specs.Found.{Found, answer_at, explanation_at}
+use Rattle.ll_report.specs.Found.{answer_at, explanation_at}
 use Rattle.ll_report.specs.Lines.{verdict_of}
 use Rattle.ll_report.specs.Report.{is_refused, verdict_text}
-use Rattle.ll_report.specs.Rows.{answers_said, are_several, explanations_said, is_refused_under_some, is_row_left_out, row_text, told_of}
+use Rattle.ll_report.specs.Rows.{answers_said, are_several, behind_line, explanations_said, is_refused_under_some, is_row_left_out, row_text, told_as}
 use Rattle.ll_report.specs.Rows.{total_under_text, totals_from, totals_text}
-use Rattle.ll_report.specs.Shown.{behind_line}
 use Rattle.ll_report.specs.Spans.{agree, versions_text}
-use Rattle.ll_report.specs.Versions.{answered, answers_in, found_in, founds_in, some_refuses}
+use Rattle.ll_report.specs.Versions.{answered, answers_in, found_in, founds_in, if_shown, row_in_words, some_refuses}
 
 -- ---- what is said of findings, whichever way they are seen
 
@@ -113,34 +112,18 @@ module _ (shown : Shown) (findings : List FindingValue) (index : ℕ) (tree : Li
   as_agreed is differing =
       sym (left_out ∙ ap₂ (λ a b. a || (b && agree (printed_under verdict_printed tree records findings index))) is differing)
 
-module _ (shown : Shown) (oldest : ℕ) (tree : List Entry) (records : List Record) (findings : List FindingValue) (index : ℕ) (told : List ℕ) where
-  abbrev founds : List Found
-  founds = founds_in shown.explanations tree records findings
+module _ (oldest : ℕ) (tree : List Entry) (records : List Record) (findings : List FindingValue) (index : ℕ) where
+  behind_same : (explains : Bool) → behind_line explains (versions_text Explanations oldest (printed_under text_printed tree records findings index))
+      ≡ behind_line explains (versions_text Explanations oldest (explanations_said (founds_in explains tree records findings) index))
+  behind_same true = ap (versions_text Explanations oldest) (sym (explanations_in tree records findings index))
+  behind_same false = refl
 
-  pub apart_out : is_row_left_out shown (answers_in findings) index ≡ true → [] ≡ row_text shown oldest founds index told
-  apart_out out =
-      let hidden : is_row_left_out shown founds index ≡ true = sym (same_left_out findings index shown.explanations tree records shown) ∙ out in
-      sym (rw hidden refl)
-
-  pub apart_shown : (behind : List ℕ) → is_row_left_out shown (answers_in findings) index ≡ false
-      → behind ≡ behind_line shown.explanations (versions_text Explanations oldest (explanations_said founds index))
-      → told ++ versions_text Answers oldest (printed_under verdict_printed tree records findings index) ++ codes "\n" ++ behind
-      ≡ row_text shown oldest founds index told
-  apart_shown behind shows is =
-      let seen : is_row_left_out shown founds index ≡ false = sym (same_left_out findings index shown.explanations tree records shown) ∙ shows in
-      ap₂ (λ (texts : List (List ℕ)) (l : List ℕ). told ++ versions_text Answers oldest texts ++ codes "\n" ++ l)
-      (sym (answered_in findings index shown.explanations tree records)) is
-      ∙ sym (rw seen refl)
-
-pub behind_told : (explains : Bool) (oldest : ℕ) (tree : List Entry) (records : List Record) (findings : List FindingValue) (index : ℕ) → explains ≡ true
-    → versions_text Explanations oldest (printed_under text_printed tree records findings index)
-    ≡ behind_line explains (versions_text Explanations oldest (explanations_said (founds_in explains tree records findings) index))
-behind_told true oldest tree records findings index is = ap (versions_text Explanations oldest) (sym (explanations_in tree records findings index))
-behind_told false oldest tree records findings index is = absurd (false≢true is)
-
-pub behind_none : (explains : Bool) (text : List ℕ) → explains ≡ false → [] ≡ behind_line explains text
-behind_none true text is = absurd (false≢true (sym is))
-behind_none false text is = refl
+  pub row_same : (shown : Shown) (r : Record) → if_shown row_in_words shown oldest tree records findings index r
+      ≡ row_text shown oldest (founds_in shown.explanations tree records findings) index (told_as shown.kinds r)
+  row_same shown r =
+      ap₂ (λ (out : Bool) (row : List ℕ). if out then [] else row) (same_left_out findings index shown.explanations tree records shown)
+      (ap₂ (λ (texts : List (List ℕ)) (behind : List ℕ). told_as shown.kinds r ++ versions_text Answers oldest texts ++ codes "\n" ++ behind)
+      (sym (answered_in findings index shown.explanations tree records)) (behind_same shown.explanations))
 
 -- ---- the totals and the count of refused records
 

@@ -2,7 +2,7 @@
 -- of.
 -- Source: the code's own; it stands in no document.
 use Rattle.std.specs.Prelude.{◌≡◌, ◌<◌, ◌==◌, ℕ, false, true, ◌++◌, Bool, List, [], Option, Some, None, bytes_eq, get_or, if◌then◌else◌, length, map}
-use Rattle.std.specs.BTreeMap.{BTreeMap, get_by}
+use Rattle.std.specs.BTreeMap.{get_by}
 use Rattle.std.specs.Cmp.Lexicographic.{slice_cmp}
 use Rattle.std.specs.Ordering.{nat_cmp}
 use Rattle.std.specs.List.{list_any, range_with_len}

@@ -15,17 +15,13 @@ pub record Found : Type 0 where
   pub answers : List Answer
   pub explanations : List (List ℕ)
 
--- What is found of records whose calls meet this tree: the answers are those of one fold over all records. Explanations
--- are told in some form, which gives the text for the record at an index.
-abbrev pub found_by : (List Entry → Abi → List Record → ℕ → List ℕ) → Shown → List Entry → List Record → Abi → Found
-found_by told shown tree records abi = record {
-  answers = judged tree abi records;
-  explanations = if shown.explanations then map (told tree abi records) (range_with_len 0 (length records)) else [];
-}
-
--- with explanations as the lines behind those of records
+-- What is found of records whose calls meet this tree: the answers are those of one fold over all records, and the
+-- explanations the lines behind those of records.
 abbrev pub found_under : Shown → List Entry → List Record → Abi → Found
-found_under = found_by text_at
+found_under shown tree records abi = record {
+  answers = judged tree abi records;
+  explanations = if shown.explanations then map (text_at tree abi records) (range_with_len 0 (length records)) else [];
+}
 
 -- the answer to the record at an index; there is one for each record
 abbrev pub answer_at : Found → ℕ → Answer

@@ -1,6 +1,6 @@
 -- Kinds of records: records of which the same is said are of one kind.
 -- Source: docs/FORMATS.md, "Kinds".
-use Rattle.std.specs.Prelude.{◌≡◌, ◌==◌, ◌<◌, ◌≤◌, ◌&&◌, ◌++◌, ℕ, Bool, not, true, List, [], bytes_eq, count_by, filter, get_or, if◌then◌else◌, length, map, take}
+use Rattle.std.specs.Prelude.{◌≡◌, ◌==◌, ◌<◌, ◌≤◌, ◌&&◌, ◌++◌, ℕ, Bool, not, true, List, [], bytes_eq, count_by, filter, get_or, length, map, take}
 use Rattle.std.specs.List.{All, flat_map, list_any, range_with_len, sum_by}
 
 -- what is said of the record at an index; nothing is said of one that is left out

@@ -1,6 +1,5 @@
 pub mod Report
 pub mod Lines
-pub mod Shown
 pub mod Made
 pub mod Kinds
 pub mod Counted

@@ -3,6 +3,7 @@
 use Rattle.std.specs.Prelude.{◌+◌, ◌++◌, ℕ, List, [], ◌∷◌, map, slice_get, unwrap_or}
 use Rattle.std.specs.List.{flat_map}
 use Rattle.ll_trace.specs.declared.op.Record.{Record}
+use Rattle.ll_report.specs.declared.report.Report.{Report}
 
 -- a row is what is shown of a record, which may be nothing
 pub record Made : Type 0 where
@@ -30,3 +31,12 @@ rows_of row index (r ∷ others) = row index r ∷ rows_of row (index + 1) other
 -- the row at an index, or the last lines where there are fewer rows
 abbrev pub part_at : Made → ℕ → List ℕ
 part_at made index = unwrap_or (slice_get made.shown index) made.last
+
+-- what a report tells: its text, and how many records are refused
+pub record Told : Type 0 where
+  pub text : List ℕ
+  pub refused : ℕ
+
+-- by a report whose bytes are there
+abbrev pub told_by : Report → Told
+told_by report = record { text = report.bytes.items; refused = report.refused }

@@ -2,7 +2,7 @@
 -- version.
 -- Source: docs/FORMATS.md, "The report", "Explanations", "Several versions" and "Kinds".
 use Rattle.std.specs.Prelude.{◌+◌, ◌&&◌, ◌||◌, ◌++◌, ℕ, Bool, not, List, [], ◌∷◌, codes, count_by, decimal, if◌then◌else◌, length, map, nat_lt}
-use Rattle.std.specs.List.{list_any, range_with_len}
+use Rattle.std.specs.List.{flat_map, list_any, range_with_len}
 use Rattle.ll_trace.specs.declared.op.Record.{Record}
 use Rattle.ll_report.specs.declared.options.Shown.{Shown}
 use Rattle.ll_trace.specs.Operations.{op_name}
@@ -13,7 +13,6 @@ use Rattle.ll_report.specs.Lines.{verdict_of}
 use Rattle.ll_report.specs.Kinds.{kinds_text}
 use Rattle.ll_report.specs.Made.{line_numbers, rows_of}
 use Rattle.ll_report.specs.Report.{Verdict, counts_text, is_allowed, is_moot, is_refused, record_text, verdict_text}
-use Rattle.ll_report.specs.Shown.{behind_line}
 use Rattle.ll_report.specs.Spans.{agree, versions_text}
 
 -- how the report tells of the record of a line
@@ -40,6 +39,10 @@ abbrev pub is_row_left_out : Shown → List Found → ℕ → Bool
 is_row_left_out shown founds index =
     (shown.refused_alone && not (is_refused_under_some founds index)) || (shown.differing_alone && agree (answers_said founds index))
 
+-- what is behind a line: the explanation, where explanations are shown
+abbrev pub behind_line : Bool → List ℕ → List ℕ
+behind_line explanations explanation = if explanations then explanation else []
+
 -- What is shown of the record at an index, of which the report tells so: nothing, or its line and what is behind it.
 abbrev pub row_text : Shown → ℕ → List Found → ℕ → List ℕ → List ℕ
 row_text shown oldest founds index told =
@@ -47,11 +50,9 @@ row_text shown oldest founds index told =
     else told ++ versions_text Answers oldest (answers_said founds index) ++ codes "\n"
     ++ behind_line shown.explanations (versions_text Explanations oldest (explanations_said founds index))
 
--- what is shown of records, the first of which is at an index of the trace
-unfoldable pub rows_from : Shown → ℕ → List Found → ℕ → List Record → List ℕ
-rows_from shown oldest founds index [] = []
-rows_from shown oldest founds index (r ∷ others) =
-    row_text shown oldest founds index (told_of r) ++ rows_from shown oldest founds (index + 1) others
+-- what is shown of each record, or said of it from its operation on, where kinds are shown
+abbrev pub rows_shown : Shown → ℕ → List Found → List Record → List (List ℕ)
+rows_shown shown oldest founds records = rows_of (λ index r. row_text shown oldest founds index (told_as shown.kinds r)) 0 records
 
 -- how many answers a test of their verdicts holds for
 abbrev pub count_under : (Verdict → Bool) → Found → ℕ
@@ -82,11 +83,7 @@ totals_text oldest founds = totals_from (are_several founds) oldest founds
 
 -- ---- by kind
 
--- what is said of each record, from its operation on
-abbrev pub said_of : Shown → ℕ → List Found → List Record → List (List ℕ)
-said_of shown oldest founds records = rows_of (λ index r. row_text shown oldest founds index (call_text r.op)) 0 records
-
--- what is before that on the line of a kind: how many records are of it, and the line of the first
+-- what is before what is said on the line of a kind: how many records are of it, and the line of the first
 abbrev pub kind_head : ℕ → ℕ → List ℕ
 kind_head records line = decimal records ++ codes " " ++ decimal line ++ codes " "
 
@@ -95,7 +92,8 @@ kind_head records line = decimal records ++ codes " " ++ decimal line ++ codes "
 -- what is shown of records, or of their kinds
 abbrev pub shown_text : Shown → ℕ → List Found → List Record → List ℕ
 shown_text shown oldest founds records =
-    if shown.kinds then kinds_text kind_head (line_numbers records) (said_of shown oldest founds records) else rows_from shown oldest founds 0 records
+    if shown.kinds then kinds_text kind_head (line_numbers records) (rows_shown shown oldest founds records)
+    else flat_map (λ row. row) (rows_shown shown oldest founds records)
 
 -- the report over versions of which the oldest has this number
 abbrev pub rows_text : Shown → ℕ → List Found → List Record → List ℕ

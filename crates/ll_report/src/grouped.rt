@@ -5,6 +5,7 @@ ghost use Rattle.ll_explain.specs.Buffers.{adding};
 ghost use Rattle.ll_report.specs.Counted.{counts_of, grouped};
 ghost use Rattle.ll_report.specs.Made.{row_at};
 
+use crate::formed::{FormedRows, RowForm};
 use crate::kinds::counts_of;
 use crate::made::Rows;
 use crate::pages::TooLong;
@@ -12,42 +13,25 @@ use ll_explain::TextBuffer;
 use std::alloc::{AllocError, Global};
 use std::marker::Model;
 
-/// Rows that can be shown by kind.
-pub trait KindRows: Rows {
-    ghost use Rattle.std.specs.Prelude.{List, ℕ};
-
-    // What is before a kind's row: how many records are of the kind, and the line of the first.
-    ghost head: { ℕ → ℕ → List ℕ };
-
-    /// The line of the record at an index.
-    fn line(&self, index: usize) -> u64
-        requires { index < length (Self.made_of self.now).shown }
-        ensures { result ≡ get_or (Self.made_of self.now).lines index 0 };
-
-    /// Adds what is before a kind's row.
-    fn push_head(text: &mut TextBuffer, records: u64, line: u64)
-        ensures { text.new ≡ adding text.old (head records line) };
-}
-
 /// Rows as they are, or by kind: then a kind's row stands where its first record has its own.
 #[derive(Drop)]
-pub struct Grouped<R: KindRows> {
-    rows: R,
+pub struct Grouped<F: RowForm> {
+    rows: FormedRows<F>,
     /// Of each record how many are of its kind, if it is the first of these, and else 0.
     counts: Option<Vec<u64>>,
 }
 
-impl<R: KindRows> Model for Grouped<R> {
+impl<F: RowForm> Model for Grouped<F> {
     ghost use Rattle.std.specs.Prelude.{◌≡◌, IfSome, is_some};
     ghost use Rattle.ll_report.specs.Counted.{counts_of, grouped};
     ghost use Rattle.ll_report.specs.Made.{Made};
 
     ghost Value = { Made };
 
-    ghost view = { λ all. grouped R.head (is_some all.counts) (R.made_of all.rows) };
+    ghost view = { λ all. grouped F.head (is_some all.counts) all.rows };
 
     ghost invariant = { λ all.
-        IfSome all.counts (λ counts. counts.items ≡ counts_of (R.made_of all.rows).shown) };
+        IfSome all.counts (λ counts. counts.items ≡ counts_of all.rows.shown) };
 }
 
 /// Of each record how many are of its kind, where rows are shown by kind.
@@ -68,17 +52,21 @@ fn counts_if<R: Rows>(
     Ok(Some(counts))
 }
 
-impl<R: KindRows + Drop> Grouped<R> {
+impl<F: RowForm + Drop> Grouped<F> {
     /// Rows as they are, or by kind.
-    pub fn of(alloc: Global, mut rows: R, kinds: bool) -> Result<Grouped<R>, AllocError>
-        ensures { IfOk result (λ all. all ≡ grouped R.head kinds (R.made_of rows)) }
+    pub(crate) fn of(
+        alloc: Global,
+        mut rows: FormedRows<F>,
+        kinds: bool,
+    ) -> Result<Grouped<F>, AllocError>
+        ensures { IfOk result (λ all. all ≡ grouped F.head kinds rows) }
     {
         let counts = counts_if(alloc, &mut rows, kinds)?;
         Ok(Grouped { rows, counts })
     }
 }
 
-impl<R: KindRows> Rows for Grouped<R> {
+impl<F: RowForm> Rows for Grouped<F> {
     ghost made_of = { λ made. made };
 
     fn count(&self) -> usize {
@@ -94,7 +82,7 @@ impl<R: KindRows> Rows for Grouped<R> {
         if records == 0 {
             return Ok(());
         }
-        R::push_head(text, records, self.rows.line(index));
+        F::push_head(text, records, self.rows.line(index));
         self.rows.push_row(text, index)?;
         Ok(())
     }

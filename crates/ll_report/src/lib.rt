@@ -4,6 +4,7 @@
 mod audited;
 mod calls;
 mod findings_at;
+mod formed;
 mod grouped;
 mod kinds;
 mod laws;
@@ -23,7 +24,8 @@ mod writing;
 pub use audited::Audited;
 pub use calls::Named;
 pub use findings_at::FindingsAt;
-pub use grouped::{Grouped, KindRows};
+pub use formed::{RowForm, report_in};
+pub use grouped::Grouped;
 pub use laws::{
     empty_report, findings_say_what_is_found, kinds_part_the_records,
     spans_give_back_what_was_said, worked_kinds,
@@ -36,7 +38,7 @@ pub use pages::{Pages, TooLong};
 pub use printer::{FindingAt, InWords, Printer, Verdicts};
 pub use report::{Report, Totals};
 pub use row_report::RowReport;
-pub use rows::{is_left_out, refused_under_some};
+pub use rows::{Row, is_left_out};
 pub use spans::Form;
 pub use version_rows::{VersionRows, report_over};
 pub use writing::{write_texts, write_whole};

@@ -73,8 +73,23 @@ impl Pages {
         if row.find_alike::<P>(one, other) {
             return Ok(true);
         }
-        let same = are_texts_same::<P>(&mut self.first, &mut self.second, row, one, other)?;
-        Ok(same)
+        let Pages { first, second } = self;
+        let room = first.room();
+        let mut skip = 0usize;
+        loop {
+            put_page::<P>(first, row, one, skip);
+            put_page::<P>(second, row, other, skip);
+            if first.held() != second.held() {
+                return Ok(false);
+            }
+            if first.held().len() < room {
+                return Ok(true);
+            }
+            let Some(next) = skip.checked_add(room) else {
+                return Err(TooLong);
+            };
+            skip = next;
+        }
     }
 
     /// Whether nothing is printed under a version.
@@ -96,39 +111,4 @@ fn put_page<P: Printer>(page: &mut TextBuffer, row: &FindingsAt<'_>, version: us
 {
     page.restart(skip);
     row.print::<P>(page, version);
-}
-
-/// Whether the same is printed under two versions, by the texts.
-fn are_texts_same<P: Printer>(
-    first: &mut TextBuffer,
-    second: &mut TextBuffer,
-    row: &FindingsAt<'_>,
-    one: usize,
-    other: usize,
-) -> Result<bool, TooLong>
-    requires one { one < length row.now.findings.now }
-    requires other { other < length row.now.findings.now }
-    requires room { 0 < first.old.room }
-    requires rooms { second.old.room ≡ first.old.room }
-    ensures same { IfOk result (λ same. same ≡ bytes_eq (get_or (texts_of P.printed row.now) one [])
-        (get_or (texts_of P.printed row.now) other [])) }
-    ensures first { first.new.room ≡ first.old.room }
-    ensures second { second.new.room ≡ second.old.room }
-{
-    let room = first.room();
-    let mut skip = 0usize;
-    loop {
-        put_page::<P>(first, row, one, skip);
-        put_page::<P>(second, row, other, skip);
-        if first.held() != second.held() {
-            return Ok(false);
-        }
-        if first.held().len() < room {
-            return Ok(true);
-        }
-        let Some(next) = skip.checked_add(room) else {
-            return Err(TooLong);
-        };
-        skip = next;
-    }
 }

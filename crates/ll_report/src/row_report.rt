@@ -2,8 +2,7 @@
 
 ghost use Rattle.std.specs.Prelude.{◌≡◌, IfOk, OnOk};
 ghost use Rattle.std.specs.Io.KnownBytes.{Appends};
-ghost use Rattle.ll_report.specs.{Made.text_of, Report.report_status};
-ghost use Rattle.ll_report.specs.Shown.{told_by};
+ghost use Rattle.ll_report.specs.{Made.text_of, Made.told_by, Report.report_status};
 ghost use Rattle.ll_report.specs.Writing.{AppendsBeginning};
 
 use crate::made::Rows;
@@ -22,7 +21,7 @@ pub struct RowReport<R: Rows> {
 }
 
 impl<R: Rows> Model for RowReport<R> {
-    ghost use Rattle.ll_report.specs.{Made.text_of, Shown.Told};
+    ghost use Rattle.ll_report.specs.Made.{Told, text_of};
 
     ghost Value = { Told };
 

@@ -1,46 +1,35 @@
-//! The report, as rows.
+//! The report as text.
 
 ghost use Rattle.std.specs.Prelude.{◌≡◌, ◌+◌, ◌<◌, ◌^◌, IfOk, length};
 ghost use Rattle.ll_explain.specs.Buffers.{adding};
-ghost use Rattle.ll_report.specs.Rows.{kind_head, refused_under_some, rows_text, total_under_text, totals_from, totals_text};
-ghost use Rattle.ll_report.specs.Versions.{answered, answers_in, founds_in, rows_made};
+ghost use Rattle.ll_report.specs.Rows.{kind_head, refused_under_some, rows_text, told_as, total_under_text, totals_from, totals_text};
+ghost use Rattle.ll_report.specs.Versions.{answered, answers_in, founds_in, row_in_words};
 
 use crate::audited::Audited;
-use crate::findings_at::FindingsAt;
-use crate::grouped::{Grouped, KindRows};
-use crate::made::Rows;
+use crate::calls::push_call;
+use crate::formed::{RowForm, report_in};
+use crate::grouped::Grouped;
 use crate::options::Shown;
 use crate::pages::{Pages, TooLong};
-use crate::report::Totals;
+use crate::printer::{InWords, Verdicts};
+use crate::report::{Totals, push_record};
 use crate::row_report::RowReport;
-use crate::rows::{Row, refused_under_some};
+use crate::rows::Row;
+use crate::spans::Form;
 use ll_explain::{TextBuffer, push_number, push_words};
 use ll_findings::Finding;
+use ll_trace::Record;
 use std::alloc::{AllocError, Global};
-use std::marker::Model;
 
-/// What is shown or, where kinds are shown, said of the records of a trace over versions of which the oldest has this number, by what was found under
-/// each.
-#[derive(Drop)]
-pub struct VersionRows {
-    audited: Audited,
-    shown: Shown,
-    oldest: u64,
-    pages: Pages,
-}
-
-impl Model for VersionRows {
-    ghost use Rattle.std.specs.Prelude.{◌+◌, ◌<◌, ◌^◌, length};
-    ghost use Rattle.ll_report.specs.Made.{Made};
-    ghost use Rattle.ll_report.specs.Versions.{founds_in, rows_made};
-
-    ghost Value = { Made };
-
-    ghost view = { λ rows. rows_made rows.shown rows.oldest (founds_in rows.shown.explanations
-        rows.audited.located.tree rows.audited.located.trace rows.audited.findings)
-        rows.audited.located.trace };
-
-    ghost invariant = { λ rows. rows.oldest + length rows.audited.findings < 2 ^ 64 };
+/// Adds how the report tells of a record: alone, or of its call where kinds are shown.
+fn push_told(text: &mut TextBuffer, kinds: bool, record: &Record)
+    ensures { text.new ≡ adding text.old (told_as kinds «record».now) }
+{
+    if kinds {
+        push_call(text, &record.op);
+    } else {
+        push_record(text, record.line, record.pid, record.op.name());
+    }
 }
 
 /// Adds the last line of a version, with its number if it is one of several.
@@ -64,51 +53,29 @@ fn push_totals_from(text: &mut TextBuffer, are_of_several: bool, oldest: u64, fi
     }
 }
 
-/// Adds the last lines, one a version, of which the oldest has this number.
-fn push_totals(text: &mut TextBuffer, oldest: u64, findings: &[Finding])
-    requires { oldest + length findings.now < 2 ^ 64 }
-    ensures { text.new ≡ adding text.old (totals_text oldest (answers_in findings.now)) }
-{
-    push_totals_from(text, findings.len() > 1, oldest, findings);
-}
+/// The report as text.
+#[derive(Drop)]
+pub struct VersionRows;
 
-impl Rows for VersionRows {
-    ghost made_of = { λ made. made };
+impl RowForm for VersionRows {
+    ghost told = { row_in_words };
 
-    fn count(&self) -> usize {
-        self.audited.count()
-    }
-
-    fn push_row(&mut self, text: &mut TextBuffer, index: usize) -> Result<(), TooLong> {
-        let Audited { located, findings } = &self.audited;
-        let records = located.trace.records();
-        if let Some(record) = records.get(index) {
-            let row = Row {
-                shown: self.shown,
-                oldest: self.oldest,
-                record,
-                found: FindingsAt {
-                    tree: &located.tree,
-                    records,
-                    findings,
-                    index,
-                },
-            };
-            row.push_to(text, &mut self.pages)?;
-        }
-        Ok(())
-    }
-
-    fn push_last(&mut self, text: &mut TextBuffer) {
-        push_totals(text, self.oldest, self.audited.findings.as_slice());
-    }
-}
-
-impl KindRows for VersionRows {
     ghost head = { kind_head };
 
-    fn line(&self, index: usize) -> u64 {
-        self.audited.line(index)
+    ghost last = { λ form oldest findings. totals_text oldest (answers_in findings) };
+
+    /// Adds a record's line, and the explanations if these are shown.
+    fn push_row(text: &mut TextBuffer, pages: &mut Pages, row: &Row<'_>) -> Result<(), TooLong> {
+        push_told(text, row.shown.kinds, row.record);
+        row.found
+            .push_versions::<Verdicts>(text, pages, Form::Answers, row.oldest)?;
+        push_words(text, "\n");
+        if !row.shown.explanations {
+            return Ok(());
+        }
+        row.found
+            .push_versions::<InWords>(text, pages, Form::Explanations, row.oldest)?;
+        Ok(())
     }
 
     fn push_head(text: &mut TextBuffer, records: u64, line: u64) {
@@ -116,6 +83,10 @@ impl KindRows for VersionRows {
         push_words(text, " ");
         push_number(text, line);
         push_words(text, " ");
+    }
+
+    fn push_last(&self, text: &mut TextBuffer, oldest: u64, findings: &[Finding]) {
+        push_totals_from(text, findings.len() > 1, oldest, findings);
     }
 }
 
@@ -135,15 +106,6 @@ pub fn report_over(
         shown.explanations audited.located.tree audited.located.trace audited.findings)
         audited.located.trace) }
 {
-    let refused = refused_under_some(&audited.findings, audited.count());
-    let pages = Pages::new(alloc)?;
-    let rows = VersionRows {
-        audited,
-        shown,
-        oldest,
-        pages,
-    };
-    let rows = Grouped::of(alloc, rows, shown.kinds)?;
-    let report = RowReport::of(alloc, rows, refused)?;
+    let report = report_in(alloc, VersionRows, audited, shown, oldest)?;
     Ok(report)
 }

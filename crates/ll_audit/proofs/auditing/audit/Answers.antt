@@ -4,7 +4,7 @@ use Rattle.ll_report.specs.declared.options.TheConstants.{ALL_LINES}
 use Rattle.ll_report.specs.declared.options.Format.TheVariants.{Text}
 use Rattle.ll_rights.specs.AbiRanges.{Range}
 use Rattle.ll_trace.specs.declared.trace.Effort.TheVariants.{AsRecorded}
-use Rattle.ll_report.specs.Shown.{told_by}
+use Rattle.ll_report.specs.Made.{told_by}
 use Rattle.ll_audit.specs.ShownReports.{IsReportWith}
 use Rattle.ll_audit.proofs.OneReport.{with_all_lines}
 use Rattle.ll_audit.proofs.auditing.audit.Goals as goal

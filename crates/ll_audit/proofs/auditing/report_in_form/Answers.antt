@@ -8,8 +8,7 @@ use Rattle.ll_report.specs.Rows.{refused_under_some, rows_text}
 use Rattle.ll_report.specs.Versions.{founds_in}
 use Rattle.ll_report.specs.declared.options.Format.{Format}
 use Rattle.ll_command.specs.declared.command.TheConstants.{VERSION}
-use Rattle.ll_json.specs.Judged.{AreFound}
-use Rattle.ll_json.specs.Reports.{IsJsonReport}
+use Rattle.ll_json.specs.Reports.{AreFound, IsJsonReport}
 use Rattle.ll_audit.specs.ShownReports.{IsReportIn, findings, versions_by}
 use Rattle.ll_audit.proofs.FoundByVersion.{found_each, same_founds}
 use Rattle.ll_audit.proofs.auditing.report_in_form.Goals as goal

@@ -1,4 +1,4 @@
-use Rattle.ll_report.specs.Shown.{told_by}
+use Rattle.ll_report.specs.Made.{told_by}
 use Rattle.ll_rights.proofs.AbiRanges.{at_least_one}
 use Rattle.ll_audit.proofs.Totals.{one_total_each}
 use Rattle.ll_audit.proofs.laws.reports_have_a_total_for_each_version.Goals as goal

@@ -5,7 +5,7 @@ use Rattle.ll_rights.specs.AbiRanges.{versions_in}
 use Rattle.ll_rights.proofs.AbiRanges.{small_number}
 use Rattle.ll_tree.specs.Trees.{Entry}
 use Rattle.ll_trace.specs.declared.op.Record.{Record}
-use Rattle.ll_json.specs.Judged.{AreFound, IsFound}
+use Rattle.ll_json.specs.Reports.{AreFound, IsFound}
 use Rattle.ll_audit.specs.ShownReports.{version_at, versions_by}
 use Rattle.ll_audit.proofs.VersionByVersion.{few_asked}
 use Rattle.ll_audit.proofs.ranging.audit_all.Goals as goal

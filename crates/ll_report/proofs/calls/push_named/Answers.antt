@@ -1,4 +1,4 @@
-use Rattle.std.proofs.Common.{◌≡◌, ◌∙◌, ◌++◌, ℕ, List, [], ap, append-nil, codes, decimal, sym}
+use Rattle.std.proofs.Common.{◌∙◌, ◌++◌, ℕ, List, [], ap, append-nil, codes, decimal, sym}
 use Rattle.std.specs.List.{flat_map}
 use Rattle.ll_explain.specs.Buffers.{adding}
 use Rattle.ll_explain.proofs.Appending.{appended_2}

@@ -1,4 +1,4 @@
-use Rattle.std.proofs.Common.{◌≡◌, ◌∙◌, List, ℕ, ap, arith}
+use Rattle.std.proofs.Common.{◌∙◌, List, ℕ, ap, arith}
 use Rattle.ll_explain.specs.Buffers.{Buffered, adding}
 use Rattle.ll_report.specs.Made.{Made, row_at}
 use Rattle.ll_report.proofs.WholeRows.{held_again, held_there}

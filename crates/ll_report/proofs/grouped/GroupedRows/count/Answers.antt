@@ -7,4 +7,4 @@ use Rattle.ll_report.proofs.grouped.GroupedRows.count.Goals as goal
 pub returns : goal.returns
 returns g c =
     let all = c.self.inside in
-    c.count.ensures ∙ sym (length-grouped g.R.KindRows.head (is_some all.counts) (g.R.Rows.made_of all.rows)) ∙ ap (λ (m : Made). length m.shown) c.self.view_is
+    c.count.ensures ∙ sym (length-grouped g.F.RowForm.head (is_some all.counts) all.rows) ∙ ap (λ (m : Made). length m.shown) c.self.view_is

@@ -35,23 +35,23 @@ module _ (head : ℕ → ℕ → List ℕ) (made : Made) (counts : Option (Vec �
 pub returns-then-records-eq0-clause-row : goal.returns-then-records-eq0-clause-row
 returns-then-records-eq0-clause-row g c =
     adding_nothing c.args.text.now
-    ∙ ap (adding c.args.text.now) (sym (no_row g.R.KindRows.head (g.R.Rows.made_of c.self.inside.rows) c.self.inside.counts c.args.self.now c.self.view_is
+    ∙ ap (adding c.args.text.now) (sym (no_row g.F.RowForm.head c.self.inside.rows c.self.inside.counts c.args.self.now c.self.view_is
     c.args.index c.requires c.in-Some.counts c.in-Some.is c.self.invariant c.index-records.result.now c.index-records.ensures c.if-records-eq0.true))
 
 pub line-requires : goal.line-requires
 line-requires g c =
-    below g.R.KindRows.head (g.R.Rows.made_of c.self.inside.rows) c.self.inside.counts c.args.self.now c.self.view_is c.args.index c.requires
+    below g.F.RowForm.head c.self.inside.rows c.self.inside.counts c.args.self.now c.self.view_is c.args.index c.requires
 
 pub push_row-requires-2 : goal.push_row-requires-2
 push_row-requires-2 g c =
-    below g.R.KindRows.head (g.R.Rows.made_of c.self.inside.rows) c.self.inside.counts c.args.self.now c.self.view_is c.args.index c.requires
+    below g.F.RowForm.head c.self.inside.rows c.self.inside.counts c.args.self.now c.self.view_is c.args.index c.requires
 
 pub returns-clause-row : goal.returns-clause-row
 returns-clause-row g c =
-    let made : Made = g.R.Rows.made_of c.self.inside.rows in
+    let made : Made = c.self.inside.rows in
     let n : ℕ = c.index-records.result.now in
-    appended_2 c.args.text.now c.push_head.new.text c.push_row-2.new.text (g.R.KindRows.head n c.line.result) (row_at made c.args.index)
+    appended_2 c.args.text.now c.push_head.new.text c.push_row-2.new.text (g.F.RowForm.head n c.line.result) (row_at made c.args.index)
     c.push_head.ensures c.in_ok-push_row-2.ensures.row
-    ∙ ap (λ (line : ℕ). adding c.args.text.now (g.R.KindRows.head n line ++ row_at made c.args.index)) c.line.ensures
-    ∙ ap (adding c.args.text.now) (sym (row g.R.KindRows.head made c.self.inside.counts c.args.self.now c.self.view_is
+    ∙ ap (λ (line : ℕ). adding c.args.text.now (g.F.RowForm.head n line ++ row_at made c.args.index)) c.line.ensures
+    ∙ ap (adding c.args.text.now) (sym (row g.F.RowForm.head made c.self.inside.counts c.args.self.now c.self.view_is
     c.args.index c.requires c.in-Some.counts c.in-Some.is c.self.invariant n c.index-records.ensures c.if-records-eq0.false))

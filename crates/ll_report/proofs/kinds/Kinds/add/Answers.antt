@@ -1,8 +1,6 @@
-use Rattle.std.proofs.Common.{◌≡◌, ◌∙◌, ◌+◌, ◌<◌, ◌≤◌, ℕ, List, Some, None, length, set, get_or, sym, ap, subst, arith}
-use Rattle.std.specs.Prelude.{◌==◌, bytes_eq}
-use Rattle.std.proofs.lemmas.Bool.{eqb-true}
+use Rattle.std.proofs.Common.{◌≡◌, ◌∙◌, ℕ, List, Some, length, sym, ap, arith}
+use Rattle.std.specs.Prelude.{bytes_eq}
 use Rattle.std.proofs.lemmas.List.{get_or_read}
-use Rattle.ll_report.specs.Counted.{AreCounted, IsFirstOf}
 use Rattle.ll_report.proofs.KindsCounted.{as_many, blank_counted, blank_firsts, known, known_below, known_counted, known_few, known_firsts}
 use Rattle.ll_report.proofs.KindsCounted.{new_counted, new_firsts, unseen}
 use Rattle.ll_report.proofs.TextKeys.{at_text, text_added}

@@ -1,6 +1,6 @@
 use Rattle.std.proofs.Common.{codes, decimal}
 use Rattle.ll_explain.proofs.Appending.{appended_4}
-use Rattle.ll_report.proofs.version_rows.VersionRowsKindRows.push_head.Goals as goal
+use Rattle.ll_report.proofs.version_rows.VersionRowsRowForm.push_head.Goals as goal
 
 pub returns : goal.returns
 returns c =

@@ -3,7 +3,7 @@ use Rattle.ll_explain.specs.Buffers.{adding}
 use Rattle.ll_report.specs.Rows.{totals_from}
 use Rattle.ll_report.specs.Versions.{answers_in}
 use Rattle.ll_report.proofs.RowsSaid.{several_alone}
-use Rattle.ll_report.proofs.version_rows.push_totals.Goals as goal
+use Rattle.ll_report.proofs.version_rows.VersionRowsRowForm.push_last.Goals as goal
 
 pub returns : goal.returns
 returns c =
