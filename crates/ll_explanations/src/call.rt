@@ -56,8 +56,8 @@ fn to_move(alloc: Global, ctx: &Confinement, asked: Option<Move>, error: Errno) 
 }
 
 /// What the layers of a process that refuse a call object to. The call's error says what is looked at for a move, and
-/// the numbers of the layers for a call on a descriptor. Its first path leads to this spot. They refuse no call that makes
-/// a ruleset.
+/// the numbers of the layers for a call on a descriptor. Its first path leads to this spot. They refuse no call that
+/// makes a ruleset.
 #[tactic(auto, using(ll_trace::proofs::Places::first_place_inside), unfolding(crate::specs::Asking::objecting, ll_trace::specs::Borrowed::meant))]
 pub(crate) fn objections_to(
     alloc: Global,
