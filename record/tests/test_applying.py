@@ -128,6 +128,7 @@ class Applying(unittest.TestCase):
         made = {"op": "mkdir", "pid": 10, "path": "/usr/new~new~", "shown": "/usr/new", "call": 6, "kernel": "ok"}
         opened = {"op": "open", "pid": 10, "path": "/usr/new/x~new~", "shown": "/usr/new/x", "fd": 3, "mode": "w",
                   "create": True, "call": 7, "kernel": "ok"}
+        removed = {"op": "unlink", "pid": 10, "path": "/usr/new/x", "call": 9, "kernel": "ok"}
         run, away = {**RUN, "path": "/usr/dash", "call": 8}, {"op": "rename", "pid": 10, "call": 9, "kernel": "ok"}
         for trace, found in (
             ([made, opened, run], both),
@@ -138,7 +139,10 @@ class Applying(unittest.TestCase):
             ([made, opened, run, made], set()),
             ([made, {**opened, "unknown": "made or there before"}, run], {"/usr/new"}),
             ([{**made, "kernel": "EACCES"}, opened, run], set()),
-            ([made, opened, {"op": "unlink", "pid": 10, "path": "/usr/new/x", "kernel": "ok"}, run], {"/usr/new"}),
+            ([made, opened, removed, run], {"/usr/new"}),
+            ([made, opened, run, removed], both),
+            ([made, opened, run, removed, run], {"/usr/new"}),
+            ([made, opened, run, {**away, "from": "/usr/new/x", "to": "/usr/y~new~"}], {"/usr/new"}),
             ([made, opened, run, {**away, "from": "/usr/ls", "to": "/usr/new/x"}], {"/usr/new"}),
             ([made, opened, {**away, "from": "/usr/new", "to": "/var~new~", "shown_to": "/var"}, run], set()),
             ([made, opened, run, {**away, "from": "/x", "to": "/usr"}], set()),

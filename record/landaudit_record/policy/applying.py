@@ -62,8 +62,8 @@ class Plan:
     since they repeat for a process what it had when it ran a program. `rs` is a ruleset number that the trace never
     uses, `lines` the number of its lines, and `programs` the programs that it runs. `own` has what its rulesets handle.
     Before a named program, `gone` has the names that the trace takes from objects, or gives to others in their place,
-    before it runs, and `all_gone` all of these. `put` has how often it gives a name at a real path, `put_before` the paths
-    at which it does so before it runs the program for the first time.
+    before it runs, and `all_gone` all of these. `put` has how often it gives a name at a real path or moves what is there,
+    `put_before` the paths at which it does so before it runs the program for the first time.
     """
 
     before: dict[int, int]
@@ -194,11 +194,13 @@ class _Planning:
 
 
 def _given(record: Record) -> dict[str, int]:
-    """The real paths at which a record gives an object a name; twice if it is not known, or an exchange."""
+    """The real paths at which a record gives an object a name, or takes it to give it another one; twice if it is not
+    known, or an exchange.
+    """
     if record["op"] not in _GIVING and not record.get("create"):
         return {}
     names = [("to", "shown_to")] if record["op"] in MOVES else [("path", "shown")]
-    names += [("from", "shown")] if record.get("exchange") else []
+    names += [("from", "shown")] if record["op"] == "rename" else []
     times = 2 if record.get("exchange") or any(one in record for one in IN_DOUBT) else 1
     return {record.get(shown) or record[name]: times for name, shown in names}
 
@@ -271,13 +273,18 @@ def moved(policy: Policy, tree: Tree, plans: Sequence[Plan], *, in_order: bool =
 
     A sandboxer that runs the program puts the rule on the other one.
     """
+    gone = _gone(plans) if in_order else set[str]().union(*(one.all_gone for one in plans))
+    ways = ((it.written, (it.written, it.led.path, *it.led.links)) for it in parents.each(policy, tree))
+    return tuple(dict.fromkeys(written for written, way in ways if any(not gone.isdisjoint(upwards(on)) for on in way)))
+
+
+def _gone(plans: Sequence[Plan]) -> set[str]:
+    """The names that the parts of a trace take from objects before the named program runs for the last time."""
     gone, earlier = set[str](), set[str]()
     for one in plans:
         gone |= one.gone | earlier if one.times else set()
         earlier |= one.all_gone
-    gone = gone if in_order else earlier
-    ways = ((it.written, (it.written, it.led.path, *it.led.links)) for it in parents.each(policy, tree))
-    return tuple(dict.fromkeys(written for written, way in ways if any(not gone.isdisjoint(upwards(on)) for on in way)))
+    return gone
 
 
 def made_before(tree: Tree, plans: Sequence[Plan]) -> frozenset[str]:
@@ -287,7 +294,7 @@ def made_before(tree: Tree, plans: Sequence[Plan]) -> frozenset[str]:
     first = next((number for number, one in enumerate(plans) if one.times), 0)
     before = {path for one in plans[:first] for path in one.put} | plans[first].put_before
     put = sum((Counter(one.put) for one in plans), Counter[str]())
-    gone = frozenset[str]().union(*(one.all_gone for one in plans))
+    gone = _gone(plans)
     return frozenset(path for path in before if tree.put.get(path) == path and tree.kinds[path] != "sym" and all(
         put[tree.real(over)] == (over in tree.made) and over not in gone for over in upwards(path)))
 
