@@ -146,7 +146,8 @@ module _ (abi : Abi) (layer : Layer) (known : files.has (listed for_files layer.
   unfolding fitted_path_rules fitted_path_rule
   paths_valid =
       all_flat (λ numbered. Unit {0}) IsAsked (fitted_path_rule abi layer)
-      (λ numbered there. all_if IsAsked (files.is_empty (rights_at abi layer numbered.1 numbered.1.parent)) _ (λ some. (some, on_within numbered.1 numbered.1.parent)))
+      (λ numbered there. all_if IsAsked (files.is_empty (rights_at abi layer numbered.1 numbered.1.parent)) _
+      (λ some. (some, on_within numbered.1 numbered.1.parent)))
       (enumerate_from 0 layer.path_rules) (λ k d less. tt)
 
 -- ---- rules for ports
