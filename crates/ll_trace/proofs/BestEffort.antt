@@ -105,7 +105,8 @@ module _ (abi : Abi) where
   named-kept [] pid = refl
   named-kept (entry ∷ past) pid = rw (pid_started-kept entry.op entry.pid, named-kept past pid, count-kept past) refl
 
-  twice-kept : (past : List Entry) (started : Option ℕ) → option_map_or (is_live (map entry_kept past)) started false ≡ option_map_or (is_live past) started false
+  twice-kept : (past : List Entry) (started : Option ℕ)
+      → option_map_or (is_live (map entry_kept past)) started false ≡ option_map_or (is_live past) started false
   twice-kept past None = refl
   twice-kept past (Some pid) = is_live-kept past pid
 
