@@ -41,8 +41,9 @@ Together = tuple[str, ...]
 class SetQuestion:
     """A question: what may not pass on an object, at or under some paths or, of `only`, elsewhere, at some ABIs.
 
-    `asked` has rights that may not pass together, `grouped` those that are asked only where an ABI knows them, and
-    `only_later` says that it is about ABIs alone that are judged as the newest of `abis`. `elsewhere` has other paths at which mounts show what is under its paths; of `only`, these are elsewhere too.
+    `asked` has rights that may not pass together, `grouped` those that are asked only where an ABI knows them.
+    `elsewhere` has other paths at which mounts show what is under its paths; of `only`, these are elsewhere too.
+    `only_later` says that each ABI that it is about is later than the newest that is judged.
     """
 
     kind: str

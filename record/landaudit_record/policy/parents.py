@@ -137,9 +137,9 @@ def shown_twice() -> list[tuple[str, str]]:
 
 
 def with_other_names(policy: Policy, paths: Iterable[str], *, among_paths: bool = False) -> list[str]:
-    """The parents, or of the paths those, that are files with names (hard links) beside those of the policy and the paths.
+    """The parents that are files with names (hard links) beside those of the policy and of some paths.
 
-    Paths by which mounts show one name are one.
+    With `among_paths`, the paths that are such files instead. Paths by which mounts show one name count as one name.
     """
     written = dict.fromkeys(it.rstrip("/") or ROOT for layer in policy.layers for rule in layer.path_beneath
                             for it in rule.parents)
