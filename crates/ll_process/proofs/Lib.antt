@@ -5,3 +5,4 @@ pub mod Going
 pub mod Descents
 pub mod Roots
 pub mod Crossing
+pub mod Placing

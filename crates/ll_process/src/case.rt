@@ -5,7 +5,7 @@ ghost use Rattle.std.specs.Option.{option_map};
 ghost use Rattle.ll_process.specs.Cases.{IsCase, case_of};
 ghost use Rattle.ll_trace.specs.{SeenRecords.record_of, declared.reader.TheConstants.MOST_RECORDS};
 ghost use Rattle.ll_trace.specs.declared.op.Record.{Record as OneRecord};
-ghost use Rattle.ll_trace.specs.FirstPlaces.{first_place};
+ghost use Rattle.ll_trace.specs.FirstPlaces.{first_place, first_places, own_of};
 ghost use Rattle.ll_trace.specs.Processes.{process_count, own_records, forked_at};
 
 use crate::settled::Settled;
@@ -156,6 +156,16 @@ impl<'t> Case<'t> {
         ensures case { IsCase self.now }
     {
         self.trace().records_of(process)
+    }
+
+    /// The places of the first paths of a process's own records.
+    pub(crate) fn own_places(&self, process: ProcessId) -> &'t [Place]
+        requires { process.0 < process_count self.now.records }
+        ensures { result.now ≡ own_of (first_places self.now.tree self.now.records)
+            self.now.records process.0 }
+    {
+        let located = self.located;
+        located.places_of(process)
     }
 
     /// The child that the record at an index forks, if it forks one.

@@ -4,7 +4,7 @@ ghost use Rattle.std.specs.Prelude.{◌≡◌, ◌≤◌, ◌<◌, ◌+◌, ◌+
 ghost use Rattle.std.specs.Option.{option_map};
 ghost use Rattle.ll_trace.specs.Processes.{process_count, own_records, forked_at};
 ghost use Rattle.ll_process.specs.{Cases.IsCase, Cases.own_answers, Judging.answer_at, AgreesOnce.MeetsFrom-once};
-ghost use Rattle.ll_process.specs.Own.{IsOwn, Meets, Leaves};
+ghost use Rattle.ll_process.specs.Own.{IsFirstPlace, IsOwn, Meets, Leaves};
 ghost use Rattle.ll_process.specs.Progresses.{answers_from, children_from, MeetsFrom};
 ghost use Rattle.ll_process.specs.Jobs.{HandedOut, KeepsMore};
 
@@ -17,6 +17,7 @@ use crate::walk::answer_own;
 use ll_semantics::Answer;
 use ll_state::OwnState;
 use ll_trace::ProcessId;
+use ll_tree::Place;
 use std::alloc::{AllocError, Global};
 
 /// A process of which some records are judged: what it has by itself, and the answers so far.
@@ -45,6 +46,7 @@ fn judge_record<'c, H: Hand<'c>>(
     case: &'c Case<'c>,
     process: ProcessId,
     index: u32,
+    place: Place,
     may_fork: bool,
     own: &mut OwnState,
     hand: &mut H,
@@ -52,6 +54,7 @@ fn judge_record<'c, H: Hand<'c>>(
     below: &mut u32,
 ) -> Result<Option<Job<'c>>, AllocError>
     requires own { IsOwn case.now index process.0 }
+    requires place { IsFirstPlace case.now index place }
     requires meets { Meets case.now index process.0 own.old }
     requires known { may_fork ≡ false → forked_at case.now.records index ≡ None }
     requires suits { H.suits hand.old case.now }
@@ -70,7 +73,7 @@ fn judge_record<'c, H: Hand<'c>>(
     ensures suits { H.suits hand.new case.now }
     ensures stays { (before : H) → H.stays before hand.old → H.stays before hand.new }
 {
-    let answer = answer_own(case, process, index, own)?;
+    let answer = answer_own(case, process, index, place, own)?;
     answers.push((index, answer))?;
     let child = child_job(case, process, index, may_fork, own)?;
     take_off(case, &child, below);
@@ -150,6 +153,7 @@ impl<'c> Progress<'c> {
             mut below,
         } = self;
         let indices = case.own_records(process);
+        let places = case.own_places(process);
         for next in at..indices.len() {
             let index = indices[next];
             let forks = ahead.may_fork(next);
@@ -157,6 +161,7 @@ impl<'c> Progress<'c> {
                 case,
                 process,
                 index,
+                places[next],
                 forks,
                 &mut own,
                 hand,

@@ -2,18 +2,18 @@
 
 ghost use Rattle.std.specs.Prelude.{◌≡◌, ◌<◌, false, Some, IfOk, OnOk, length, slice_get};
 ghost use Rattle.ll_trace.specs.Borrowed.{is_of_rights};
-ghost use Rattle.ll_trace.specs.{declared.op.Record.Record as OneRecord, FirstPlaces.first_place, SeenRecords.record_of};
+ghost use Rattle.ll_trace.specs.{declared.op.Record.Record as OneRecord, SeenRecords.record_of};
 ghost use Rattle.ll_semantics.specs.declared.answer.RulesetOutcome.{RulesetOutcome as OneOutcome};
 ghost use Rattle.ll_semantics.specs.CallContexts.{CallContext, answer_to, state_then};
 ghost use Rattle.ll_state.specs.Agreement.{IsMet, Agrees};
 ghost use Rattle.ll_semantics.specs.RulesetOutcomes.{OutcomeFits};
 ghost use Rattle.ll_process.specs.Judging.{answer_at};
-ghost use Rattle.ll_process.specs.Own.{IsOwn, Meets, Leaves};
+ghost use Rattle.ll_process.specs.Own.{IsFirstPlace, IsOwn, Meets, Leaves};
 
 use crate::case::Case;
 use ll_semantics::{Answer, RulesetOutcome};
 use ll_state::{OwnState, SeenCall};
-use ll_trace::{Call, Op, ProcessId, Seen, SeenRecord};
+use ll_trace::{Call, Op, ProcessId, Seen};
 use ll_tree::Place;
 use std::alloc::AllocError;
 
@@ -51,27 +51,17 @@ fn outcome_of_other(case: &Case<'_>, index: u32, op: &Op) -> RulesetOutcome
     }
 }
 
-/// The place of the first path of a record. A call without a path has none, which isn't looked up.
-#[tactic(auto, unfolding(ll_trace::specs::FirstPlaces::first_place))]
-fn first_place(case: &Case<'_>, index: u32, seen: &SeenRecord<'_>) -> Place
-    requires { slice_get case.now.records index ≡ Some (record_of seen.now) }
-    ensures { result ≡ first_place case.now.tree seen.now.op }
-{
-    if seen.op.names_a_path() {
-        return case.first_place(index as usize);
-    }
-    Place::Nowhere
-}
-
 /// The answer to the record at an index if it meets this.
 fn judge_met(
     case: &Case<'_>,
     process: ProcessId,
     index: u32,
+    place: Place,
     own: &mut OwnState,
 ) -> Result<Answer, AllocError>
     ghost ctx: { CallContext }
     requires own { IsOwn case.now index process.0 }
+    requires place { IsFirstPlace case.now index place }
     requires met { IsMet ctx case.now.tree case.now.layers }
     requires agrees { Agrees ctx.tree ctx.layers own.old ctx.state }
     requires fits { (r : OneRecord) (outcome : OneOutcome) →
@@ -89,7 +79,7 @@ fn judge_met(
         seen: &record.op,
         tree: case.tree(),
         layers: case.layers(),
-        place: first_place(case, index, &record),
+        place,
     };
     own.answer_call(&call, &outcome)
 }
@@ -99,9 +89,11 @@ pub(crate) fn answer_own(
     case: &Case<'_>,
     process: ProcessId,
     index: u32,
+    place: Place,
     own: &mut OwnState,
 ) -> Result<Answer, AllocError>
     requires own { IsOwn case.now index process.0 }
+    requires place { IsFirstPlace case.now index place }
     requires meets { Meets case.now index process.0 own.old }
     ensures answer { IfOk result
         (λ given. given ≡ answer_at case.now.tree case.now.abi case.now.records index) }
@@ -109,6 +101,6 @@ pub(crate) fn answer_own(
 {
     match case.trace().start(index as usize) {
         Some(_) => Ok(Answer::Allowed),
-        None => judge_met(case, process, index, own),
+        None => judge_met(case, process, index, place, own),
     }
 }

@@ -1,9 +1,10 @@
 //! A trace with the places in the tree that its records name.
 
-ghost use Rattle.std.specs.Prelude.{◌≡◌, ◌≤◌, IfOk};
-ghost use Rattle.ll_trace.specs.FirstPlaces.{first_place, first_places};
+ghost use Rattle.std.specs.Prelude.{◌≡◌, ◌≤◌, ◌<◌, IfOk, length, map};
+ghost use Rattle.ll_trace.specs.FirstPlaces.{by_process, first_place, first_places, own_of};
+ghost use Rattle.ll_trace.specs.Processes.{process_count};
 
-use crate::op::Record;
+use crate::op::{ProcessId, Record};
 use crate::trace::Trace;
 use ll_tree::{Place, Tree};
 use rayon::prelude::*;
@@ -14,13 +15,17 @@ use std::thread::Threads;
 const LEAST_PART: usize = 1024;
 
 /// A tree and a trace, with the place of each record's first path in the tree, so that this path is looked up once,
-/// however often the record is judged.
+/// however often the record is judged. A process is judged record after record, while its records lie scattered over
+/// the trace; so the places of its own records stand together too, in their order.
 #[derive(Drop)]
 pub struct Located {
     pub tree: Tree,
     pub trace: Trace,
     pub places: Vec<Place>,
+    pub own: Vec<Vec<Place>>,
     pub ghost are_first: { places.items ≡ first_places tree trace },
+    pub ghost are_own: { map (λ own. own.items) own.items
+        ≡ by_process trace (first_places tree trace) },
 }
 
 impl Located {
@@ -30,10 +35,12 @@ impl Located {
         ensures trace { IfOk result (λ located. located.trace ≡ trace) }
     {
         let places = places_of(alloc, &tree, &trace)?;
+        let own = by_process(alloc, &trace, &places)?;
         Ok(Located {
             tree,
             trace,
             places,
+            own,
         })
     }
 
@@ -53,11 +60,23 @@ impl Located {
             return Located::of(alloc, tree, trace);
         }
         let places = places_by(rt, alloc, &tree, &trace, workers)?;
+        let own = by_process(alloc, &trace, &places)?;
         Ok(Located {
             tree,
             trace,
             places,
+            own,
         })
+    }
+
+    /// The places of the first paths of a process's own records, in their order.
+    pub fn places_of(&self, process: ProcessId) -> &[Place]
+        requires { process.0 < process_count self.now.trace }
+        ensures { result.now ≡ own_of (first_places self.now.tree self.now.trace) self.now.trace
+            process.0 }
+    {
+        let own = &self.own[process.0 as usize];
+        own.as_slice()
     }
 }
 
@@ -93,4 +112,36 @@ fn places_by<R: Threads + Sync>(
         )
         .with_min_len((records.len() / workers).max(LEAST_PART))
         .collect(rt, alloc)
+}
+
+/// Of the places of all records, those of a process's own.
+fn own_places(
+    alloc: Global,
+    trace: &Trace,
+    places: &[Place],
+    process: ProcessId,
+) -> Result<Vec<Place>, AllocError>
+    requires process { process.0 < process_count trace.now }
+    requires all { length places.now ≡ length trace.now }
+    ensures { IfOk result (λ own. own.items ≡ own_of places.now trace.now process.0) }
+{
+    let indices = trace.records_of(process);
+    let mut own = Vec::with_capacity(alloc, indices.len())?;
+    for index in indices {
+        own.push(places[*index as usize])?;
+    }
+    Ok(own)
+}
+
+/// The places of each process's own records.
+fn by_process(alloc: Global, trace: &Trace, places: &[Place]) -> Result<Vec<Vec<Place>>, AllocError>
+    requires { length places.now ≡ length trace.now }
+    ensures { IfOk result (λ all. map (λ own. own.items) all.items
+        ≡ by_process trace.now places.now) }
+{
+    let mut all = Vec::new(alloc);
+    for process in 0..trace.processes() {
+        all.push(own_places(alloc, trace, places, ProcessId(process))?)?;
+    }
+    Ok(all)
 }

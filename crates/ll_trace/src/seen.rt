@@ -1,6 +1,6 @@
 //! Records as they are seen through a kernel. The trace itself stays as it was read.
 
-ghost use Rattle.std.specs.Prelude.{◌≡◌, ◌<◌, ◌≤◌, ◌&&◌, All, IfNone, IfSome, Some, false, is_some, length, option_map, slice_get};
+ghost use Rattle.std.specs.Prelude.{◌≡◌, ◌<◌, ◌≤◌, ◌&&◌, All, IfNone, IfSome, Some, false, length, option_map, slice_get};
 ghost use Rattle.ll_rights.specs.Rights as files;
 ghost use Rattle.ll_rights.specs.NetRights as network;
 ghost use Rattle.ll_trace.specs.declared.op.Op.{Op as Operation};
@@ -11,7 +11,6 @@ ghost use Rattle.ll_trace.specs.declared.reader.TheConstants.{MOST_PROCESSES, MO
 ghost use Rattle.ll_trace.specs.BestEffort.{adds_path, adds_port, at_best_effort, creates};
 ghost use Rattle.ll_trace.specs.Processes.{is_fork, process_count, parent_of, own_records, forked_at};
 ghost use Rattle.ll_trace.specs.Borrowed.{IsTold, meant};
-ghost use Rattle.ll_trace.specs.Operations.{paths_of};
 ghost use Rattle.ll_trace.specs.Taken.{records_taken, taken};
 ghost use Rattle.ll_trace.specs.Traces.{AreRecords};
 
@@ -203,21 +202,6 @@ impl<'t> Seen<'t> {
             | Call::AddPort { .. }
             | Call::LeaveOutPath { .. }
             | Call::LeaveOutPort => None,
-        }
-    }
-
-    /// Whether it names a path.
-    #[tactic(auto, unfolding(crate::specs::Borrowed::meant, crate::specs::Operations::paths_of))]
-    pub fn names_a_path(&self) -> bool
-        ensures { result ≡ is_some (slice_get (paths_of self.now) 0) }
-    {
-        match self.call {
-            Call::Other(op) => op.first_path().is_some(),
-            Call::AddPath { .. } | Call::LeaveOutPath { .. } => true,
-            Call::Create { .. }
-            | Call::CreateEmpty { .. }
-            | Call::AddPort { .. }
-            | Call::LeaveOutPort => false,
         }
     }
 

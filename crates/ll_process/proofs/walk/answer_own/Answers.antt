@@ -7,13 +7,16 @@ pub judge_met-requires : goal.judge_met-requires
 judge_met-requires c = (
   c.requires.own,
   (
-    is_met c.args.case.now c.args.index c.args.process.0 c.trace.ensures.case,
+    c.requires.place,
     (
-      c.requires.meets,
-      λ r outcome there says.
-          outcome_fits c.args.case.now c.args.index c.args.process.0 r outcome c.trace.ensures.case there says
-          (c.in-None.ensures.none r (rw c.trace.ensures.records there))
-          (own_process c.args.case.now c.args.index c.args.process.0 r c.requires.own there),
+      is_met c.args.case.now c.args.index c.args.process.0 c.trace.ensures.case,
+      (
+        c.requires.meets,
+        λ r outcome there says.
+            outcome_fits c.args.case.now c.args.index c.args.process.0 r outcome c.trace.ensures.case there says
+            (c.in-None.ensures.none r (rw c.trace.ensures.records there))
+            (own_process c.args.case.now c.args.index c.args.process.0 r c.requires.own there),
+      ),
     ),
   ),
 )

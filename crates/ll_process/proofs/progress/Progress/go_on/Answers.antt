@@ -5,6 +5,8 @@ use Rattle.std.specs.Option.{is_some, option_map}
 use Rattle.ll_process.specs.declared.job.Job.{Job}
 use Rattle.ll_process.specs.Progresses.{children_from}
 use Rattle.ll_process.proofs.Descents.{keeps_on}
+use Rattle.std.proofs.lemmas.Option.{slice_get_within}
+use Rattle.ll_process.proofs.Placing.{placed_at}
 use Rattle.ll_process.proofs.Going.{index_now, own_now, meets_next, answered_next, shared_next, meets_end, answered_end, handed_from, nothing_back}
 use Rattle.ll_process.proofs.progress.Progress.go_on.Goals as goal
 
@@ -18,8 +20,12 @@ judge_record-requires g c κs =
         own_now c.args.self.case.now c.args.self.process.0 c.loop-next.next c.own_records-indices.result.now c.own_records-indices.ensures.indices
             c.loop-next-test.true,
         (
-          c.loop-next.invariant.going.meets _ now,
-          (λ calm. rw (← c.loop-next.invariant.ahead) (c.may_fork-forks.ensures.known calm _ (rw c.loop-next.invariant.its now)), c.loop-next.invariant.suits),
+          λ r here. rw c.own_places-places.ensures
+              (placed_at c.args.self.case.now c.args.self.process.0 c.loop-next.next _ (slice_get_within _ c.loop-next.next _ now) now _ r here),
+          (
+            c.loop-next.invariant.going.meets _ now,
+            (λ calm. rw (← c.loop-next.invariant.ahead) (c.may_fork-forks.ensures.known calm _ (rw c.loop-next.invariant.its now)), c.loop-next.invariant.suits),
+          ),
         ),
       ),
     )
