@@ -1,4 +1,3 @@
-pub mod Leaves
 pub mod Trailing
 pub mod AtIndices
 pub mod Frozen

@@ -3,10 +3,7 @@
 #![tactic(auto)]
 
 mod domain;
-mod leaf;
-mod openings;
 mod trail;
 
 pub use domain::domain_of;
-pub use openings::Openings;
 pub use trail::{ProcessOrigins, TraceOrigins, same_layers_object_to_the_same};

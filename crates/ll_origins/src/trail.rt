@@ -6,10 +6,9 @@ ghost use Rattle.ll_reasons.specs.Origins.{Origins, Sources, no_origins, no_sour
 ghost use Rattle.ll_origins.specs.CaseTrails.{AreTrailsAt, IsAnswerAt, ObjectToTheSame};
 ghost use Rattle.ll_origins.specs.TraceOrigins.{AreTrails, Follows};
 
-use crate::openings::Openings;
 use ll_process::Case;
 use ll_semantics::Answer;
-use ll_shared::SharedMap;
+use ll_shared::{LowMap, SharedMap};
 use ll_trace::{Call, Op, ProcessId, Seen, changes_nothing};
 use std::alloc::{AllocError, Global};
 
@@ -18,7 +17,7 @@ use std::alloc::{AllocError, Global};
 #[derive(Drop)]
 pub struct ProcessOrigins {
     pub layers: Vec<u32>,
-    pub openings: Openings,
+    pub openings: LowMap<u32>,
     pub rulesets: SharedMap<u32>,
 }
 
@@ -30,7 +29,7 @@ impl ProcessOrigins {
     {
         ProcessOrigins {
             layers: Vec::new(alloc),
-            openings: Openings::new(alloc),
+            openings: LowMap::new(alloc),
             rulesets: SharedMap::new(alloc),
         }
     }
@@ -41,7 +40,7 @@ impl ProcessOrigins {
     {
         Ok(ProcessOrigins {
             layers: self.layers.clone()?,
-            openings: self.openings.again()?,
+            openings: self.openings.clone()?,
             rulesets: self.rulesets.clone()?,
         })
     }
@@ -90,14 +89,16 @@ impl ProcessOrigins {
                 self.rulesets.remove(*rs)?;
             }
             Op::Restrict { .. } => self.restrict(index)?,
-            Op::OpenFile { fd, .. } | Op::Adopt { fd, .. } => {
-                self.openings.put(*fd, Some(index))?;
+            Op::OpenFile { fd, .. } | Op::Adopt { fd, .. } => self.openings.insert(*fd, index)?,
+            Op::Dup { fd, to } => match self.openings.get(*fd) {
+                Some(opening) => self.openings.insert(*to, opening)?,
+                None => {
+                    self.openings.remove(*to)?;
+                }
+            },
+            Op::Close { fd } => {
+                self.openings.remove(*fd)?;
             }
-            Op::Dup { fd, to } => {
-                let opening = self.openings.get(*fd);
-                self.openings.put(*to, opening)?;
-            }
-            Op::Close { fd } => self.openings.put(*fd, None)?,
             Op::Start { .. } | Op::Fork { .. } | Op::Nnp | changes_nothing!() => {}
             Op::Create { .. } | Op::CreateEmpty { .. } | Op::AddPath { .. } | Op::AddPort { .. } =>
                 unreachable!(),

@@ -3,7 +3,7 @@ use denote.Ref.{NamedLft}
 use denote.Param.Send.{IsSend, IsSync, sendable, recorded_send, struct_send}
 use denote.Struct.Declared.{shape}
 use Rattle.std.proofs.Crossing.{crosses}
-use Rattle.ll_shared.proofs.Crossing.{map_send}
+use Rattle.ll_shared.proofs.Crossing.{low_map_send}
 use Rattle.ll_trace.proofs.located.Located.TheSendSync as located
 use Rattle.ll_trace.proofs.op.ProcessId.TheSendSync as process
 use Rattle.ll_rules.proofs.domain.Domain.TheSendSync as domain
@@ -18,7 +18,7 @@ use Rattle.ll_process.specs.contracts.job.Job as Job
 use Rattle.ll_process.specs.contracts.piece.Piece as Piece
 
 own_send : IsSend (OwnState.the_field).row
-own_send = search (domain.the_send, descriptor.the_send, descriptor.the_sync, map_send, sendable) depth 40
+own_send = search (domain.the_send, descriptor.the_send, descriptor.the_sync, low_map_send, sendable) depth 40
 
 -- what is settled may be seen by several threads, and so may a case
 pub settled_sync : IsSync Settled.the_row

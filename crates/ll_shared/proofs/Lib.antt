@@ -3,3 +3,4 @@ pub mod Behind
 pub mod Copies
 pub mod Entries
 pub mod Crossing
+pub mod Leaves

@@ -2,8 +2,11 @@
 //! the map, and a change of one of them copies only the way to its key.
 #![tactic(auto)]
 
+mod leaf;
 mod levels;
+mod low_map;
 mod map;
 mod node;
 
+pub use low_map::{LeafMap, LowMap};
 pub use map::SharedMap;

@@ -2,7 +2,7 @@
 -- Source: landlock_restrict_self(2); the kernel's userspace document on Landlock, "Inheritance".
 use Rattle.std.specs.Prelude.{◌≡◌, ℕ, Bool, false, not, List, All, Option, Some, None, Result, IfOk, OnOk, OnErr, if◌then◌else◌}
 use Rattle.std.specs.List.{AllZip}
-use Rattle.std.specs.FinMap.{get}
+use Rattle.ll_shared.specs.LowMaps.{value_of}
 use Rattle.ll_tree.specs.Trees.{Entry}
 use Rattle.ll_rules.specs.Layers.{RulesOn, handles_nothing}
 use Rattle.ll_rules.specs.declared.domain.LayerId.{LayerId}
@@ -35,7 +35,7 @@ pub record Agrees (tree : List Entry) (layers : List (RulesOn ℕ)) (own : OwnSt
   pub admin : own.admin ≡ state.admin
   pub indices : IsDomainOf layers own.domain
   pub domain : AllZip SameRules (all_in_tree tree (domain_of layers own.domain)) state.domain
-  pub descriptors : (fd : ℕ) → get own.descriptors fd ≡ state.descriptors fd
+  pub descriptors : (fd : ℕ) → value_of own.descriptors fd ≡ state.descriptors fd
 
 -- a call was judged: its answer, and what is kept of its process then; without memory that is as before
 abbrev pub IsJudged : CallContext → Op → OwnState → Result Answer AllocError → Type 0

@@ -17,7 +17,7 @@ use crate::moves::{link_move, rename_move};
 use ll_rights::Net;
 use ll_rules::{Domain, Layer};
 use ll_semantics::{Answer, Descriptor, RulesetOutcome};
-use ll_shared::SharedMap;
+use ll_shared::LowMap;
 use ll_trace::{Call as Taken, Op, changes_nothing, wants_at_a_path};
 use std::alloc::{AllocError, Global};
 
@@ -28,7 +28,7 @@ pub struct OwnState {
     no_new_privs: bool,
     admin: bool,
     domain: Domain,
-    descriptors: SharedMap<Descriptor>,
+    descriptors: LowMap<Descriptor>,
 }
 
 /// The same domain once more.
@@ -49,7 +49,7 @@ impl OwnState {
             no_new_privs,
             admin,
             domain: Domain::new(),
-            descriptors: SharedMap::new(alloc),
+            descriptors: LowMap::new(alloc),
         }
     }
 

@@ -1,6 +1,7 @@
 //! Calls by which numbers get open, and are closed.
 
-ghost use Rattle.std.specs.{Prelude.{◌≡◌, List, ℕ}, FinMap.get};
+ghost use Rattle.std.specs.Prelude.{◌≡◌, List, ℕ};
+ghost use Rattle.ll_shared.specs.LowMaps.{value_of};
 ghost use Rattle.ll_trace.specs.declared.op.Op.{Op};
 ghost use Rattle.ll_semantics.specs.CallContexts.{CallContext};
 ghost use Rattle.ll_state.specs.Agreement.{IsMet, Agrees, IsJudged};
@@ -16,9 +17,9 @@ use std::alloc::AllocError;
 impl OwnState {
     /// What a number is open on.
     pub(crate) fn descriptor(&self, fd: u64) -> Option<Descriptor>
-        ensures { result ≡ get self.now.descriptors fd }
+        ensures { result ≡ value_of self.now.descriptors fd }
     {
-        self.descriptors.get(fd).copied()
+        self.descriptors.get(fd)
     }
 
     /// open(2), whose number must be free.

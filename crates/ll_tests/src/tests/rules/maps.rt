@@ -1,7 +1,7 @@
-//! The map at small maps whose entries are known. Those without memory hold whichever one request for memory is
+//! The maps at small maps whose entries are known. Those without memory hold whichever one request for memory is
 //! refused.
 
-use ll_shared::SharedMap;
+use ll_shared::{LowMap, SharedMap};
 use std::alloc::Global;
 use std::test::Fail;
 
@@ -96,4 +96,43 @@ fn remove_without_memory(rt: HostRuntime) {
     }
     assert!(rt; are_kept(&map, &[(0, 10)]) && map.get(4).is_none());
     assert!(rt; are_kept(&copy, &[(4, 14)]));
+}
+
+/// Keys at the ends of leaves, the first and the greatest that are in none, with their values.
+const AT_ENDS: [(u64, u8); 6] = [(0, 0), (15, 1), (16, 2), (511, 3), (512, 4), (u64::MAX, 5)];
+
+/// Whether each key has just this value.
+fn are_found(map: &LowMap<u8>, entries: &[(u64, u8)]) -> bool {
+    entries
+        .iter()
+        .all(|(key, value)| map.get(*key) == Some(*value))
+}
+
+/// Removes a low and a high key, and says whether each removal answers the value that was there.
+fn removes_ends(map: &mut LowMap<u8>) -> bool {
+    map.remove(0) == Ok(Some(0))
+        && map.remove(512) == Ok(Some(4))
+        && map.remove(0) == Ok(None)
+        && map.remove(300) == Ok(None)
+}
+
+#[test]
+fn a_map_with_low_keys_and_its_clone(rt: HostRuntime) -> Result<(), Fail> {
+    let mut map = LowMap::new(rt.alloc());
+    for (key, value) in &AT_ENDS {
+        map.insert(*key, *value)?;
+    }
+    let mut copy = map.clone()?;
+    copy.insert(15, 10)?;
+    copy.insert(17, 11)?;
+    assert!(rt; removes_ends(&mut copy));
+    assert!(rt;
+        are_found(
+            &copy,
+            &[(15, 10), (16, 2), (17, 11), (511, 3), (u64::MAX, 5)]
+        )
+    );
+    assert!(rt; copy.get(0).is_none() && copy.get(300).is_none() && copy.get(512).is_none());
+    assert!(rt; are_found(&map, &AT_ENDS) && map.get(17).is_none());
+    Ok(())
 }

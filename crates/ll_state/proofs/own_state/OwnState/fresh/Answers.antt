@@ -1,6 +1,5 @@
 -- No layer and no descriptor, as in a state that a trace begins with.
-use Rattle.std.proofs.Common.{refl, arith, nat_cmp}
-use Rattle.std.specs.FinMap.{get-empty}
+use Rattle.std.proofs.Common.{refl, arith}
 use Rattle.ll_semantics.specs.States.{fresh}
 use Rattle.ll_state.proofs.own_state.OwnState.fresh.Goals as goal
 
@@ -11,5 +10,5 @@ returns c = λ tree layers. record {
   admin = refl;
   indices = rw c.new.ensures (λ k d below. absurd (omega arith));
   domain = rw c.new.ensures tt;
-  descriptors = λ fd. rw c.new-2.ensures (get-empty nat_cmp fd);
+  descriptors = c.new-2.ensures;
 }
