@@ -1,3 +1,4 @@
 pub mod Families
 pub mod Left
 pub mod RightByRight
+pub mod FirstSeen

@@ -1,3 +1,4 @@
+pub mod Told
 pub mod Written
 pub mod Fitting
 pub mod Misfits

@@ -5,6 +5,7 @@ ghost use Rattle.ll_fitting.specs.Written.{written};
 ghost use Rattle.ll_fitting.specs.Fitting.{fitted, fitted_layer, fitted_path_rules, fitted_port_rules, handled_at, shown};
 
 use crate::rights::{listed, rights_on, rights_on_port};
+use crate::told::all_told;
 use crate::written::{Access, Layer, Parent};
 use ll_rights::{Abi, Fs, Net, RightSet};
 use std::alloc::{AllocError, Global};
@@ -49,18 +50,14 @@ fn handled_at<S: RightSet>(handled: Access<S>, abi: Abi) -> S
 fn fit_path_rules(alloc: Global, layer: &Layer, abi: Abi) -> Result<Vec<FittedPathRule>, AllocError>
     ensures { IfOk result (λ left. left.items ≡ fitted_path_rules abi (written layer.now)) }
 {
-    let mut left = Vec::new(alloc);
-    for (index, rule) in layer.path_rules.iter().enumerate() {
+    all_told(alloc, &layer.path_rules, |index, rule| {
         let rights = rights_on(layer, abi, *rule);
-        if !rights.is_empty() {
-            left.push(FittedPathRule {
-                rule: index,
-                parent: rule.parent,
-                rights,
-            })?;
-        }
-    }
-    Ok(left)
+        (!rights.is_empty()).then_some(FittedPathRule {
+            rule: index,
+            parent: rule.parent,
+            rights,
+        })
+    })
 }
 
 /// The rules for ports of a layer that are left at a version.
@@ -68,18 +65,14 @@ fn fit_path_rules(alloc: Global, layer: &Layer, abi: Abi) -> Result<Vec<FittedPa
 fn fit_port_rules(alloc: Global, layer: &Layer, abi: Abi) -> Result<Vec<FittedPortRule>, AllocError>
     ensures { IfOk result (λ left. left.items ≡ fitted_port_rules abi (written layer.now)) }
 {
-    let mut left = Vec::new(alloc);
-    for (index, rule) in layer.port_rules.iter().enumerate() {
+    all_told(alloc, &layer.port_rules, |index, rule| {
         let rights = rights_on_port(layer, abi, *rule);
-        if !rights.is_empty() {
-            left.push(FittedPortRule {
-                rule: index,
-                port: rule.port,
-                rights,
-            })?;
-        }
-    }
-    Ok(left)
+        (!rights.is_empty()).then_some(FittedPortRule {
+            rule: index,
+            port: rule.port,
+            rights,
+        })
+    })
 }
 
 /// A layer as it is at a version, where it has an index in its policy.

@@ -6,6 +6,7 @@ mod laws;
 mod policy;
 mod refusing;
 mod rights;
+mod told;
 mod worked;
 mod written;
 

@@ -8,6 +8,7 @@ ghost use Rattle.ll_fitting.specs.Misfits as misfits;
 
 use crate::fitting::{FittedLayer, fit_layers};
 use crate::rights::listed;
+use crate::told::first_told;
 use crate::written::{Access, Layer, PortRule, Scopes};
 use ll_rights::{Abi, LARGEST_PORT, RightSet};
 use std::alloc::{AllocError, Global};
@@ -109,39 +110,33 @@ fn port_rule_misfit(layer: &Layer, rule: PortRule) -> Option<RuleMisfit>
 }
 
 /// The first rule for files of a layer that is wrong.
-#[tactic(auto, unfolding(crate::specs::Misfits::first_of))]
 fn misfit_on_paths(index: usize, layer: &Layer) -> Option<Misfit>
     requires known { misfits.has_other for_files layer.now.handled_files ≡ false }
     ensures { result ≡ misfits.misfit_on_paths index (written layer.now) }
 {
-    for (rule_index, rule) in layer.path_rules.iter().enumerate() {
-        if let Some(misfit) = rule_misfit(layer.handled_files, rule.allowed) {
-            return Some(Misfit::PathRule {
-                layer: index,
-                rule: rule_index,
-                misfit,
-            });
-        }
-    }
-    None
+    first_told(&layer.path_rules, |rule_index, rule| {
+        let misfit = rule_misfit(layer.handled_files, rule.allowed)?;
+        Some(Misfit::PathRule {
+            layer: index,
+            rule: rule_index,
+            misfit,
+        })
+    })
 }
 
 /// The first rule for a port of a layer that is wrong.
-#[tactic(auto, unfolding(crate::specs::Misfits::first_of))]
 fn misfit_on_ports(index: usize, layer: &Layer) -> Option<Misfit>
     requires known { misfits.has_other for_network layer.now.handled_network ≡ false }
     ensures { result ≡ misfits.misfit_on_ports index (written layer.now) }
 {
-    for (rule_index, rule) in layer.port_rules.iter().enumerate() {
-        if let Some(misfit) = port_rule_misfit(layer, *rule) {
-            return Some(Misfit::PortRule {
-                layer: index,
-                rule: rule_index,
-                misfit,
-            });
-        }
-    }
-    None
+    first_told(&layer.port_rules, |rule_index, rule| {
+        let misfit = port_rule_misfit(layer, *rule)?;
+        Some(Misfit::PortRule {
+            layer: index,
+            rule: rule_index,
+            misfit,
+        })
+    })
 }
 
 /// What is wrong with a layer.
@@ -163,16 +158,10 @@ fn layer_misfit(index: usize, layer: &Layer) -> Option<Misfit>
 }
 
 /// The first layer that is wrong.
-#[tactic(auto, unfolding(crate::specs::Misfits::first_of))]
 fn misfit_in(layers: &[Layer]) -> Option<Misfit>
     ensures { result ≡ misfits.misfit_in (map written layers.now) }
 {
-    for (index, layer) in layers.iter().enumerate() {
-        if let Some(misfit) = layer_misfit(index, layer) {
-            return Some(misfit);
-        }
-    }
-    None
+    first_told(layers, |index, layer| layer_misfit(index, layer))
 }
 
 /// What is wrong with layers, if something is.

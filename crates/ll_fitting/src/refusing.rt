@@ -7,6 +7,7 @@ ghost use Rattle.ll_fitting.specs.Taken.{is_refused, refused_in, first_refused};
 
 use crate::fitting::{FittedLayer, FittedPathRule};
 use crate::rights::is_directory;
+use crate::told::first_told;
 use crate::written::Parent;
 use ll_rights::{Fs, RightSet};
 
@@ -48,14 +49,8 @@ fn refused_in(left: &FittedLayer) -> Option<RefusedRule>
 }
 
 /// The first rule of a policy that the kernel refuses. If there is none, nothing of the policy is refused.
-#[tactic(auto, unfolding(crate::specs::Misfits::first_of))]
 pub fn first_refused(layers: &[FittedLayer]) -> Option<RefusedRule>
     ensures { result ≡ first_refused (map shown layers.now) }
 {
-    for left in layers {
-        if let Some(refused) = refused_in(left) {
-            return Some(refused);
-        }
-    }
-    None
+    first_told(layers, |_, left| refused_in(left))
 }
