@@ -13,49 +13,104 @@ use ll_audit::Idle;
 use ll_fixtures::FAMILY;
 use ll_pool::{assemble, judge_alone, run};
 use ll_process::{Answer, Case, Piece};
-use std::alloc::Global;
+use std::alloc::AllocGlobal;
 use std::process::Abort;
 use std::sync::Wait;
 use std::test::Fail;
 use std::thread::Threads;
 
-/// The pieces that workers make, of whom there are one to 64.
-fn made<'c, R: Threads + Wait + Sync>(
-    rt: &R,
-    alloc: Global,
+/// A case to be judged by threads.
+#[derive(Drop)]
+struct Judging<'c, R> {
+    rt: &'c R,
     case: &'c Case<'c>,
-    workers: usize,
-    cut: &[bool],
-) -> Result<Vec<Piece<'c>>, Fail>
-    ensures of_case { IfOk result (λ pieces. ArePiecesOf case.now pieces.items) }
-    ensures each_once { IfOk result (λ pieces. (process : ℕ)
-        → process < process_count case.now.records
-        → times process (processes_in pieces.items) ≡ 1) }
-{
-    Ok(run(rt, alloc, case, workers.max(1).min(64), cut, &Idle)?)
 }
 
-/// How many pieces workers make.
-fn count_of<'c, R: Threads + Wait + Sync>(
-    rt: &R,
-    alloc: Global,
-    case: &'c Case<'c>,
-    workers: usize,
-    cut: &[bool],
-) -> Result<usize, Fail> {
-    Ok(made(rt, alloc, case, workers, cut)?.len())
+impl<'c, R: AllocGlobal + Threads + Wait + Sync> Judging<'c, R> {
+    /// The pieces that workers make, of whom there are one to 64.
+    fn pieces(&self, workers: usize, cut: &[bool]) -> Result<Vec<Piece<'c>>, Fail>
+        ensures of_case { IfOk result (λ pieces. ArePiecesOf self.now.case.now pieces.items) }
+        ensures each_once { IfOk result (λ pieces. (process : ℕ)
+            → process < process_count self.now.case.now.records
+            → times process (processes_in pieces.items) ≡ 1) }
+    {
+        let workers = workers.max(1).min(64);
+        Ok(run(self.rt, self.rt.alloc(), self.case, workers, cut, &Idle)?)
+    }
+
+    /// How many they are.
+    fn count(&self, workers: usize, cut: &[bool]) -> Result<usize, Fail> {
+        Ok(self.pieces(workers, cut)?.len())
+    }
+
+    /// Their answers.
+    fn answers(&self, workers: usize, cut: &[bool]) -> Result<Vec<Answer>, Fail> {
+        let pieces = self.pieces(workers, cut)?;
+        Ok(assemble(self.rt.alloc(), self.case, pieces)?)
+    }
+
+    /// How many pieces one worker makes with a cut, and how many of them have this many processes and one.
+    fn pieces_with(&self, cut: &[bool], many: usize) -> Result<[usize; 3], Fail> {
+        let pieces = self.pieces(1, cut)?;
+        Ok([
+            pieces.len(),
+            pieces_of(&pieces, many),
+            pieces_of(&pieces, 1),
+        ])
+    }
+
+    /// The first number of pieces, of a hundred times, that is another than so many.
+    fn count_unlike(&self, cut: &[bool]) -> Result<Option<usize>, Fail> {
+        for _ in 0..100 {
+            let count = self.count(8, cut)?;
+            if count != cut.len() {
+                return Ok(Some(count));
+            }
+        }
+        Ok(None)
+    }
+
+    /// How many pieces two workers make, how many of the jobs of `first` and of the process after it begin, and how many
+    /// of these wait in vain.
+    fn judged_at_once(&self, first: u32) -> Result<(usize, (u64, u64)), Fail> {
+        let gate = Meeting::of(first, first.saturating_add(1));
+        let pieces = run(self.rt, self.rt.alloc(), self.case, 2, &[true; 3], &gate)?;
+        Ok((pieces.len(), gate.counts()))
+    }
 }
 
-/// The answers of the pieces that workers make.
-fn collected<'c, R: Threads + Wait + Sync>(
-    rt: &R,
-    alloc: Global,
-    case: &'c Case<'c>,
-    workers: usize,
-    cut: &[bool],
-) -> Result<Vec<Answer>, Fail> {
-    let pieces = made(rt, alloc, case, workers, cut)?;
-    Ok(assemble(alloc, case, pieces)?)
+impl<R: AllocGlobal + Threads + Wait + Sync + Abort> Judging<'_, R> {
+    /// The answers of the family are the same for several numbers of workers with a cut.
+    fn expect_family(&self, cut: &[bool]) -> Result<(), Fail> {
+        for workers in [1, 3, 8] {
+            let answers = self.answers(workers, cut)?;
+            expect_answers(self.rt, &answers, FAMILY_ANSWERS);
+        }
+        Ok(())
+    }
+
+    /// One thread gives them too.
+    fn expect_alone(&self) -> Result<(), Fail> {
+        let answers = judge_alone(self.rt.alloc(), self.case)?;
+        expect_answers(self.rt, &answers, FAMILY_ANSWERS);
+        Ok(())
+    }
+
+    /// They are the same by one thread, and with each cut.
+    fn expect_family_with_cuts(&self) -> Result<(), Fail> {
+        self.expect_alone()?;
+        self.expect_family(&[])?;
+        self.expect_family(&EVERY)?;
+        self.expect_family(&EVEN)
+    }
+
+    /// Eight workers make no piece, and collect no answer.
+    fn expect_nothing(&self) -> Result<(), Fail> {
+        let pieces = self.count(8, &[])?;
+        let answers = self.answers(8, &[])?;
+        assert!(self.rt; pieces == 0 && answers.is_empty());
+        Ok(())
+    }
 }
 
 /// How many of the pieces have this many processes.
@@ -72,87 +127,41 @@ const EVEN: [bool; 12] = [
     true, false, true, false, true, false, true, false, true, false, true, false,
 ];
 
-/// The answers of the family are the same for several numbers of workers with a cut.
-fn expect_family<'c, R: Threads + Wait + Sync + Abort>(
-    rt: &R,
-    alloc: Global,
-    case: &'c Case<'c>,
-    cut: &[bool],
-) -> Result<(), Fail> {
-    for workers in [1, 3, 8] {
-        let answers = collected(rt, alloc, case, workers, cut)?;
-        expect_answers(rt, &answers, FAMILY_ANSWERS);
-    }
-    Ok(())
-}
-
-/// One thread gives the answers of the family.
-fn expect_alone<'c>(rt: &impl Abort, alloc: Global, case: &'c Case<'c>) -> Result<(), Fail> {
-    let answers = judge_alone(alloc, case)?;
-    expect_answers(rt, &answers, FAMILY_ANSWERS);
-    Ok(())
-}
-
-/// They are the same by one thread, and with each cut.
-fn expect_family_with_cuts<'c, R: Threads + Wait + Sync + Abort>(
-    rt: &R,
-    alloc: Global,
-    case: &'c Case<'c>,
-) -> Result<(), Fail> {
-    expect_alone(rt, alloc, case)?;
-    expect_family(rt, alloc, case, &[])?;
-    expect_family(rt, alloc, case, &EVERY)?;
-    expect_family(rt, alloc, case, &EVEN)
-}
-
 #[test]
 fn the_answers_are_the_same_by_one_thread_and_for_every_number_of_workers_and_every_cut(
     rt: HostRuntime,
 ) -> Result<(), Fail> {
     let ground = ground_of(rt.alloc(), FAMILY.as_bytes())?;
-    expect_family_with_cuts(&rt, rt.alloc(), &ground.case())
-}
-
-/// How many pieces one worker makes with a cut, and how many of them have this many processes and one.
-fn pieces_with<'c, R: Threads + Wait + Sync>(
-    rt: &R,
-    alloc: Global,
-    case: &'c Case<'c>,
-    cut: &[bool],
-    many: usize,
-) -> Result<[usize; 3], Fail> {
-    let pieces = made(rt, alloc, case, 1, cut)?;
-    Ok([
-        pieces.len(),
-        pieces_of(&pieces, many),
-        pieces_of(&pieces, 1),
-    ])
+    let case = ground.case();
+    Judging {
+        rt: &rt,
+        case: &case,
+    }
+    .expect_family_with_cuts()
 }
 
 #[test]
 fn one_worker_makes_one_piece_of_the_whole_family(rt: HostRuntime) -> Result<(), Fail> {
     let ground = ground_of(rt.alloc(), FAMILY.as_bytes())?;
-    let pieces = pieces_with(&rt, rt.alloc(), &ground.case(), &[], 12)?;
+    let case = ground.case();
+    let pieces = Judging {
+        rt: &rt,
+        case: &case,
+    }
+    .pieces_with(&[], 12)?;
     assert_eq!(rt; pieces, [1, 1, 0]);
-    Ok(())
-}
-
-/// Eight workers make no piece, and collect no answer.
-fn expect_nothing<'c, R: Threads + Wait + Sync + Abort>(
-    rt: &R,
-    alloc: Global,
-    case: &'c Case<'c>,
-) -> Result<(), Fail> {
-    let pieces = count_of(rt, alloc, case, 8, &[])?;
-    let answers = collected(rt, alloc, case, 8, &[])?;
-    assert!(rt; pieces == 0 && answers.is_empty());
     Ok(())
 }
 
 #[test]
 fn an_empty_trace_has_no_answers(rt: HostRuntime) -> Result<(), Fail> {
     let ground = ground_of(rt.alloc(), b"")?;
-    expect_nothing(&rt, rt.alloc(), &ground.case())
+    let case = ground.case();
+    Judging {
+        rt: &rt,
+        case: &case,
+    }
+    .expect_nothing()
 }
 
 /// A process forks 1,100 children, and the one worker is to cut each process off.
@@ -162,21 +171,26 @@ fn children_that_find_the_queue_full_are_judged_with_their_parent(
 ) -> Result<(), Fail> {
     let every = vec![in rt.alloc(); true; 1101]?;
     let ground = ground_with(rt.alloc(), Forks::TheFirst, 1101)?;
-    let pieces = pieces_with(&rt, rt.alloc(), &ground.case(), &every, 77)?;
+    let case = ground.case();
+    let pieces = Judging {
+        rt: &rt,
+        case: &case,
+    }
+    .pieces_with(&every, 77)?;
     assert_eq!(rt; pieces, [1025, 1, 1024]);
     Ok(())
 }
 
 /// How many pieces workers make of so many processes.
-fn count_of_forks<R: Threads + Wait + Sync>(
+fn count_of_forks<R: AllocGlobal + Threads + Wait + Sync>(
     rt: &R,
-    alloc: Global,
     (forks, processes): (Forks, u32),
     workers: usize,
     cut: &[bool],
 ) -> Result<usize, Fail> {
-    let ground = ground_with(alloc, forks, processes)?;
-    count_of(rt, alloc, &ground.case(), workers, cut)
+    let ground = ground_with(rt.alloc(), forks, processes)?;
+    let case = ground.case();
+    Judging { rt, case: &case }.count(workers, cut)
 }
 
 /// A child that is judged apart where the cut says so, more roots than the queue holds, and a long line of descendants,
@@ -191,72 +205,47 @@ fn all_processes_are_judged_in_so_many_pieces(rt: HostRuntime) -> Result<(), Fai
         (Forks::TheOneBefore, 8192, 8, every.as_slice(), 8192),
         (Forks::TheOneBefore, 8192, 8, [].as_slice(), 1),
     ] {
-        let count = count_of_forks(&rt, rt.alloc(), (forks, processes), workers, cut)?;
+        let count = count_of_forks(&rt, (forks, processes), workers, cut)?;
         assert_eq!(rt; count, pieces);
     }
     Ok(())
 }
 
-/// The first number of pieces, of a hundred times, that is another than so many.
-fn count_unlike<'c, R: Threads + Wait + Sync>(
-    rt: &R,
-    alloc: Global,
-    case: &'c Case<'c>,
-    cut: &[bool],
-) -> Result<Option<usize>, Fail> {
-    for _ in 0..100 {
-        let count = count_of(rt, alloc, case, 8, cut)?;
-        if count != cut.len() {
-            return Ok(Some(count));
-        }
-    }
-    Ok(None)
-}
-
-/// The same of a tree of forks that is cut at each of its 1,023 processes.
-fn tree_cut_unlike<R: Threads + Wait + Sync>(rt: &R, alloc: Global) -> Result<Option<usize>, Fail> {
-    let every = vec![in alloc; true; 1023]?;
-    let ground = ground_with(alloc, Forks::TheOneAtHalf, 1023)?;
-    count_unlike(rt, alloc, &ground.case(), &every)
-}
-
+/// A tree of forks is cut at each of its 1,023 processes.
 #[test]
 fn a_tree_of_forks_is_cut_into_single_processes_a_hundred_times(
     rt: HostRuntime,
 ) -> Result<(), Fail> {
-    assert_eq!(rt; tree_cut_unlike(&rt, rt.alloc())?, None);
+    let every = vec![in rt.alloc(); true; 1023]?;
+    let ground = ground_with(rt.alloc(), Forks::TheOneAtHalf, 1023)?;
+    let case = ground.case();
+    assert_eq!(rt;
+        Judging {
+            rt: &rt,
+            case: &case
+        }
+        .count_unlike(&every)?,
+        None
+    );
     Ok(())
 }
 
-/// How many pieces two workers make, how many of the jobs of `first` and of the process after it begin, and how many of
-/// these wait in vain.
-fn judged_at_once<'c, R: Threads + Wait + Sync>(
+/// The same as `judged_at_once` of so many processes.
+fn forks_at_once<R: AllocGlobal + Threads + Wait + Sync>(
     rt: &R,
-    alloc: Global,
-    case: &'c Case<'c>,
-    first: u32,
-) -> Result<(usize, (u64, u64)), Fail> {
-    let gate = Meeting::of(first, first.saturating_add(1));
-    let pieces = run(rt, alloc, case, 2, &[true; 3], &gate)?;
-    Ok((pieces.len(), gate.counts()))
-}
-
-/// The same of so many processes.
-fn forks_at_once<R: Threads + Wait + Sync>(
-    rt: &R,
-    alloc: Global,
     (forks, processes): (Forks, u32),
     first: u32,
 ) -> Result<(usize, (u64, u64)), Fail> {
-    let ground = ground_with(alloc, forks, processes)?;
-    judged_at_once(rt, alloc, &ground.case(), first)
+    let ground = ground_with(rt.alloc(), forks, processes)?;
+    let case = ground.case();
+    Judging { rt, case: &case }.judged_at_once(first)
 }
 
 /// Two roots, and two children of one process, are judged at once.
 #[test]
 fn two_jobs_are_judged_at_once(rt: HostRuntime) -> Result<(), Fail> {
     for (forks, processes, first) in [(Forks::Nobody, 2, 0), (Forks::TheFirst, 3, 1)] {
-        let judged = forks_at_once(&rt, rt.alloc(), (forks, processes), first)?;
+        let judged = forks_at_once(&rt, (forks, processes), first)?;
         assert_eq!(rt; judged, (processes as usize, (2, 0)));
     }
     Ok(())
