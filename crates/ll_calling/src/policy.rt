@@ -7,11 +7,11 @@ ghost use Rattle.ll_fitting.specs.Written.{written};
 ghost use Rattle.ll_calling.specs.PolicyLines as lines;
 
 use crate::access::{access_of, scopes_of};
-use crate::rules::{PortRules, RuleRead, Rules};
+use crate::rules::{RuleRead, port_rule_of, rule_of};
 use ll_fitting::{Access, Layer, PathRule, Policy, PortRule, Scopes};
 use ll_lines::Cause;
 use ll_rights::{Fs, Net};
-use ll_values::{Reader, list_of, value_of};
+use ll_values::{list_of, value_of};
 use serde_json::Value;
 use std::alloc::{AllocError, Global};
 use std::marker::Model;
@@ -47,38 +47,23 @@ pub struct PolicyRead {
     pub policy: Policy,
 }
 
-/// Reads layers.
-struct Layers;
-
-impl Reader for Layers {
-    type Item = LayerRead;
-
-    ghost Seen = { lines.LayerSeen };
-
-    ghost seen = { λ layer. layer };
-
-    ghost seen_in = { λ reader index. lines.layer_in };
-
-    #[tactic(auto, unfolding(crate::specs::PolicyLines::layer_in))]
-    fn read(
-        &self,
-        alloc: Global,
-        _others: &[LayerRead],
-        value: &Value,
-    ) -> Result<LayerRead, Cause> {
-        let handled_files = access_of(value, "handled_access_fs")?;
-        let handled_network = access_of(value, "handled_access_net")?;
-        let rules = list_of(&Rules, alloc, value, "path_beneath")?;
-        let port_rules = list_of(&PortRules, alloc, value, "net_port")?;
-        let scopes = scopes_of(value)?;
-        Ok(LayerRead {
-            handled_files,
-            handled_network,
-            rules,
-            port_rules,
-            scopes,
-        })
-    }
+/// The layer that a value describes.
+#[tactic(auto, unfolding(crate::specs::PolicyLines::layer_in))]
+fn layer_of(alloc: Global, value: &Value) -> Result<LayerRead, Cause>
+    ensures { Gives (λ layer. layer) result (lines.layer_in (view value.now)) }
+{
+    let handled_files = access_of(value, "handled_access_fs")?;
+    let handled_network = access_of(value, "handled_access_net")?;
+    let rules = list_of(alloc, value, "path_beneath", |_, rule| rule_of(alloc, rule))?;
+    let port_rules = list_of(alloc, value, "net_port", |_, rule| port_rule_of(rule))?;
+    let scopes = scopes_of(value)?;
+    Ok(LayerRead {
+        handled_files,
+        handled_network,
+        rules,
+        port_rules,
+        scopes,
+    })
 }
 
 /// Rules without the texts of their paths.
@@ -140,7 +125,7 @@ fn policy_of(alloc: Global, value: &Value) -> Result<PolicyRead, Cause>
     ensures policy { IfOk result (λ read. read.policy
         ≡ map lines.written_in read.layers.items) }
 {
-    let layers = list_of(&Layers, alloc, value, "layer")?;
+    let layers = list_of(alloc, value, "layer", |_, layer| layer_of(alloc, layer))?;
     policy_with(alloc, layers)
 }
 

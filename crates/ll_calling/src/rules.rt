@@ -2,8 +2,7 @@
 
 ghost use Rattle.std.specs.Prelude.{◌≡◌};
 ghost use Rattle.serde_json.specs.View.{view};
-ghost use Rattle.ll_lines.specs.Readers.{Reads};
-ghost use Rattle.ll_fitting.specs.declared.written.PortRule as port_rule;
+ghost use Rattle.ll_lines.specs.Readers.{Gives, Reads};
 ghost use Rattle.ll_calling.specs.PolicyLines as lines;
 
 use crate::access::access_of;
@@ -11,7 +10,7 @@ use ll_fitting::{Access, Parent, PathRule, PortRule};
 use ll_lines::Cause;
 use ll_rights::{Fs, RightSet};
 use ll_tree::kind_of;
-use ll_values::{Reader, number_of, text_in_list, text_of};
+use ll_values::{number_of, text_in_list, text_of};
 use serde_json::Value;
 use std::alloc::Global;
 use std::marker::Model;
@@ -75,52 +74,32 @@ fn allowed_by(included: bool, access: Access<Fs>) -> Access<Fs>
     access
 }
 
-/// Reads rules on paths.
-pub(crate) struct Rules;
-
-impl Reader for Rules {
-    type Item = RuleRead;
-
-    ghost Seen = { lines.RuleSeen };
-
-    ghost seen = { λ rule. rule };
-
-    ghost seen_in = { λ reader index. lines.rule_in };
-
-    #[tactic(auto, unfolding(crate::specs::PolicyLines::rule_in))]
-    fn read(&self, alloc: Global, _others: &[RuleRead], value: &Value) -> Result<RuleRead, Cause> {
-        let access = access_of(value, "allowed_access")?;
-        let path = text_of(value, "parent")?;
-        let parent = parent_of(value)?;
-        let included = included_of(value)?;
-        let path = String::from_str(alloc, path)?;
-        Ok(RuleRead {
-            rule: PathRule {
-                allowed: allowed_by(included, access),
-                parent,
-                included,
-            },
-            path,
-        })
-    }
+/// The rule on a path that a value describes.
+#[tactic(auto, unfolding(crate::specs::PolicyLines::rule_in))]
+pub(crate) fn rule_of(alloc: Global, value: &Value) -> Result<RuleRead, Cause>
+    ensures { Gives (λ rule. rule) result (lines.rule_in (view value.now)) }
+{
+    let access = access_of(value, "allowed_access")?;
+    let path = text_of(value, "parent")?;
+    let parent = parent_of(value)?;
+    let included = included_of(value)?;
+    let path = String::from_str(alloc, path)?;
+    Ok(RuleRead {
+        rule: PathRule {
+            allowed: allowed_by(included, access),
+            parent,
+            included,
+        },
+        path,
+    })
 }
 
-/// Reads rules on ports.
-pub(crate) struct PortRules;
-
-impl Reader for PortRules {
-    type Item = PortRule;
-
-    ghost Seen = { port_rule.PortRule };
-
-    ghost seen = { λ rule. rule };
-
-    ghost seen_in = { λ reader index. lines.port_rule_in };
-
-    #[tactic(auto, unfolding(crate::specs::PolicyLines::port_rule_in))]
-    fn read(&self, _alloc: Global, _others: &[PortRule], value: &Value) -> Result<PortRule, Cause> {
-        let allowed = access_of(value, "allowed_access")?;
-        let port = number_of(value, "port")?;
-        Ok(PortRule { allowed, port })
-    }
+/// The rule on a port that a value describes.
+#[tactic(auto, unfolding(crate::specs::PolicyLines::port_rule_in))]
+pub(crate) fn port_rule_of(value: &Value) -> Result<PortRule, Cause>
+    ensures { Gives (λ rule. rule) result (lines.port_rule_in (view value.now)) }
+{
+    let allowed = access_of(value, "allowed_access")?;
+    let port = number_of(value, "port")?;
+    Ok(PortRule { allowed, port })
 }

@@ -1,7 +1,7 @@
 -- A comparison of two policies, as a line of JSON says it: which objects are files, what each is in, how many ports are
 -- numbered, what is asked, and the layers of both. Rules are on objects and ports by their numbers; what several rules grant on one number is granted there together.
 -- Source: landaudit-rules(1); landlock(7), "Landlock rules".
-use Rattle.std.specs.Prelude.{ℕ, ◌+◌, Bool, true, nat_le, List, [], ◌∷◌, ◌++◌, length, map, replicate, codes, Result, Ok, Err, slice_set, slice_index_or, ok_or, if◌then◌else◌}
+use Rattle.std.specs.Prelude.{ℕ, ◌+◌, Bool, true, nat_le, List, length, map, replicate, codes, Result, Ok, Err, slice_set, slice_index_or, ok_or, if◌then◌else◌}
 use Rattle.serde_json.specs.Data.{Data}
 use Rattle.serde_json.specs.Find.{get}
 use Rattle.ll_rights.specs.declared.fs.Fs.{Fs}

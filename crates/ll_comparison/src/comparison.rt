@@ -1,10 +1,10 @@
 //! A comparison of two policies, as a line says it.
 
-ghost use Rattle.std.specs.Prelude.{◌≡◌, ◌+◌, ℕ, Bool, IfOk, map, false};
+ghost use Rattle.std.specs.Prelude.{◌≡◌, ◌+◌, IfOk, codes, map, false};
 ghost use Rattle.serde_json.specs.View.{view};
 ghost use Rattle.ll_lines.specs.Readers.{Gives, Reads};
 ghost use Rattle.ll_policy.specs.Chains.{is_file_in};
-ghost use Rattle.ll_values.specs.Lists.{place_in, truth_in};
+ghost use Rattle.ll_values.specs.Lists.{list_at, place_in};
 ghost use Rattle.ll_comparison.specs.Comparisons.{LayerSeen, scopes_in, files_at, port_count_at, asked_at, asked_in, layer_in, layers_at, comparison_in, comparison_on, seen, all_seen};
 
 use crate::rules::granted_by_rules;
@@ -12,7 +12,8 @@ use ll_lines::Cause;
 use ll_policy::Layer;
 use ll_rights::Fs;
 use ll_values::{
-    Reader, flag_of, fs_of, list_of, net_of, number_of, place_in_list, truth_in_list, value_of,
+    Sight, flag_of, fs_of, list_of, list_seen_as, net_of, number_of, place_in_list, truth_in_list,
+    value_of,
 };
 use serde_json::Value;
 use std::alloc::Global;
@@ -52,51 +53,27 @@ pub struct Comparison {
     pub new: Vec<Layer>,
 }
 
-/// Reads which objects are files.
-struct Files;
-
-impl Reader for Files {
-    type Item = bool;
-
-    ghost Seen = { Bool };
-
-    ghost seen = { λ is_file. is_file };
-
-    ghost seen_in = { λ reader index. truth_in };
-
-    fn read(&self, _alloc: Global, _others: &[bool], value: &Value) -> Result<bool, Cause> {
-        Ok(truth_in_list(value)?)
-    }
-}
-
-/// Reads what each object after the root is in, which comes before it.
-struct Parents;
-
-impl Reader for Parents {
-    type Item = usize;
-
-    ghost Seen = { ℕ };
-
-    ghost seen = { λ parent. parent };
-
-    ghost seen_in = { λ reader index. place_in (index + 1) };
-
-    fn read(&self, _alloc: Global, others: &[usize], value: &Value) -> Result<usize, Cause> {
-        Ok(place_in_list(others.len() + 1, value)?)
-    }
-}
-
 /// Which objects are files.
 #[tactic(auto, unfolding(crate::specs::Comparisons::files_at))]
 fn files_of(alloc: Global, value: &Value) -> Result<Vec<bool>, Cause>
     ensures files { Gives (λ files. files.items) result (files_at (view value.now)) }
     ensures root { IfOk result (λ files. is_file_in files.items 0 ≡ false) }
 {
-    let files = list_of(&Files, alloc, value, "files")?;
+    let files = list_of(alloc, value, "files", |_, is_file| truth_in_list(is_file))?;
     if files.first().copied().unwrap_or(true) {
         return Err(Cause::Field);
     }
     Ok(files)
+}
+
+/// What each object after the root is in, which comes before it.
+fn parents_of(alloc: Global, value: &Value) -> Result<Vec<usize>, Cause>
+    ensures { Gives (λ parents. parents.items) result
+        (list_at (codes "parents") (λ index. place_in (index + 1)) (view value.now)) }
+{
+    list_of(alloc, value, "parents", |others, parent| {
+        place_in_list(others.len() + 1, parent)
+    })
 }
 
 /// How many ports are numbered.
@@ -149,39 +126,33 @@ fn scopes_of(value: &Value) -> Result<(bool, bool), Cause>
     Ok((sockets, signals))
 }
 
-/// Reads layers with rules on so many objects and ports.
-#[derive(Clone, Copy)]
-struct Layers {
-    objects: usize,
-    ports: usize,
+/// The layer that a value describes, with rules on so many objects and ports.
+#[tactic(auto, unfolding(crate::specs::Comparisons::layer_in))]
+fn layer_of(alloc: Global, objects: usize, ports: usize, value: &Value) -> Result<Layer, Cause>
+    ensures { Gives seen result (layer_in objects ports (view value.now)) }
+{
+    let files = fs_of(value, "fs")?;
+    let network = net_of(value)?;
+    let on_objects = granted_by_rules(alloc, objects, "object_rules", "objects", value)?;
+    let on_ports = granted_by_rules(alloc, ports, "port_rules", "ports", value)?;
+    let (abstract_unix_socket, signal) = scopes_of(value)?;
+    Ok(Layer {
+        files,
+        network,
+        on_objects,
+        on_ports,
+        abstract_unix_socket,
+        signal,
+    })
 }
 
-impl Reader for Layers {
-    type Item = Layer;
+/// Layers, as contracts see them.
+struct SeenLayers;
 
+impl Sight<Layer> for SeenLayers {
     ghost Seen = { LayerSeen };
 
     ghost seen = { seen };
-
-    ghost seen_in = { λ reader index. layer_in reader.objects reader.ports };
-
-    #[tactic(auto, unfolding(crate::specs::Comparisons::layer_in))]
-    fn read(&self, alloc: Global, _others: &[Layer], value: &Value) -> Result<Layer, Cause> {
-        let Layers { objects, ports } = *self;
-        let files = fs_of(value, "fs")?;
-        let network = net_of(value)?;
-        let on_objects = granted_by_rules(alloc, objects, "object_rules", "objects", value)?;
-        let on_ports = granted_by_rules(alloc, ports, "port_rules", "ports", value)?;
-        let (abstract_unix_socket, signal) = scopes_of(value)?;
-        Ok(Layer {
-            files,
-            network,
-            on_objects,
-            on_ports,
-            abstract_unix_socket,
-            signal,
-        })
-    }
 }
 
 /// The layers of a policy.
@@ -196,7 +167,9 @@ fn layers_of(
     ensures { Gives (λ layers. map seen layers.items) result
         (layers_at name.now objects ports (view value.now)) }
 {
-    list_of(&Layers { objects, ports }, alloc, value, name)
+    list_seen_as::<SeenLayers, _, _>(alloc, value, name, |_, layer| {
+        layer_of(alloc, objects, ports, layer)
+    })
 }
 
 /// The comparison that a value describes.
@@ -206,7 +179,7 @@ fn comparison_of(alloc: Global, value: &Value) -> Result<Comparison, Cause>
     ensures root { IfOk result (λ comparison. is_file_in comparison.files.items 0 ≡ false) }
 {
     let files = files_of(alloc, value)?;
-    let parents = list_of(&Parents, alloc, value, "parents")?;
+    let parents = parents_of(alloc, value)?;
     let ports = port_count_of(value)?;
     let asked = asked_of(value)?;
     let old = layers_of(alloc, "old", files.len(), ports, value)?;

@@ -1,10 +1,15 @@
 -- The values of a list, read one after another.
 -- Source: docs/FORMATS.md, "Lines" and "What does not read".
-use Rattle.std.specs.Prelude.{ℕ, Bool, nat_lt, List, [], ◌∷◌, ◌++◌, length, option_and_then, ok_or, Result, Ok, Err, if◌then◌else◌}
+use Rattle.std.specs.Prelude.{ℕ, ◌<◌, ◌^◌, Bool, nat_lt, List, [], ◌∷◌, ◌++◌, length, option_and_then, ok_or, Result, Ok, Err, if◌then◌else◌}
+use Rattle.std.specs.Fn.{Shared, AnyResult}
+use denote.Ref.{Bor}
 use Rattle.serde_json.specs.Data.{Data, Items, no_items, item}
+use Rattle.serde_json.specs.View.{view}
+use Rattle.serde_json.specs.declared.value.Value.{Value}
 use Rattle.serde_json.specs.Find.{as_bool, as_number, as_u64}
 use Rattle.ll_lines.specs.declared.fault.Cause.{Cause}
 use Rattle.ll_lines.specs.declared.fault.Cause.TheVariants.{Field}
+use Rattle.ll_lines.specs.Readers.{Gives}
 use Rattle.ll_lines.specs.Members.{items_at, ◌>>=◌}
 
 -- each value taken in after those before it
@@ -35,3 +40,9 @@ place_in bound value = do
 -- true or false in a list
 unfoldable pub truth_in : Data → Result Bool Cause
 truth_in value = ok_or (as_bool value) Field
+
+-- a closure reads a value behind others as a function says: what it read, seen by view, is what is read, unless memory ran out
+abbrev pub ReadsAs : {F T Seen : Type 0} → Shared F (Bor (List T) × (Bor Value × Unit {0})) (Result T Cause) → F → (T → Seen) → (ℕ → Data → Result Seen Cause) → Type 0
+ReadsAs {F} {T} g read seen reads =
+    (others : Bor (List T)) → length others.now < 2 ^ 64 → (value : Bor Value)
+    → AnyResult g read (others, (value, tt)) (λ result. Gives seen result (reads (length others.now) (view value.now)))

@@ -1,76 +1,95 @@
 //! Lists of values that are read one after another.
 
-ghost use Rattle.std.specs.Prelude.{[], map};
+ghost use Rattle.std.specs.Prelude.{ℕ, Result, [], map};
+ghost use Rattle.serde_json.specs.Data.{Data};
 ghost use Rattle.serde_json.specs.View.{view, items_view};
+ghost use Rattle.ll_lines.specs.declared.fault.Cause as cause;
 ghost use Rattle.ll_lines.specs.Readers.{Gives};
-ghost use Rattle.ll_values.specs.Lists.{fold_items, list_at, one_more};
+ghost use Rattle.ll_values.specs.Lists.{fold_items, list_at, one_more, ReadsAs};
 
 use crate::members::items_of;
 use ll_lines::Cause;
 use serde_json::Value;
 use std::alloc::Global;
 
-/// How the values of a list are read.
-pub trait Reader {
-    ghost use Rattle.std.specs.Prelude.{ℕ, Result, length};
-    ghost use Rattle.serde_json.specs.Data.{Data};
-    ghost use Rattle.serde_json.specs.View.{view};
-    ghost use Rattle.ll_lines.specs.declared.fault.Cause as cause;
-    ghost use Rattle.ll_lines.specs.Readers.{Gives};
-
-    /// What a value is read as.
-    type Item: Drop;
-
-    // What is seen of it.
+/// How contracts see what is read.
+pub trait Sight<T> {
     ghost Seen: { Type 0 };
 
-    ghost seen: { Self.Item → Seen };
-    // What is seen of a value behind so many others.
-    ghost seen_in: { Self → ℕ → Data → Result Seen cause.Cause };
+    ghost seen: { T → Seen };
+}
 
-    /// Reads the value behind some others.
-    fn read(&self, alloc: Global, others: &[Self::Item], value: &Value) -> Result<Self::Item, Cause>
-        ensures { Gives seen result (seen_in self.now (length others.now) (view value.now)) };
+/// As it is.
+struct AsItIs;
+
+impl<T> Sight<T> for AsItIs {
+    ghost Seen = { T };
+
+    ghost seen = { λ item. item };
 }
 
 /// Takes in what is read from one value more.
-fn take<R: Reader>(
-    reader: &R,
-    alloc: Global,
-    all: &mut Vec<R::Item>,
+fn take<S: Sight<T>, T: Drop, F: Fn(&[T], &Value) -> Result<T, Cause>>(
+    read: &F,
+    all: &mut Vec<T>,
     value: &Value,
 ) -> Result<(), Cause>
-    ensures { Gives (λ _. map R.seen all.new.items) result
-        (one_more (R.seen_in reader.now) (map R.seen all.old.items) (view value.now)) }
+    requires { F.IsAlwaysCallable read.now }
+    ensures { (reads : ℕ → Data → Result S.Seen cause.Cause)
+        → ReadsAs F.Fn read.now S.seen reads
+        → Gives (λ _. map S.seen all.new.items) result
+        (one_more reads (map S.seen all.old.items) (view value.now)) }
 {
-    let one = reader.read(alloc, all, value)?;
+    let one = read(all, value)?;
     all.push(one)?;
     Ok(())
 }
 
 /// What is read from each of some values.
-#[tactic(auto, using(crate::proofs::Folds::fold_fault, crate::proofs::Folds::fold_end))]
-fn all_in<R: Reader>(reader: &R, alloc: Global, values: &[Value]) -> Result<Vec<R::Item>, Cause>
-    ensures { Gives (λ all. map R.seen all.items) result
-        (fold_items (one_more (R.seen_in reader.now)) [] (items_view values.now)) }
+fn all_in<S: Sight<T>, T: Drop, F: Fn(&[T], &Value) -> Result<T, Cause>>(
+    alloc: Global,
+    values: &[Value],
+    read: F,
+) -> Result<Vec<T>, Cause>
+    requires { F.IsAlwaysCallable read }
+    ensures { (reads : ℕ → Data → Result S.Seen cause.Cause)
+        → ReadsAs F.Fn read S.seen reads
+        → Gives (λ all. map S.seen all.items) result
+        (fold_items (one_more reads) [] (items_view values.now)) }
 {
     let mut all = Vec::new(alloc);
     for value in values {
-        take(reader, alloc, &mut all, value)?;
+        take::<S, T, F>(&read, &mut all, value)?;
     }
     Ok(all)
 }
 
-/// What is read from the values of a member that is a list.
-pub fn list_of<R: Reader>(
-    reader: &R,
+/// What is read from the values of a member that is a list. Each is read behind others.
+pub fn list_seen_as<S: Sight<T>, T: Drop, F: Fn(&[T], &Value) -> Result<T, Cause>>(
     alloc: Global,
     value: &Value,
     name: &str,
-) -> Result<Vec<R::Item>, Cause>
-    ensures { Gives (λ all. map R.seen all.items) result
-        (list_at name.now (R.seen_in reader.now) (view value.now)) }
+    read: F,
+) -> Result<Vec<T>, Cause>
+    requires { F.IsAlwaysCallable read }
+    ensures { (reads : ℕ → Data → Result S.Seen cause.Cause)
+        → ReadsAs F.Fn read S.seen reads
+        → Gives (λ all. map S.seen all.items) result (list_at name.now reads (view value.now)) }
 {
     let values = items_of(value, name)?;
-    all_in(reader, alloc, values)
+    all_in::<S, T, F>(alloc, values, read)
+}
+
+/// The same where what is read is seen as it is.
+pub fn list_of<T: Drop, F: Fn(&[T], &Value) -> Result<T, Cause>>(
+    alloc: Global,
+    value: &Value,
+    name: &str,
+    read: F,
+) -> Result<Vec<T>, Cause>
+    requires { F.IsAlwaysCallable read }
+    ensures { (reads : ℕ → Data → Result T cause.Cause) → ReadsAs F.Fn read (λ item. item) reads
+        → Gives (λ all. all.items) result (list_at name.now reads (view value.now)) }
+{
+    list_seen_as::<AsItIs, T, F>(alloc, value, name, read)
 }
