@@ -12,8 +12,8 @@ use ll_lines::Cause;
 use ll_policy::Layer;
 use ll_rights::Fs;
 use ll_values::{
-    Sight, flag_of, fs_of, list_of, list_seen_as, net_of, number_of, place_in_list, truth_in_list,
-    value_of,
+    Sight, all_in, flag_of, fs_of, items_of, list_of, net_of, number_of, place_in_list,
+    truth_in_list, value_of,
 };
 use serde_json::Value;
 use std::alloc::Global;
@@ -167,7 +167,8 @@ fn layers_of(
     ensures { Gives (λ layers. map seen layers.items) result
         (layers_at name.now objects ports (view value.now)) }
 {
-    list_seen_as::<SeenLayers, _, _>(alloc, value, name, |_, layer| {
+    let values = items_of(value, name)?;
+    all_in::<SeenLayers, _, _>(alloc, values, |_, layer| {
         layer_of(alloc, objects, ports, layer)
     })
 }

@@ -45,8 +45,8 @@ fn take<S: Sight<T>, T: Drop, F: Fn(&[T], &Value) -> Result<T, Cause>>(
     Ok(())
 }
 
-/// What is read from each of some values.
-fn all_in<S: Sight<T>, T: Drop, F: Fn(&[T], &Value) -> Result<T, Cause>>(
+/// What is read from each of some values, each behind those before it.
+pub fn all_in<S: Sight<T>, T: Drop, F: Fn(&[T], &Value) -> Result<T, Cause>>(
     alloc: Global,
     values: &[Value],
     read: F,
@@ -64,23 +64,7 @@ fn all_in<S: Sight<T>, T: Drop, F: Fn(&[T], &Value) -> Result<T, Cause>>(
     Ok(all)
 }
 
-/// What is read from the values of a member that is a list. Each is read behind others.
-pub fn list_seen_as<S: Sight<T>, T: Drop, F: Fn(&[T], &Value) -> Result<T, Cause>>(
-    alloc: Global,
-    value: &Value,
-    name: &str,
-    read: F,
-) -> Result<Vec<T>, Cause>
-    requires { F.IsAlwaysCallable read }
-    ensures { (reads : ℕ → Data → Result S.Seen cause.Cause)
-        → ReadsAs F.Fn read S.seen reads
-        → Gives (λ all. map S.seen all.items) result (list_at name.now reads (view value.now)) }
-{
-    let values = items_of(value, name)?;
-    all_in::<S, T, F>(alloc, values, read)
-}
-
-/// The same where what is read is seen as it is.
+/// What is read from the values of a member that is a list, where it is seen as it is.
 pub fn list_of<T: Drop, F: Fn(&[T], &Value) -> Result<T, Cause>>(
     alloc: Global,
     value: &Value,
@@ -91,5 +75,6 @@ pub fn list_of<T: Drop, F: Fn(&[T], &Value) -> Result<T, Cause>>(
     ensures { (reads : ℕ → Data → Result T cause.Cause) → ReadsAs F.Fn read (λ item. item) reads
         → Gives (λ all. all.items) result (list_at name.now reads (view value.now)) }
 {
-    list_seen_as::<AsItIs, T, F>(alloc, value, name, read)
+    let values = items_of(value, name)?;
+    all_in::<AsItIs, T, F>(alloc, values, read)
 }
