@@ -11,6 +11,7 @@ from pathlib import Path
 
 from landaudit_record.common.rights import ABI_OF_SCOPES
 from landaudit_record.policy import landlock_calls
+from landaudit_record.recorder import disk
 
 from .calling import InFolder
 from .live_actor import CONFINER, PYTHON, RECORDER, wanting
@@ -268,3 +269,23 @@ parent = ["/usr", "/lib64", "@/link"]
         self.assertEqual(ran.stdout, "read\n", ran.stderr)
         status = self.said("env", "-C", "/usr", PYTHON, CONFINER, "check", policy, self.policy("cases", NOTHING)).returncode
         self.assertEqual(status, 5)
+
+    def test_scripts_that_scripts_run(self) -> None:
+        """The loader of the fifth program behind `#!` is asked about too, by `check`, by a recording, and by the kernel."""
+        program, loader = os.path.realpath("/bin/true"), disk.interpreter(os.path.realpath("/bin/true")) or ""
+        named = program
+        scripts = [self.folder / str(number) for number in range(5)]
+        for script in reversed(scripts):
+            script.write_text(f"#!{named}\n")
+            script.chmod(0o755)
+            named = str(script)
+        self.recorded(named)
+        for granted, status in ((True, 0), (False, 1)):
+            parents = [*map(str, scripts), program, *([os.path.realpath(loader)] if granted else [])]
+            policy = self.policy("policy", f"""[[layer]]\nhandled_access_fs = ["execute"]
+[[layer.path_beneath]]\nallowed_access = ["execute"]\nparent = {json.dumps(parents)}\n""")
+            case = self.policy("cases", f'[[allowed]]\ncall = "exec"\npath = "{named}"\n')
+            with self.subTest(granted):
+                self.assertEqual(self.under(policy, named).returncode == 0, granted)
+                self.assertEqual(self.said(PYTHON, CONFINER, "check", policy, case).returncode, status)
+                self.assertEqual(self.audited(policy)[0], status)

@@ -5,11 +5,14 @@ from __future__ import annotations
 import os
 import tempfile
 import unittest
+from dataclasses import replace
 from pathlib import Path
 
 from landaudit_record.common.problems import UNREADABLE, Problem
-from landaudit_record.policy import cases
+from landaudit_record.policy import cases, running
 from landaudit_record.policy.cases import Cases
+from landaudit_record.policy.running import Running
+from landaudit_record.recorder.formats import Format
 
 
 RUNNING = [{"op": "open", "path": "@/file", "mode": "r"}, {"op": "close"}, {"op": "exec", "path": "@/file"}]
@@ -64,6 +67,68 @@ class Reading(unittest.TestCase):
         files = ["@/script", shell, os.path.realpath(f"/lib{loader}")]
         self.assertEqual([it["path"] for it in asked if it["op"] == "exec"], files)
         self.assertEqual([it["path"] for it in asked if it["op"] == "open"], files)
+
+    def test_scripts_that_scripts_run(self) -> None:
+        """Linux 6.18 runs five programs behind `#!`, and asks about the loader of the fifth; with six it says ELOOP."""
+        shell = os.path.realpath("/bin/sh")
+        runs = self.run_by("/bin/sh")
+        self.assertEqual(len(runs.files), 2, "the shell has a loader")
+        for most, unknown in ((5, None), (6, f"{shell} is run by more programs than the kernel follows (ELOOP)")):
+            named = "/bin/sh"
+            scripts = [f"{self.folder}/{most}-{number}" for number in range(most)]
+            for script in reversed(scripts):
+                Path(script).write_text(f"#!{named}\n")
+                named = script
+            found = self.run_by(named)
+            with self.subTest(most):
+                loader = runs.files[1:] if unknown is None else ()
+                self.assertEqual((found.files, found.unknown), ((*scripts, shell, *loader), unknown))
+
+    def run_by(self, path: str) -> Running:
+        """What the kernel opens to run a file."""
+        return running.running(os.path.realpath(path), path, [])
+
+    def test_what_runs_a_script_may_be_unknown(self) -> None:
+        """An interpreter is looked up from the caller's working directory, by links, and must be there (execve(2))."""
+        os.symlink("loop", self.folder / "loop")
+        os.symlink("/proc/self/exe", self.folder / "own")
+        for named, why in (
+            ("bin/sh", "names bin/sh, which is looked up from the working directory of the caller"),
+            ("@/none", "names @/none, which is no file that is known on this machine"),
+            ("@/file/x", "names @/file/x, which is no file that is known on this machine"),
+            ("@/dir", "names @/dir, which is no file that is known on this machine"),
+            ("@/own", "names @/own, which is no file that is known on this machine"),
+            ("@/loop", "names @/loop, which is a loop of symbolic links"),
+        ):
+            (self.folder / "script").write_text(f"#!{named}\n".replace("@", str(self.folder)))
+            found = self.run_by(f"{self.folder}/script")
+            with self.subTest(named):
+                self.assertEqual(found.files, (f"{self.folder}/script",))
+                self.assertEqual((found.unknown or "").replace(str(self.folder), "@"), f"@/script {why}")
+
+    def test_an_interpreter_by_a_link(self) -> None:
+        os.symlink("dir/shell", self.folder / "to-shell")
+        (self.folder / "dir/shell").touch()
+        (self.folder / "script").write_text(f"#!{self.folder}/to-shell\n")
+        found = self.run_by(f"{self.folder}/script")
+        self.assertEqual(found.files, (f"{self.folder}/script", f"{self.folder}/dir/shell"))
+
+    def test_a_file_that_may_be_of_a_format(self) -> None:
+        """The kernel runs a file by a format of binfmt_misc, if it knows one, and then the interpreter of that format."""
+        text, shell = f"{self.folder}/text", os.path.realpath("/bin/sh")
+        Path(text).write_text("TOYX")
+        by = Format("toy", shell, magic=b"TOYX".hex())
+        loader = self.run_by(shell).files[1:]
+        self.assertEqual(running.running(text, text, []).files, (text,))
+        self.assertIsNone(running.running(text, text, []).unknown)
+        self.assertEqual(running.running(text, text, [by]).files, (text, shell, *loader))
+        self.assertEqual(running.running(text, text, [replace(by, opened=True)]).files, (text, *loader))
+        why = f"{text} is run by a format of binfmt_misc or not at all, and they can't be read here"
+        self.assertEqual(running.running(text, text, None).unknown, why)
+
+    def test_a_program_that_is_not_here(self) -> None:
+        (case,) = self.read('[[allowed]]\ncall = "exec"\npath = "@/none"\nkind = "reg"').cases
+        self.assertEqual(case.unknown, f"{self.folder}/none can't be read on this machine")
 
     def test_a_loop_of_links(self) -> None:
         os.symlink("loop", self.folder / "loop")

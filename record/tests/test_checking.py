@@ -124,6 +124,20 @@ class Checking(unittest.TestCase):
                  '    - "layer 1: read_file on @/closed/file"', "  ..."]),
         )
 
+    def test_what_runs_a_program_may_be_unknown(self) -> None:
+        """The kernel looks a relative interpreter up from the working directory of the caller, which no case has."""
+        (self.folder / "open/script").write_text("#!closed/file\n")
+        policy = '[[layer]]\nhandled_access_fs = ["execute"]\n[[layer.path_beneath]]\nallowed_access = ["execute"]\nparent = "@/open"'
+        case = '[[{}]]\ncall = "exec"\npath = "@/open/script"\n'
+        status, lines, errors = self.checked(case.format("allowed"), policy)
+        self.assertEqual((status, lines[2]), (NOT_ALL_JUDGED, "ok 1 - allowed: exec @/open/script"))
+        self.assertIn("exec @/open/script: @/open/script names closed/file, which is looked up from the working directory",
+                      errors)
+        self.assertEqual(self.checked(case.format("refused"), policy)[0], 1)
+        closed = case.format("refused").replace("open", "closed")
+        (self.folder / "closed/script").write_text("#!closed/file\n")
+        self.assertEqual(self.checked(closed, policy)[0], 0)
+
     def test_what_is_allowed_names_the_rule(self) -> None:
         self.assertEqual(
             self.point('[[refused]]\ncall = "open r"\npath = "@/open/file"\n'),

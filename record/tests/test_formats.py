@@ -100,6 +100,8 @@ class Run(WrittenLogs):
         {"path": "/w/x.toy", "kind": "reg", "runs": True},
         {"path": "/w/to-toy", "kind": "reg", "runs": True, "interpreter": "/w/toy"},
         {"path": "/w/runs", "kind": "reg", "runs": True, "interpreter": "/w/loader"},
+        *({"path": f"/w/s{number}", "kind": "reg", "runs": True, "interpreter": f"/w/s{number + 1}"} for number in range(1, 5)),
+        {"path": "/w/s5", "kind": "reg", "runs": True, "interpreter": "/w/runs"},
     ]
     BY: dict[str, Any] = {"name": "toy", "interpreter": "/w/runs", "magic": "544f5958"}
     INTERPRETER = [("open", "/w/runs", "interpreter"), ("exec", "/w/runs", "interpreter")]
@@ -136,6 +138,11 @@ class Run(WrittenLogs):
         self.formats = [self.BY]
         script = [("open", "/w/toy", "interpreter"), ("exec", "/w/toy", "interpreter")]
         self.assertEqual(self.run_by("to-toy"), script + self.INTERPRETER + self.LOADED)
+
+    def test_scripts_that_scripts_run(self) -> None:
+        """Linux 6.18 runs five programs behind `#!`, and asks Landlock about the loader of the fifth."""
+        scripts = [(op, f"/w/s{number}", "interpreter") for number in range(2, 6) for op in ("open", "exec")]
+        self.assertEqual(self.run_by("s1"), scripts + self.INTERPRETER + self.LOADED)
 
     def test_a_format_that_is_not_known(self) -> None:
         for known in (None, [], [{**self.BY, "magic": "00"}]):

@@ -30,9 +30,9 @@ from ..common.resolving import DISK, LinkLoop
 from ..common.rights import judged
 from ..common.trees import ROOT, Tree, directory_of, joined, upwards
 from ..common.variables import NOTHING_GIVEN, Given
-from ..recorder import disk
-from ..recorder.disk import MOST_INTERPRETERS
-from . import over_sets
+from ..recorder import disk, formats
+from ..recorder.formats import Format
+from . import over_sets, running
 from .asking import Question, opening
 from .over_sets import ALL_ABIS as ALL_ABIS
 from .over_sets import abis_of, are_later
@@ -60,7 +60,8 @@ NO_PLACE = "-"
 class Case:
     """One case: whether its call must be refused, at which ABIs, the call and its place in words, and what is asked.
 
-    `only_later` says that it is about ABIs alone that are judged as the newest of these.
+    `only_later` says that it is about ABIs alone that are judged as the newest of these; `unknown` is what may be asked
+    besides, if nobody knows that.
     """
 
     refused: bool
@@ -69,6 +70,7 @@ class Case:
     place: str
     question: Question
     only_later: bool = False
+    unknown: str | None = None
 
     @property
     def must_be(self) -> str:
@@ -81,7 +83,7 @@ class Case:
         return self.call if self.place == NO_PLACE else f"{self.call} {self.place}"
 
 
-def _running(file: str) -> Question:
+def _opened_to_run(file: str) -> Question:
     """What execve(2) asks about a file: the kernel opens it for reading and for execution."""
     return opening(file, "r"), {"op": "close"}, {"op": "exec", "path": file}
 
@@ -101,10 +103,10 @@ def read(path: Path, given: Given = NOTHING_GIVEN) -> Cases:
     """The cases in a file; any error in it is a Problem that names its position and says what would be right."""
     document, place = variables.read(path, given).table, DocumentPlace(path)
     check_keys(document, ("refused", "allowed", *over_sets.KINDS), place)
-    found = Cases(path)
+    found, registered = Cases(path), _registered()
     for key in ("refused", "allowed"):
         for number, table in enumerate(tables(document.get(key, []), key, place), start=1):
-            reader = _CaseReader(found.tree, table, place / Numbered(key, number))
+            reader = _CaseReader(found.tree, table, place / Numbered(key, number), registered)
             found.cases.append(reader.case(refused=key == "refused"))
     found.questions.extend(over_sets.read(document, place))
     if not found.cases and not found.questions:
@@ -112,13 +114,24 @@ def read(path: Path, given: Given = NOTHING_GIVEN) -> Cases:
     return found
 
 
+def _registered() -> list[Format] | None:
+    """The formats of binfmt_misc that this machine has, if they can be read."""
+    found = formats.registered()
+    return None if found is None else [Format(**told) for told in found]
+
+
 @dataclass(frozen=True)
 class _CaseReader:
-    """Reads one case, and lists what it names in the tree."""
+    """Reads one case, and lists what it names in the tree.
+
+    `formats` are those of binfmt_misc, None if they are not known; `unknown` gets what may be asked besides.
+    """
 
     tree: Tree
     table: Mapping[str, Any]
     place: DocumentPlace
+    formats: list[Format] | None
+    unknown: list[str] = field(default_factory=list)
 
     def case(self, *, refused: bool) -> Case:
         """The case."""
@@ -129,7 +142,7 @@ class _CaseReader:
         shown = " -> ".join(str(self.table[key]) for key in members if key in ("path", "from", "to"))
         place = f"port {self.table['port']}" if "port" in members else shown or NO_PLACE
         abis = abis_of(self.table, self.place)
-        return Case(refused, judged(abis), call, place, question, are_later(abis))
+        return Case(refused, judged(abis), call, place, question, are_later(abis), next(iter(self.unknown), None))
 
     def _call(self) -> str:
         call = self.table.get("call")
@@ -180,19 +193,16 @@ class _CaseReader:
         if op == "ioctl":
             return opening(path, words[0]), {"op": op, "driver": True}
         if op == "exec":
-            return tuple(record for file in self._run(path) for record in _running(file))
+            return tuple(record for file in self._run(path) for record in _opened_to_run(file))
         return ({"op": op, "path": path},)
 
-    def _run(self, path: str) -> Iterator[str]:
+    def _run(self, path: str) -> tuple[str, ...]:
         """The file that execve(2) runs, and those that run it: the programs after `#!`, and the loader."""
-        for _ in range(MOST_INTERPRETERS + 1):
-            yield path
-            named = disk.interpreter(path)
-            path = "" if named is None or not named.startswith("/") else resolving.walked(named, DISK).path
-            seen = disk.look(path) if path else None
-            if seen is None:
-                return
-            self._list(path, seen.kind, "path")
+        found = running.running(path, self.table["path"], self.formats)
+        for file in found.files[1:]:
+            self._list(file, "reg", "path")
+        self.unknown.extend([found.unknown] if found.unknown is not None else [])
+        return found.files
 
     def _move(self, op: str) -> Question:
         moved = self._there("from", "kind", follows=False)

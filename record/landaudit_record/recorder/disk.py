@@ -153,7 +153,8 @@ def _libc() -> ctypes.CDLL:
     return ctypes.CDLL(None, use_errno=True)
 
 
-#: The kernel follows this many interpreters of interpreters (execve(2)).
+#: So many programs may run one another behind `#!` until one is a program of the machine, which may have a loader:
+#: with one more the kernel says ELOOP (tried on 6.18).
 MOST_INTERPRETERS = 5
 
 

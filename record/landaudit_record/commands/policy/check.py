@@ -76,7 +76,11 @@ def run(arguments: argparse.Namespace) -> int:
     of_refusal = bool(given.questions) or any(case.refused for case in given.cases)
     if of_refusal and varying:
         note([f"NOT ALL IS ASKED: {some_of(varying)} leads elsewhere for each process: name what it leads to"], POLICIES)
-    is_whole = not (unasked or reached) and not (of_refusal and varying)
+    in_doubt = [one.case for one in checked.outcomes if one.case.unknown is not None and not one.case.refused]
+    if in_doubt:
+        told = "; ".join(f"{case.text}: {case.unknown}" for case in in_doubt)
+        note([f"NOT ALL IS ASKED: not known what else is run: {told}"], POLICIES)
+    is_whole = not (unasked or reached or in_doubt) and not (of_refusal and varying)
     return 1 if checked.failed else 0 if is_whole else NOT_ALL_JUDGED
 
 

@@ -109,7 +109,7 @@ def _interpreters(scene: Scene, thread: Thread, call: Call, program: Spot) -> li
     if call.error in BEFORE_INTERPRETERS or (call.error == "ENOENT" and _is_inaccessible(thread, call)):
         return found
     spot, called = program, _called(call)
-    for _ in range(MOST_INTERPRETERS):
+    for _ in range(MOST_INTERPRETERS + 1):
         how = scene.names.program(spot.real)
         of = formats.first_of(scene.disk.formats, called, how.head)
         called = of.interpreter if of is not None else _named(scene, thread, call, how)
