@@ -6,15 +6,17 @@ import errno
 import json
 import os
 import re
+import shutil
 import subprocess
 import tempfile
 import unittest
 from pathlib import Path
 
+from landaudit_record.common.problems import NOT_ALL_JUDGED
 from landaudit_record.common.rights import ABI_OF_SCOPES, NET
 from landaudit_record.policy import landlock_calls
 
-from .live_actor import CONFINER, PYTHON, RECORDER, wanting
+from .live_actor import CONFINER, NOBODY, PYTHON, RECORDER, wanting
 
 READ_SYSTEM = """[[layer]]
 handled_access_fs = ["all"]
@@ -23,6 +25,8 @@ handled_access_net = ["all"]
 allowed_access = ["read", "execute"]
 parent = ["/usr", "/lib", "/lib64", "/bin", "/proc", "/etc/ld.so.cache"]
 """
+#: Where programs and what they need may be.
+SYSTEM = ("/usr", "/lib", "/lib64", "/bin", "/proc", "/etc", "/dev", "/sys")
 #: What a program inherits: signals that are ignored, its environment, its open descriptors and its own status.
 INHERITED = "grep SigIgn /proc/self/status; env | grep -v ^_=; ls /proc/self/fd; exit 7"
 
@@ -115,6 +119,35 @@ class LiveConfining(unittest.TestCase):
         said = "".join(found[0] for found in (row, in_common) if found is not None)
         for fact in facts:
             self.assertIn(fact, said)
+
+    def test_what_an_outer_layer_refuses(self) -> None:
+        """The recorder is under a layer, which the log does not show: it may have refused what an audit asks about."""
+        folder = self.folder / "out"
+        folder.mkdir()
+        system = [place for place in SYSTEM if os.path.exists(place)]
+        policy = ('[[layer]]\nhandled_access_fs = ["read_file", "refer"]\n[[layer.path_beneath]]\n'
+                  'allowed_access = ["read_file", "refer"]\nparent = {}\n')
+        self.policy.write_text(policy.format(json.dumps([str(folder), str(CONFINER.parent), *system])))
+        run = self.confined(PYTHON, RECORDER, "run", folder / "rec", "--", "cat", "secret")
+        self.assertEqual((run.returncode, run.stdout), (1, ""), run.stderr)
+        self.policy.write_text(policy.format(json.dumps(system)))
+        audit = self.said(PYTHON, RECORDER, "audit", folder / "rec", "--policy", self.policy, "--abi", "5")
+        self.assertEqual(audit.returncode, NOT_ALL_JUDGED, audit.stdout)
+        self.assertIn("a call that a layer of an unknown ruleset may have refused", audit.stdout)
+
+    def test_modes_that_a_program_changes_after_a_refusal(self) -> None:
+        """What the policy refused is no refusal by the mode that the file has after the run."""
+        if os.geteuid() != 0 or shutil.which("setpriv") is None:
+            self.skipTest("only root can become another user, by setpriv")
+        self.folder.chmod(0o777)
+        (self.folder / "secret").chmod(0o644)
+        os.chown(self.folder / "secret", 65534, 65534)
+        command = ("sh", "-c", "cat secret; chmod 0 secret")
+        words = (*NOBODY, "--inh-caps=-all", PYTHON, RECORDER, "run", "rec", "--policy", self.policy, "--", *command)
+        self.assertIn("cat: secret: Permission denied", self.said(*words).stderr)
+        audit = self.said(PYTHON, RECORDER, "audit", "rec", "--policy", self.policy, "--abi", "5", COLUMNS="200")
+        self.assertEqual(audit.returncode, 1)
+        self.assertIn(f"{self.folder}/secret", audit.stdout)
 
     def test_a_policy_that_does_not_read_leaves_no_recording(self) -> None:
         self.policy.write_text("[[layer]]\n")

@@ -50,6 +50,7 @@ class StraceLines(unittest.TestCase):
     euid: int | None = None
     mounts: list[list[str]] = []
     protected_hardlinks = False
+    under_layer = False
 
     def setUp(self) -> None:
         self.out = Path(self.enterContext(tempfile.TemporaryDirectory()))
@@ -57,7 +58,8 @@ class StraceLines(unittest.TestCase):
     def convert(self, *calls: str) -> list[jsonl.Record]:
         """The records that calls become, without those of the start and of the first program."""
         about = recordings.About(["p"], "/w", 0.0, False, True, {}, errata=self.errata, uid=self.uid, euid=self.euid,
-                                 mounts=self.mounts, protected_hardlinks=self.protected_hardlinks)
+                                 mounts=self.mounts, protected_hardlinks=self.protected_hardlinks,
+                                 confined=self.under_layer)
         if self.watched:
             about.watched.append("/w")
             jsonl.write(self.out / recordings.BEFORE, [line for line in DISK if line["path"].startswith("/w/")])

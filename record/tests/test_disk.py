@@ -10,8 +10,11 @@ import time
 import unittest
 from pathlib import Path
 from struct import pack
+from unittest import mock
 
-from landaudit_record.recorder import disk
+from landaudit_record.commands.record.run import CLOCK_OF_FILES
+from landaudit_record.recorder import disk, mounted
+from landaudit_record.recorder.modes import Mode
 
 from .drawn import by_chance
 
@@ -49,6 +52,62 @@ class Links(unittest.TestCase):
         seen.look(str(self.one))
         seen.keep(kept)
         self.assertEqual(disk.kept(kept, 0.0).look(str(self.one)), disk.look(str(self.one)))
+
+
+class Modes(unittest.TestCase):
+    """A mode says who was refused only if it was the same at the time of the call, and counts (inode(7), acl(5))."""
+
+    def setUp(self) -> None:
+        self.folder = Path(self.enterContext(tempfile.TemporaryDirectory())).resolve()
+        self.file = self.folder / "file"
+        self.file.touch(0o640)
+        time.sleep(0.05)
+        self.since = time.clock_gettime(CLOCK_OF_FILES)
+        self.mounts = mounted.shown()
+
+    def mode(self, path: Path) -> Mode | None:
+        """What a recording that began at the set up finds out after the run."""
+        return disk.Disk(self.since, mounts=self.mounts).mode(str(path))
+
+    def test_what_the_run_did_not_change(self) -> None:
+        self.assertEqual(self.mode(self.file), Mode(0o640, os.geteuid(), os.stat(self.file).st_gid))
+
+    def test_what_the_run_changed(self) -> None:
+        """chmod(2), a file that is put in the place of another one, and a directory on the way that is."""
+        self.file.chmod(0o600)
+        self.assertIsNone(self.mode(self.file))
+
+    def test_what_the_run_put_there(self) -> None:
+        self.file.rename(self.folder / "other")
+        self.assertIsNone(self.mode(self.folder / "other"))
+
+    def test_a_way_that_the_run_changed(self) -> None:
+        (self.folder / "made").touch()
+        self.assertIsNone(self.mode(self.file))
+
+    def test_what_may_be_under_another_mount(self) -> None:
+        for place in (self.folder, self.file, Path("/")):
+            known = [*self.mounts, [str(place), "0:1", "/", "ramfs"]]
+            self.assertIsNone(disk.Disk(self.since, mounts=known).mode(str(self.file)))
+        known = [*self.mounts, [f"{self.file}2", "0:1", "/", "ramfs"]]
+        self.assertIsNotNone(disk.Disk(self.since, mounts=known).mode(str(self.file)))
+
+    def test_a_link(self) -> None:
+        (self.folder / "link").symlink_to("file")
+        self.assertIsNone(disk.mode(str(self.folder / "link")))
+
+    def test_a_list_of_who_may_use_it(self) -> None:
+        """posix_acl_xattr.h: user::rw-, user:65534:rw-, group::---, mask::rw-, other::---."""
+        entries = ((1, 6, 2**32 - 1), (2, 6, 65534), (4, 0, 2**32 - 1), (16, 6, 2**32 - 1), (32, 0, 2**32 - 1))
+        try:
+            os.setxattr(self.file, "system.posix_acl_access", pack("<I", 2) + b"".join(pack("<HHI", *it) for it in entries))
+        except OSError as error:
+            self.skipTest(f"this file system has no ACLs: {error.strerror}")
+        self.assertIsNone(disk.mode(str(self.file)))
+
+    def test_what_a_server_decides(self) -> None:
+        with mock.patch.object(disk, "_file_system", return_value=0x65735546):
+            self.assertIsNone(disk.mode(str(self.file)))
 
 
 @unittest.skipUnless(os.geteuid() == 0, "mounting takes privileges")

@@ -7,7 +7,7 @@ from typing import Any
 
 from landaudit_record.recorder import modes
 from landaudit_record.recorder.modes import READ, RUN, WRITE, Credentials, Mode
-from landaudit_record.recorder.scene import BEFORE_MODES, BY_MODES
+from landaudit_record.recorder.scene import BEFORE_MODES, BY_MODES, BY_UNSEEN_LAYER
 
 from .strace_lines import CONFINED, CWD, StraceLines
 
@@ -83,6 +83,17 @@ class Calls(StraceLines):
         self.assertEqual(self.convert(moved.format(".")), [])
         self.assertEqual(self.convert(moved.format("closed")), [])
         self.assertEqual(self.unsaid(), [BY_MODES])
+
+
+class UnderALayer(StraceLines):
+    """A recorder that is under a layer itself, of which the log has nothing."""
+
+    under_layer = True
+
+    def test_the_layer_may_have_refused_what_ends_in_eacces(self) -> None:
+        self.assertEqual(self.convert(f'openat({CWD}, "f", 0 /* O_RDONLY */) = -1 EACCES (Permission denied)'), [])
+        self.assertEqual(self.unsaid(), [BY_UNSEEN_LAYER])
+        self.assertEqual(self.one(f'openat({CWD}, "f", 0 /* O_RDONLY */) = 3</w/f>')["path"], "/w/f")
 
 
 class Links(StraceLines):
@@ -167,6 +178,18 @@ class Users(StraceLines):
             self.assertTrue(self.judged(losing, self.BECOMES))
         asks = "prctl(0x2f /* PR_CAP_AMBIENT */, 0x1 /* PR_CAP_AMBIENT_IS_SET */, 0, 0, 0) = 0"
         self.assertFalse(self.judged(asks, self.BECOMES))
+
+    def test_each_thread_has_a_user_of_its_own(self) -> None:
+        """credentials(7), "Process: setfsuid(2)": the C library changes the user of other threads by calls of theirs."""
+        opens = f'openat({CWD}, "secret", 0 /* O_RDONLY */) = -1 EACCES (Permission denied)'
+        fork = "clone(child_stack=NULL, flags=0x10f00 /* CLONE_VM|CLONE_FS|CLONE_FILES|CLONE_SIGHAND|CLONE_THREAD */) = 11"
+        trace = self.convert(CONFINED, f"{fork}\n11  setfsuid(65534) = 0\n11  {opens}", opens)
+        self.assertEqual([record["call"] for record in trace if record.get("path") == "/w/secret"], [6])
+        self.assertEqual(self.unsaid(), [BY_MODES])
+
+    def test_another_mount_namespace_has_other_modes(self) -> None:
+        for goes in ("unshare(0x20000 /* CLONE_NEWNS */) = 0", "setns(3<mnt:[4026531841]>, 0x20000 /* CLONE_NEWNS */) = 0"):
+            self.assertTrue(self.judged(goes, self.BECOMES))
 
     def test_a_child_is_of_its_makers_user(self) -> None:
         opens = f'openat({CWD}, "secret", 0 /* O_RDONLY */) = -1 EACCES (Permission denied)'

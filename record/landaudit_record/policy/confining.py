@@ -21,7 +21,7 @@ from ..common.rights import ABI_OF_LOG, FILE_RIGHTS, NET
 from . import fitting
 from . import landlock_calls as landlock
 from .fitting import FittedLayer, FittedPathRule
-from .policies import Policy
+from .policies import MOST_LAYERS, Policy
 
 #: Signals that Python ignores from its start (signal(7)); a program that is run gets them as they were.
 IGNORED_BY_PYTHON = (signal.SIGPIPE, signal.SIGXFSZ)
@@ -107,6 +107,35 @@ def _add(policy: Policy, ruleset: int, where: str, rule: FittedPathRule, place: 
             of_directories = ", ".join(right for right in allowed if right not in FILE_RIGHTS)
             why = f"it is not a directory, and only directories have {of_directories}: leave these out, or name a group"
         raise Problem(f"{policy.path}: {where}: {why}") from error
+
+
+def is_confined() -> bool:
+    """Whether this process is under a layer of Landlock already: then it can get fewer than sixteen more."""
+    try:
+        child = os.fork()
+    except OSError:
+        return False
+    if child == 0:
+        os._exit(_more_layers())
+    _, status = os.waitpid(child, 0)
+    return os.waitstatus_to_exitcode(status) in range(MOST_LAYERS)
+
+
+def _more_layers() -> int:
+    """Puts as many layers on this process as the kernel lets it have, and counts them; more than it can have if the
+    kernel does not say.
+    """
+    try:
+        landlock.set_no_new_privs()
+        ruleset = landlock.create_ruleset(["make_block"])
+        for more in range(MOST_LAYERS):
+            try:
+                landlock.restrict_self(ruleset)
+            except OSError as error:
+                return more if error.errno == errno.E2BIG else MOST_LAYERS + 1
+    except OSError:
+        return MOST_LAYERS + 1
+    return MOST_LAYERS
 
 
 def given_environment() -> Mapping[bytes, bytes]:

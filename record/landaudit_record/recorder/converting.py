@@ -40,7 +40,7 @@ def convert(folder: Path, ports: Ports, limits: Limits = LIMITS) -> Converted:
     about = read_about(folder)
     if about.by == WITNESS:
         return hearing.convert(folder, about, limits)
-    kept = disk.kept(folder / OBJECTS, about.started, about.registered, folder / BESIDE)
+    kept = disk.kept(folder / OBJECTS, about.started, about.registered, folder / BESIDE, about.mounts)
     doubts = Doubts()
     while True:
         found = doubts.size()
@@ -128,8 +128,9 @@ def _started(scene: Scene, about: About, call: Call) -> Thread:
     It is where it is since before this call, whatever call there was before.
     """
     scene.call = None
-    process = Process(call.tid, user=NOBODY_KNOWN if scene.recording.records else about.user)
-    thread = Thread(call.tid, process, Directories("/", "/"))
+    process = Process(call.tid, confined=about.confined, unseen_layer=about.confined)
+    user = NOBODY_KNOWN if scene.recording.records else about.user
+    thread = Thread(call.tid, process, Directories("/", "/"), user=user)
     scene.go_to(thread, about.directory)
     if scene.recording.records:
         process.confined = True

@@ -16,6 +16,8 @@ from sys import maxsize
 from typing import BinaryIO
 
 from ..common import jsonl
+from ..common.trees import upwards
+from . import mounted
 from .formats import HEAD, Format, first_of
 from .modes import Mode
 
@@ -37,6 +39,12 @@ _STATX_BTIME_AT = 80
 _STATFS_SIZE = 256
 _WORD = ctypes.sizeof(ctypes.c_long)
 _OVERLAYFS_SUPER_MAGIC = 0x794C7630
+#: File systems of which a server says who may use what, not the kernel by modes: FUSE, NFS, SMB, 9P, Ceph, AFS, Coda
+#: (statfs(2), linux/magic.h).
+_SERVED = frozenset({0x65735546, 0x6969, 0xFF534D42, 0xFE534D42, 0x517B, 0x01021997, 0x00C36400, 0x5346414F, 0x6B414653,
+                     0x73757245})
+#: The names under which objects have lists of who may use them, besides their modes (acl(5), nfs4_acl(5)).
+_LISTS = frozenset({"system.posix_acl_access", "system.nfs4_acl", "system.richacl"})
 #: A character device 0:0: which kind it is for Landlock the kernel says (docs/SEMANTICS.md, "Whiteouts").
 WHITEOUT = "whiteout"
 
@@ -119,12 +127,23 @@ def _is_new(path: str, since: float) -> bool | None:
 
 
 def mode(path: str) -> Mode | None:
-    """The mode of what a path leads to."""
+    """The mode of the object at a path, if it alone says who may use the object."""
     try:
-        status = os.stat(path)
+        status = os.lstat(path)
+        told_otherwise = _file_system(path) in _SERVED or not _LISTS.isdisjoint(os.listxattr(path, follow_symlinks=False))
     except (OSError, ValueError):
         return None
+    if told_otherwise or stat.S_ISLNK(status.st_mode):
+        return None
     return Mode(stat.S_IMODE(status.st_mode), status.st_uid, status.st_gid)
+
+
+def is_as_before(path: str, since: float) -> bool:
+    """Whether the object at a path has not been changed, moved or put there since a time (inode(7), ctime)."""
+    try:
+        return os.lstat(path).st_ctime < since
+    except (OSError, ValueError):
+        return False
 
 
 def _born(path: str) -> float | None:
@@ -142,10 +161,15 @@ def _born(path: str) -> float | None:
 
 
 def _is_merged(directory: str) -> bool:
-    """Whether a directory is in an overlayfs (statfs(2))."""
+    """Whether a directory is in an overlayfs."""
+    return _file_system(directory) == _OVERLAYFS_SUPER_MAGIC
+
+
+def _file_system(path: str) -> int | None:
+    """The number of the type of the file system of what a path leads to (statfs(2))."""
     buffer = ctypes.create_string_buffer(_STATFS_SIZE)
-    found = _libc().statfs(os.fsencode(directory), buffer) == 0
-    return found and int.from_bytes(buffer.raw[:_WORD], "little") == _OVERLAYFS_SUPER_MAGIC
+    found = _libc().statfs(os.fsencode(path), buffer) == 0
+    return int.from_bytes(buffer.raw[:_WORD], "little") if found else None
 
 
 @cache
@@ -291,7 +315,7 @@ class Disk:
     """The disk as a recording sees it: each answer is kept and used again.
 
     `seen` and `programs` have what was seen while the run went on; what they lack is looked up now, after the run, or
-    is what `kept` and `after` have of that time.
+    is what `kept` and `after` have of that time. `mounts` are those of the beginning of the run.
     """
 
     def __init__(
@@ -304,6 +328,7 @@ class Disk:
         formats: Sequence[Format] = (),
         seen: Mapping[str, Observed] | None = None,
         programs: Mapping[str, list[Program]] | None = None,
+        mounts: Sequence[Sequence[str]] = (),
     ) -> None:
         self._since = since
         self._live = kept is None
@@ -311,6 +336,9 @@ class Disk:
         self._programs = dict(programs or {})
         self._after = dict(after or {})
         self._modes: dict[str, Mode | None] = dict(modes or {})
+        self._mounts = mounts
+        self._as_before: dict[str, bool] = {}
+        self._mounted: tuple[str, ...] | None = None
         self.formats = formats
 
     def observed(self, path: str) -> Observed:
@@ -335,11 +363,28 @@ class Disk:
         return self._after[path]
 
     def mode(self, path: str) -> Mode | None:
-        """The mode of the object that a path leads to, if it still exists."""
+        """The mode of the object at a path, if it is known to have been the same during the whole run."""
         self.look(path)
         if path not in self._modes:
-            self._modes[path] = mode(path) if self._live else None
+            self._modes[path] = mode(path) if self._live and self._stayed(path) else None
         return self._modes[path]
+
+    def _stayed(self, path: str) -> bool:
+        """Whether a path has led to one object since the run began, which has not been changed either."""
+        return not f"{path}/".startswith(self._mounted_since()) and all(map(self._is_as_before, upwards(path)))
+
+    def _is_as_before(self, path: str) -> bool:
+        if path not in self._as_before:
+            self._as_before[path] = is_as_before(path, self._since)
+        return self._as_before[path]
+
+    def _mounted_since(self) -> tuple[str, ...]:
+        """Where other file systems are mounted than when the run began."""
+        if self._mounted is None:
+            before = {tuple(one) for one in self._mounts}
+            changed = before ^ {tuple(one) for one in mounted.shown()}
+            self._mounted = tuple(f"{place.rstrip('/')}/" for place, *_ in changed)
+        return self._mounted
 
     def keep(self, file: Path) -> None:
         """Writes the kept answers, for a later conversion."""
@@ -396,7 +441,13 @@ def write_beside(file: Path, seen: Mapping[str, Observed], programs: Mapping[str
     jsonl.write(file, chain(objects, runs))
 
 
-def kept(file: Path, since: float, formats: Sequence[Format] = (), beside: Path | None = None) -> Disk:
+def kept(
+    file: Path,
+    since: float,
+    formats: Sequence[Format] = (),
+    beside: Path | None = None,
+    mounts: Sequence[Sequence[str]] = (),
+) -> Disk:
     """The disk as an earlier conversion kept it. Where there was none, it is this machine's, and what was seen `beside`
     the run comes before it.
     """
@@ -420,7 +471,8 @@ def kept(file: Path, since: float, formats: Sequence[Format] = (), beside: Path 
         if "mode" in line:
             modes[path] = Mode(*line["mode"])
     run_after = {line["path"]: _program_of(line) for line in lines if line.get("kind") == "reg" and not live}
-    return Disk(since, None if live else after, run_after, modes, formats=formats, seen=seen, programs=programs)
+    known = None if live else after
+    return Disk(since, known, run_after, modes, formats=formats, seen=seen, programs=programs, mounts=mounts)
 
 
 def _seen_of(line: jsonl.Record) -> Seen | None:

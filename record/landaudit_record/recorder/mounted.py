@@ -56,6 +56,11 @@ def mounts(file: Path = MOUNTS, index_default: Path = INDEX_DEFAULT) -> list[Mou
     return [replace(one, kind=INDEXED) if _has_index(one, index_default) else one for one in found]
 
 
+def shown() -> list[list[str]]:
+    """The mounts of this process to which paths lead: of each its place, device, what of the file system it shows, type."""
+    return [[it.place, it.device, it.root, it.kind] for it in mounts() if not it.hidden]
+
+
 def _hidden(found: Sequence[Mount]) -> set[str]:
     """The numbers of the mounts to which no path leads: those on a directory below one that another mount of the same
     parent is over, with all that is mounted in them, and those at whose root another one is mounted."""

@@ -88,8 +88,8 @@ class Process:
 
     `confined` says whether it has a layer, or may have one; `restricted` are the rulesets of its restrictions; `maker`
     is the process that forked it; `threaded` says whether it has or had several threads, `looks` whether it is
-    counted as one that looks at others in /proc; `unseen_layer` says that it has a layer of which nothing is known,
-    `user` as whom it asks for files; `image` is the object that `program` was when it was run.
+    counted as one that looks at others in /proc; `unseen_layer` says that it has a layer of which nothing is known;
+    `image` is the object that `program` was when it was run.
     """
 
     pid: int
@@ -104,7 +104,6 @@ class Process:
     threaded: bool = False
     looks: bool = False
     unseen_layer: bool = False
-    user: User = NOBODY_KNOWN
 
     def holds(self, ruleset: int) -> bool:
         """Whether a descriptor of the process is the ruleset that the trace has under a number."""
@@ -122,7 +121,7 @@ class Process:
 class Thread:
     """A thread: its process, its directories, and how many layers it has put on itself or inherited.
 
-    `forked` is the child that its last call made, if that was a fork.
+    `forked` is the child that its last call made, if that was a fork; `user` is as whom it asks for files.
     """
 
     tid: int
@@ -130,3 +129,4 @@ class Thread:
     directories: Directories
     layers: int = 0
     forked: int | None = None
+    user: User = NOBODY_KNOWN

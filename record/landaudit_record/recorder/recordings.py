@@ -52,7 +52,8 @@ class About:
     systems that were taken from their servers during the run. `too_large` are directories that were to be listed and
     hold too many objects. `machine` tells the machine from others, "" if it is not known. `mounts` are those of the
     command's namespace when the run began, each with its place, its device, the directory of the file system that it
-    shows, and its type. `protected_hardlinks` is what the kernel's setting of this name was.
+    shows, and its type. `protected_hardlinks` is what the kernel's setting of this name was. `confined` says that the
+    command was under a layer from the beginning.
     `by` is the recorder: STRACE or WITNESS.
     """
 
@@ -82,6 +83,7 @@ class About:
     by: str = STRACE
     mounts: list[list[str]] = field(default_factory=list)
     protected_hardlinks: bool = False
+    confined: bool = False
 
     @property
     def untraced(self) -> tuple[str, ...]:

@@ -142,9 +142,9 @@ class Scene:
         self._walked: set[tuple[str, str, str]] = set()
         self._links: ThreadLinks | None = None
 
-    def hides_from(self, process: Process) -> bool:
-        """Whether all of another process in /proc is hidden from a process that may not trace it."""
-        user, group = process.user, self.hides_not_from
+    def hides_from(self, thread: Thread) -> bool:
+        """Whether all of another process in /proc is hidden from a thread that may not trace it."""
+        user, group = thread.user, self.hides_not_from
         return self.hides and not (user.known and group is not None and group in user.groups | {user.gid})
 
     # What is said
@@ -159,7 +159,7 @@ class Scene:
         if thread.layers < len(process.restricted):
             raise CannotSay("a call of a thread with fewer layers than its process")
         if error == "EACCES" and members.get("unknown") != BEFORE_MODES:
-            if self._is_by_modes(process, call, op, members):
+            if self._is_by_modes(thread, call, op, members):
                 raise NotAsked(BY_MODES)
         if process.unseen_layer and error in ERRORS_OF_LAYERS:
             raise CannotSay(BY_UNSEEN_LAYER)
@@ -211,20 +211,20 @@ class Scene:
         is_one = self.names.places.are_one(over, to) if over != to else True
         return not is_one if is_one is not None else not process.confined
 
-    def _is_by_modes(self, process: Process, call: Call, op: str, members: Members) -> bool:
+    def _is_by_modes(self, thread: Thread, call: Call, op: str, members: Members) -> bool:
         """Whether file modes refuse a call, as far as they are known; no layer does where there is none."""
         if call.error != "EACCES":
             return False
-        runs, asker = call.name in ("execve", "execveat"), process.user.asker
-        return not process.confined or (asker is not None and modes.refuse(asker, self.disk.mode, op, members, runs))
+        runs, asker = call.name in ("execve", "execveat"), thread.user.asker
+        return not thread.process.confined or (asker is not None and modes.refuse(asker, self.disk.mode, op, members, runs))
 
-    def may_ask_before_modes(self, process: Process, call: Call, op: str, start: Spot, end: Spot) -> bool:
+    def may_ask_before_modes(self, thread: Thread, call: Call, op: str, start: Spot, end: Spot) -> bool:
         """Whether Landlock may have been asked about a move that file modes refuse, and may say EXDEV in their place."""
         if start.real.rpartition("/")[0] == end.real.rpartition("/")[0]:
             return False
-        asker = process.user.asker
+        asker = thread.user.asker
         ways = asker is None or all(modes.let_through(asker, self.disk.mode, one.real) for one in (start, end))
-        return ways and self._is_by_modes(process, call, op, {"from": start.real, "to": end.real})
+        return ways and self._is_by_modes(thread, call, op, {"from": start.real, "to": end.real})
 
     def note(self, thread: Thread, call: Call, op: str, **members: Any) -> None:
         """Writes a record that only keeps the state right, without the kernel's answer."""
@@ -488,7 +488,7 @@ class Scene:
             return
         directories = maker.directories if birth.flags & CLONE_FS else maker.directories.copy()
         if birth.flags & CLONE_THREAD:
-            self._join(Thread(tid, maker.process, directories, maker.layers))
+            self._join(Thread(tid, maker.process, directories, maker.layers, user=maker.user))
             return
         process = Process(
             tid,
@@ -498,13 +498,13 @@ class Scene:
             restricted=list(maker.process.restricted),
             maker=maker.process,
             unseen_layer=maker.process.unseen_layer,
-            user=maker.process.user if not birth.flags & CLONE_NEWUSER else NOBODY_KNOWN,
         )
         if birth.flags & CLONE_NEWNET:
             self.to_other_network()
         process.table = {number: handle.copy() for number, handle in maker.process.table.items()}
         process.next_made_up = maker.process.next_made_up
-        self._join(Thread(tid, process, directories, maker.layers))
+        user = maker.user if not birth.flags & (CLONE_NEWUSER | CLONE_NEWNS) else NOBODY_KNOWN
+        self._join(Thread(tid, process, directories, maker.layers, user=user))
         self.processes[tid] = process
         if birth.flags & CLONE_FILES:
             self.recording.leave_out(SHARED_TABLE, line, maker.process.pid, text, asks=True)

@@ -33,6 +33,8 @@ EXAMPLE = "landaudit-record run rec --watch /tmp/work -- tar xf archive.tar -C /
 #: Where the kernel makes and removes objects while a command runs, and says of none when it was made: terminals and
 #: other devices (pts(4), loop(4)), network interfaces (sysfs(5)), and their settings (proc_sys_net(5)).
 MADE_BY_KERNEL = ("/dev", "/sys/devices/virtual", "/proc/sys/net")
+#: The clock by which file systems say when objects were made and changed (CLOCK_REALTIME_COARSE, linux/time.h).
+CLOCK_OF_FILES = 5
 BEHIND_DASHES = "give a command after '--', as in 'landaudit-record run rec -- ls'"
 
 
@@ -323,7 +325,7 @@ def _about(command: list[str], seen: recordings.Watched, strace: str = "") -> re
     return recordings.About(
         command=command,
         directory=os.getcwd(),
-        started=time.time(),
+        started=time.clock_gettime(CLOCK_OF_FILES),
         admin=recordings.is_admin(),
         nnp=False,
         descriptors={},
@@ -342,6 +344,7 @@ def _about(command: list[str], seen: recordings.Watched, strace: str = "") -> re
         hidepid=hidepid,
         hidepid_group=group,
         machine=surroundings.machine(),
-        mounts=[[it.place, it.device, it.root, it.kind] for it in mounted.mounts() if not it.hidden],
+        mounts=mounted.shown(),
         protected_hardlinks=recordings.protects_hardlinks(),
+        confined=confining.is_confined(),
     )

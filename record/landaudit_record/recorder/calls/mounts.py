@@ -117,7 +117,7 @@ def from_a_place(handler: Handler, base: int | None) -> Handler:
 def _setns(scene: Scene, thread: Thread, call: Call) -> None:
     """Another mount namespace has other objects under the same names, another network namespace some of them."""
     ptrace.by_pidfd(scene, thread, call)
-    if _goes_to(call, "user", CLONE_NEWUSER):
+    if _goes_to(call, "user", CLONE_NEWUSER) or _goes_to(call, "mnt", CLONE_NEWNS):
         users.lose(thread)
     if _goes_to(call, "net", CLONE_NEWNET):
         scene.to_other_network()

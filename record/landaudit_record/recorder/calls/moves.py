@@ -164,7 +164,7 @@ def _as_seen_later(scene: Scene, call: Call, spot: Spot, at: str) -> Spot:
 
 def _say_move(scene: Scene, thread: Thread, call: Call, op: str, start: Spot, end: Spot, exchange: bool) -> None:
     members: dict[str, Any] = {"from": start.path, "to": end.path, "exchange": exchange, **arguments.shown(start, end)}
-    if not scene.may_ask_before_modes(thread.process, call, op, start, end):
+    if not scene.may_ask_before_modes(thread, call, op, start, end):
         scene.judged(thread, call, op, members)
         return
     members["unknown"] = BEFORE_MODES
@@ -202,7 +202,7 @@ def _link(scene: Scene, thread: Thread, call: Call) -> None:
 
 def _is_protected(scene: Scene, thread: Thread, source: Spot) -> bool:
     """Whether the kernel lets a process link no such object of another user, which it finds before it asks Landlock."""
-    asker, node = thread.process.user.asker, source.node
+    asker, node = thread.user.asker, source.node
     if asker is None or node is None or not scene.protects_links:
         return False
     return modes.forbid_link(asker, scene.disk.mode(source.real), node.kind)

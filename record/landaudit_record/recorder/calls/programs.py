@@ -156,7 +156,7 @@ def _became(scene: Scene, thread: Thread, call: Call, spot: Spot) -> None:
         scene.threads.pop(tid, None)
     process.threads = {thread.tid}
     process.program, process.image = spot.real, spot.node
-    process.user = process.user.running()
+    thread.user = thread.user.running()
     for number in sorted(process.table):
         if process.table[number].close_on_exec:
             scene.close(thread, call, number)
@@ -179,7 +179,7 @@ def _unshared(scene: Scene, thread: Thread, call: Call) -> None:
     the working directory along (unshare(2)).
     """
     flags = arguments.number_at(call, 0)
-    if call.ok and flags & CLONE_NEWUSER:
+    if call.ok and flags & (CLONE_NEWUSER | CLONE_NEWNS):
         users.lose(thread)
     if call.ok and flags & CLONE_NEWNET:
         scene.to_other_network()

@@ -83,7 +83,7 @@ def look(scene: Scene, thread: Thread, call: Call) -> bool:
     opened = _opened(scene, call)
     pids = {pid for argument, path in led for pid in _kept(call, path, follows=argument.follows_last(call))}
     pids |= scene.through | _numbers([_OPENED.fullmatch(opened)])
-    if not failed and scene.hides_from(thread.process):
+    if not failed and scene.hides_from(thread):
         pids |= _numbers(_OF_PROCESS.match(path) for path in [opened, *(path for _, path in led)])
     if any(may_refuse(scene, thread, pid) for pid in pids):
         _count(scene, thread, call, pids)
@@ -137,14 +137,14 @@ def _failed_after(scene: Scene, thread: Thread, call: Call) -> bool:
 
     ELOOP says that it has not followed the last one (O_NOFOLLOW).
     """
-    hidden = scene.hides_from(thread.process) or thread.process.confined
+    hidden = scene.hides_from(thread) or thread.process.confined
     others = ("EACCES", "EPERM", "ELOOP") if hidden else ("EACCES", "ELOOP")
     return call.error is not None and call.error not in others and not arguments.is_before_paths(call)
 
 
 def _may_be_refused(scene: Scene, thread: Thread, call: Call) -> bool:
     """Whether a call succeeded, or a layer may have refused it; without a layer, no policy refused it."""
-    refused = ("EACCES", "EPERM") if scene.hides_from(thread.process) else ("EACCES",)
+    refused = ("EACCES", "EPERM") if scene.hides_from(thread) else ("EACCES",)
     return call.ok or (thread.process.confined and call.error in refused)
 
 

@@ -1,8 +1,8 @@
 """Users: calls by which a process asks for files as another user, or with other privileges (credentials(7)).
 
 File modes refuse calls of a user without privileges, whatever a policy says. A change of user takes away the privileges
-of root, and an exec those that another user was given since (capabilities(7)). Threads are taken to change together, as
-the C library has them do.
+of root, and an exec those that another user was given since (capabilities(7)). Each thread has a user of its own, which
+the C library changes by a call of every thread, but for setfsuid(2) and the like.
 """
 
 from __future__ import annotations
@@ -27,7 +27,7 @@ def _user(index: int) -> Handler:
     def changed(scene: Scene, thread: Thread, call: Call) -> None:
         uid = arguments.number_at(call, index)
         if call.ok and uid != UNCHANGED:
-            thread.process.user = thread.process.user.become(uid)
+            thread.user = thread.user.become(uid)
 
     return changed
 
@@ -38,7 +38,7 @@ def _group(index: int) -> Handler:
     def changed(scene: Scene, thread: Thread, call: Call) -> None:
         gid = arguments.number_at(call, index)
         if call.ok and gid != UNCHANGED:
-            thread.process.user = replace(thread.process.user, gid=gid)
+            thread.user = replace(thread.user, gid=gid)
 
     return changed
 
@@ -50,19 +50,19 @@ def _setgroups(scene: Scene, thread: Thread, call: Call) -> None:
     if not listed.startswith("[") and arguments.number_at(call, 0):
         return lose(thread)
     groups = frozenset(values.number(one) for one in listed.strip("[]").split(",") if listed.startswith("[") and one)
-    thread.process.user = replace(thread.process.user, groups=groups)
+    thread.user = replace(thread.user, groups=groups)
 
 
 def _capset(scene: Scene, thread: Thread, call: Call) -> None:
     if call.ok:
         effective = values.member(call.arguments[1], "effective") or ""
         overrides = any(name in effective for name in OVERRIDING)
-        thread.process.user = replace(thread.process.user, overrides=overrides)
+        thread.user = replace(thread.user, overrides=overrides)
 
 
 def lose(thread: Thread) -> None:
-    """Nothing is known any more of the privileges of a process."""
-    thread.process.user = replace(thread.process.user, known=False)
+    """Nothing is known any more of the privileges of a thread, or of the modes of what its paths lead to."""
+    thread.user = replace(thread.user, known=False)
 
 
 def controlled(thread: Thread, call: Call) -> None:
