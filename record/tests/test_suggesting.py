@@ -180,6 +180,18 @@ class Paths(unittest.TestCase):
     def test_what_is_put_in_the_place_of_another_file_is_granted_on_the_directory(self) -> None:
         self.assertEqual(rules(reading("/a/g~2~")), [("/a", ["read_file"], 1)])
 
+    def test_what_may_be_no_directory_has_no_rights_of_directories(self) -> None:
+        """A rule with one is EINVAL on what is none (docs/SEMANTICS.md, "Rulesets"), so it is on the directory above."""
+        tree = Tree({"/": "dir", "/w": "dir", "/w/x": "reg", "/w/x~2~": "dir", "/w/e": "dir"}, made={"/w/x~2~"},
+                    first={"/w/x~2~": "/w/x"}, others={"/w/x": ["/w/x~2~"]}, shown={"/w/x~2~": "/w/x"})
+        calls = [*layer(), reading("/w/x"), listing("/w/x~2~", 2), listing("/w/e", 3)]
+        found = suggested(calls, recorded=Recorded(tree)).rules[1]
+        self.assertEqual({(rule.place, *rule.rights) for rule in found},
+                         {("/w/x", "read_file"), ("/w", "read_dir")})
+        (above,) = (rule for rule in found if rule.place == "/w")
+        self.assertEqual(list(map(str, above.remarks)), ["(for /w/x: not known whether it is a directory, and the kernel "
+                                                         "takes its rights on nothing else)"])
+
     def test_files_of_a_process_are_granted_on_proc(self) -> None:
         self.assertEqual(rules(reading("/proc/7/maps")), [("/proc", ["read_file"], 1)])
 

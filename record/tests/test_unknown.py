@@ -14,6 +14,7 @@ from landaudit_record.engine import reports
 from landaudit_record.engine.answers import ALLOWED, MOOT, REFUSED, Answer, Refusing
 from landaudit_record.engine.processes import ProcessState
 from landaudit_record.recorder.calls import programs
+from landaudit_record.recorder.scene import BY_MODES
 from landaudit_record.recorder.names import MADE_OR_THERE, OF_KIND, REPLACED_OR_NOT, UNKNOWN_WAY
 
 from .strace_lines import CONFINED, CWD
@@ -35,6 +36,44 @@ def seen(path: str, kind: str | None, until: int | None = None, **more: object) 
 
 def opens(path: str, flags: str = "0 /* O_RDONLY */", fd: int = 3) -> str:
     return f'openat({CWD}, "{path}", {flags}) = {fd}<{path}>'
+
+
+class Refused(WrittenLogs):
+    """A call that Landlock refuses tells less of what is there than the kernel's other answers."""
+
+    disk = [*TREE, {"path": "/w/p", "kind": "reg", "runs": True}]
+    EACCES = "-1 EACCES (Permission denied)"
+
+    def test_a_refused_removal_does_not_tell_the_kind(self) -> None:
+        """Linux 6.18 asks before it sees of which kind the object is (docs/SEMANTICS.md, "Landlock asked before the
+        tree"): what rmdir(2) was refused may be a file that is opened later.
+        """
+        for call, op in ((f'rmdir("/w/x") = {self.EACCES}', "rmdir"), (f'unlink("/w/x") = {self.EACCES}', "unlink")):
+            with self.subTest(call):
+                (removed, *opened) = self.confined(call, f'openat({CWD}, "/w/x", 0x20000 /* O_NOFOLLOW */) = {self.EACCES}')
+                self.assertEqual((removed["op"], removed["shown"], "unknown" in removed), (op, "/w/x", False))
+                kinds = {path: line["kind"] for path, line in self.tree().items()}
+                self.assertEqual(kinds[removed["path"]], "dir" if op == "rmdir" else "reg")
+                self.assertLess({"reg", "dir"}, {kinds[one["path"]] for one in opened if one["op"] == "open"})
+
+    def test_an_answer_that_comes_after_the_kind(self) -> None:
+        """rmdir(2): only a directory can be not empty."""
+        (removed,) = self.confined('rmdir("/w/x") = -1 ENOTEMPTY (Directory not empty)')
+        self.assertEqual((removed["path"], self.tree()["/w/x"]["kind"]), ("/w/x", "dir"))
+
+    def test_a_refusal_in_a_directory_of_which_nothing_is_known(self) -> None:
+        """The kernel walked to the object, so it is there, by whatever way; a record of what is missing would be moot."""
+        for call in (f'openat({CWD}, "/s/gone/x", 0 /* O_RDONLY */)', f'openat({CWD}, "/s/gone/x", {MAKES})',
+                     'mkdir("/s/gone/x", 0777)', 'unlink("/s/gone/x")', 'truncate("/s/gone/x", 0)'):
+            with self.subTest(call):
+                self.assertEqual(self.confined(f"{call} = {self.EACCES}"), [])
+                self.assertEqual(self.unsaid(), [(UNKNOWN_WAY, True)])
+                self.assertEqual(self.convert(f"{call} = {self.EACCES}"), [])
+                self.assertEqual(self.unsaid(), [(BY_MODES, False)])
+
+    def tree(self) -> dict[str, jsonl.Record]:
+        """What is listed."""
+        return {line["path"]: line for _, line in jsonl.numbered(self.out / "tree.jsonl")}
 
 
 class Unknown(WrittenLogs):

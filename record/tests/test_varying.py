@@ -66,6 +66,16 @@ class Kinds(unittest.TestCase):
                          ["for x, x/y: a directory in one run, and none in another"])
 
 
+    def test_a_directory_in_one_run_and_a_link_to_a_file_in_another(self) -> None:
+        """A rule on the path follows the link, and the kernel says EINVAL of rights for directories."""
+        trees = (Tree({ROOT: "dir", "/w": "dir", "/w/f": "reg", "/w/e": "dir", "/w/l": "sym", "/w/m": "sym", "/w/o": "sym"},
+                      {"/w/l": "f", "/w/m": "e", "/w/o": "o"}),
+                 Tree({ROOT: "dir", "/w": "dir", "/w/l": "dir", "/w/m": "dir", "/w/o": "dir"}))
+        placing = Placing(trees, [[], ["/w/l", "/w/m", "/w/o"]], NOBODY)
+        found = [placing.spot(1, path) for path in ("/w/l", "/w/m", "/w/o")]
+        self.assertEqual([(spot.place, spot.cause) for spot in found], [("/w", Cause.KINDS), ("/w/m", None), ("/w/o", None)])
+
+
 class Between(unittest.TestCase):
     def between(self, one: list[str], other: list[str], *trees: Tree) -> set[str]:
         return varying.between([one, other], trees or (tree(*one), tree(*other)), NOBODY)

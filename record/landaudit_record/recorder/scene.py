@@ -218,6 +218,12 @@ class Scene:
         runs, asker = call.name in ("execve", "execveat"), thread.user.asker
         return not thread.process.confined or (asker is not None and modes.refuse(asker, self.disk.mode, op, members, runs))
 
+    def may_end_by_modes(self, thread: Thread, spot: Spot) -> bool:
+        """Whether modes end a way with EACCES, before Landlock is asked."""
+        asker = thread.user.asker
+        closed = asker is not None and not modes.let_through(asker, self.disk.mode, spot.real)
+        return closed or not thread.process.confined
+
     def may_ask_before_modes(self, thread: Thread, call: Call, op: str, start: Spot, end: Spot) -> bool:
         """Whether Landlock may have been asked about a move that file modes refuse, and may say EXDEV in their place."""
         if start.real.rpartition("/")[0] == end.real.rpartition("/")[0]:

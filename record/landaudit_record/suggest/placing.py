@@ -7,7 +7,7 @@ from dataclasses import dataclass
 from enum import Enum
 
 from ..common.layout import shortened
-from ..common.trees import ROOT, Tree, directory_of, upwards
+from ..common.trees import ROOT, LinkLoop, Tree, directory_of, upwards
 from ..common.wording import some_of
 from . import varying
 from .remarks import Remark, RemarkKind
@@ -23,6 +23,7 @@ class Cause(Enum):
     MADE_UP = "for names that differ in each run, as {}"
     OF_PROCESS = "for what a process has under its number, which differs in each run, as {}"
     KINDS = "for {}: a directory in one run, and none in another"
+    DOUBT = "for {}: not known whether it is a directory, and the kernel takes its rights on nothing else"
     REPLACED = "the run puts another object at {}: a rule on that path stays with the first one"
 
 
@@ -67,16 +68,31 @@ class Placing:
         return spot
 
     def _has_several_kinds(self, path: str) -> bool:
-        """Whether a directory is at a path in one run and a file in another: the kernel refuses its rights on a file."""
-        kinds = {tree.kind(path) for tree in self._trees} - {None, "sym"} if len(self._trees) > 1 else ()
+        """Whether a path leads to a directory in one run and to a file in another: the kernel refuses its rights on a
+        file.
+        """
+        kinds = {_led_to(tree, path) for tree in self._trees} - {None, "sym"} if len(self._trees) > 1 else ()
         return "dir" in kinds and len(kinds) > 1
+
+
+def _led_to(tree: Tree, path: str) -> str | None:
+    """The kind of what a path leads to, as far as its tree knows."""
+    try:
+        return tree.kind(path) if tree.kind(path) != "sym" else tree.kind(tree.resolved(path))
+    except LinkLoop:
+        return None
+
+
+def _may_be_none(tree: Tree, directory: str) -> bool:
+    """Whether what is listed as a directory is listed by another name as something else, since nobody knows its kind."""
+    return any(not tree.is_dir(name) for name in tree.names(directory))
 
 
 def _there_before(tree: Tree, path: str) -> RulePlace:
     """Where a rule for a path can be before the run of its recording.
 
-    It is not on a link, not on the files of a process in /proc, and not on what the run makes; for an object that is
-    moved, it is on its place before the move.
+    It is not on a link, not on the files of a process in /proc, not on what may be no directory though it is asked as
+    one, and not on what the run makes; for an object that is moved, it is on its place before the move.
     """
     real, process = tree.real(path), varying.of_process(path)
     if process is not None:
@@ -86,6 +102,8 @@ def _there_before(tree: Tree, path: str) -> RulePlace:
     place, cause = tree.before(there), Cause.LINK if is_link else None
     if place != tree.first.get(there, there) and cause is None:
         cause = Cause.REPLACED if tree.is_replaced(real) else _cause_of_made(place, real)
+    elif tree.is_dir(path) and _may_be_none(tree, path):
+        place, cause = directory_of(place), Cause.DOUBT
     return RulePlace(place, real, cause)
 
 
@@ -114,6 +132,6 @@ def doubtful(place: str) -> tuple[str, Remark] | None:
 
 def _named(place: str, spot: RulePlace) -> str:
     """What a rule is for: its path, relative to the rule's place if that is enough."""
-    if spot.cause in (Cause.REPLACED, Cause.LINK, Cause.OF_PROCESS) or place == ROOT:
+    if spot.cause in (Cause.REPLACED, Cause.LINK, Cause.OF_PROCESS, Cause.DOUBT) or place == ROOT:
         return spot.path
     return spot.path.removeprefix(place + "/")

@@ -102,11 +102,14 @@ def object_at(scene: Scene, call: Call, spot: Spot, kind: str, among: Sequence[s
 
 
 def led_on(scene: Scene, call: Call, spot: Spot) -> None:
-    """Checks that a path led on, if its call succeeded: else something on its way was not what it is taken to be.
+    """Checks that a path led on, if its call succeeded or failed by what it led to: else something on its way was not
+    what it is taken to be. Modes may end a way before that.
 
     Where a path through another process leads is not known anyway, and is counted.
     """
-    if call.ok and not spot.in_directory and not scene.through:
+    if spot.in_directory or scene.through or call.error in NOT_REACHED:
+        return
+    if not (call.error == "EACCES" and scene.may_end_by_modes(scene.threads[call.tid], spot)):
         raise UnknownWay
 
 

@@ -15,6 +15,8 @@ from . import arguments
 
 AT_REMOVEDIR = 0x200
 AF_UNIX = 1
+#: The errors by which the kernel removes nothing although the call is for what is there (rmdir(2), unlink(2)).
+_AFTER_KIND = frozenset({"EBUSY", "EEXIST", "ENOTEMPTY"})
 
 
 def _made(scene: Scene, thread: Thread, call: Call, op: str, spot: Spot, node: Node, **members: str) -> None:
@@ -87,7 +89,7 @@ def _remove(scene: Scene, thread: Thread, call: Call) -> None:
 
 def _removed(scene: Scene, call: Call, op: str, spot: Spot) -> Spot:
     """The object that a call removes. If it is a directory and may be none, or the reverse, the call fails, but only
-    after the kernel has asked Landlock about the removal of what the call is for.
+    after the kernel has asked Landlock about the removal of what the call is for: so a refusal does not tell its kind.
     """
     directory = op == "rmdir"
     if call.error == "EISDIR":
@@ -97,10 +99,12 @@ def _removed(scene: Scene, call: Call, op: str, spot: Spot) -> Spot:
         return scene.stand_in(spot, "reg")
     if call.error == "ENOTDIR" and directory and spot.in_directory:
         return scene.stand_in(spot, "dir")
-    spot = arguments.object_at(scene, call, spot, "dir" if directory else "reg")
-    if spot.node is None or spot.node.others or (spot.node.kind == "dir") is directory:
+    kind = "dir" if directory else "reg"
+    is_known = call.ok or call.error in _AFTER_KIND
+    spot = arguments.object_at(scene, call, spot, *((kind,) if is_known else ("reg", KINDS)))
+    if spot.node is None or (is_known and spot.node.others):
         return spot
-    return scene.stand_in(spot, "dir" if directory else "reg")
+    return spot if not spot.node.others and (spot.node.kind == "dir") is directory else scene.stand_in(spot, kind)
 
 
 def _truncate(scene: Scene, thread: Thread, call: Call) -> None:

@@ -394,6 +394,7 @@ def _after_failure(scene: Scene, call: Call, spot: Spot, flags: int) -> Spot:
         there = spot.node is not None and call.error != "ENOENT"
         return _without_name(scene, join([*split(spot.real), UNNAMED])) if there else scene.as_missing(spot)
     if flags & O_CREAT:
+        arguments.led_on(scene, call, spot)
         return scene.as_missing(spot) if call.error == "ENOENT" else spot
     if spot.node is not None and spot.node.kind == "sock":
         return scene.as_opened(spot, spot.node)
