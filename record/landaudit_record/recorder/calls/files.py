@@ -101,7 +101,7 @@ def _removed(scene: Scene, call: Call, op: str, spot: Spot) -> Spot:
         return scene.stand_in(spot, "dir")
     kind = "dir" if directory else "reg"
     is_known = call.ok or call.error in _AFTER_KIND
-    spot = arguments.object_at(scene, call, spot, *((kind,) if is_known else ("reg", KINDS)))
+    spot = arguments.object_at(scene, call, spot, kind if is_known else "reg", () if is_known else KINDS)
     if spot.node is None or (is_known and spot.node.others):
         return spot
     return spot if not spot.node.others and (spot.node.kind == "dir") is directory else scene.stand_in(spot, kind)
