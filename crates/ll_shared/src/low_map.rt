@@ -19,14 +19,6 @@ const LOW: u64 = 512;
 ///
 /// There are leaves for all keys up to the highest low one that ever had a value, of which those without an entry are
 /// one and the same at first. They stay when their entries go.
-///
-/// ```
-/// let mut map = LowMap::new(rt.alloc());
-/// map.insert(3, 10)?;
-/// let copy = map.clone()?;
-/// map.insert(3, 11)?;
-/// assert_eq!(rt; (map.get(3), copy.get(3)), (Some(11), Some(10)));
-/// ```
 pub type LowMap<V> = LeafMap<Leaf<V>, V>;
 
 /// What a [`LowMap`] is kept as. Its leaves are a parameter, so that the size of a leaf is seen to be one that a type

@@ -35,13 +35,7 @@ impl Located {
         ensures trace { IfOk result (λ located. located.trace ≡ trace) }
     {
         let places = places_of(alloc, &tree, &trace)?;
-        let own = by_process(alloc, &trace, &places)?;
-        Ok(Located {
-            tree,
-            trace,
-            places,
-            own,
-        })
+        Located::with(alloc, tree, trace, places)
     }
 
     /// Looks up each record's first path as [`Located::of`] does, with at most this many threads, which look up parts
@@ -60,6 +54,20 @@ impl Located {
             return Located::of(alloc, tree, trace);
         }
         let places = places_by(rt, alloc, &tree, &trace, workers)?;
+        Located::with(alloc, tree, trace, places)
+    }
+
+    /// A tree and a trace with the places that were looked up.
+    fn with(
+        alloc: Global,
+        tree: Tree,
+        trace: Trace,
+        places: Vec<Place>,
+    ) -> Result<Located, AllocError>
+        requires { places.items ≡ first_places tree trace }
+        ensures tree { IfOk result (λ located. located.tree ≡ tree) }
+        ensures trace { IfOk result (λ located. located.trace ≡ trace) }
+    {
         let own = by_process(alloc, &trace, &places)?;
         Ok(Located {
             tree,

@@ -4,7 +4,7 @@ ghost use Rattle.ll_tree.specs.Trees.{IsNode};
 
 use ll_rights::{Abi, Fs, Net};
 use ll_rules::{Domain, LayerId, LayerSet, Ruleset, check_path};
-use ll_shared::{LowMap, SharedMap};
+use ll_shared::SharedMap;
 use ll_trace::Trace;
 use ll_tree::{NodeId, Place, Tree};
 use std::alloc::Global;
@@ -18,16 +18,6 @@ fn a_shared_map(rt: HostRuntime) -> Result<(), Fail> {
     let copy = map.clone()?;
     map.insert(3, 11)?;
     assert_eq!(rt; (map.get(3), copy.get(3)), (Some(&11), Some(&10)));
-    Ok(())
-}
-
-#[test]
-fn a_low_map(rt: HostRuntime) -> Result<(), Fail> {
-    let mut map = LowMap::new(rt.alloc());
-    map.insert(3, 10)?;
-    let copy = map.clone()?;
-    map.insert(3, 11)?;
-    assert_eq!(rt; (map.get(3), copy.get(3)), (Some(11), Some(10)));
     Ok(())
 }
 

@@ -19,11 +19,19 @@ use std::sync::Wait;
 use std::test::Fail;
 use std::thread::Threads;
 
-/// A case to be judged by threads.
+/// A case, and the threads that judge it.
 #[derive(Drop)]
 struct Judging<'c, R> {
     rt: &'c R,
     case: &'c Case<'c>,
+}
+
+/// A case to be judged by threads.
+fn judging<'c, R>(rt: &'c R, case: &'c Case<'c>) -> Judging<'c, R>
+    ensures rt { result.rt.now ≡ rt.now }
+    ensures case { result.case.now ≡ case.now }
+{
+    Judging { rt, case }
 }
 
 impl<'c, R: AllocGlobal + Threads + Wait + Sync> Judging<'c, R> {
@@ -133,22 +141,13 @@ fn the_answers_are_the_same_by_one_thread_and_for_every_number_of_workers_and_ev
 ) -> Result<(), Fail> {
     let ground = ground_of(rt.alloc(), FAMILY.as_bytes())?;
     let case = ground.case();
-    Judging {
-        rt: &rt,
-        case: &case,
-    }
-    .expect_family_with_cuts()
+    judging(&rt, &case).expect_family_with_cuts()
 }
 
 #[test]
 fn one_worker_makes_one_piece_of_the_whole_family(rt: HostRuntime) -> Result<(), Fail> {
     let ground = ground_of(rt.alloc(), FAMILY.as_bytes())?;
-    let case = ground.case();
-    let pieces = Judging {
-        rt: &rt,
-        case: &case,
-    }
-    .pieces_with(&[], 12)?;
+    let pieces = judging(&rt, &ground.case()).pieces_with(&[], 12)?;
     assert_eq!(rt; pieces, [1, 1, 0]);
     Ok(())
 }
@@ -157,26 +156,15 @@ fn one_worker_makes_one_piece_of_the_whole_family(rt: HostRuntime) -> Result<(),
 fn an_empty_trace_has_no_answers(rt: HostRuntime) -> Result<(), Fail> {
     let ground = ground_of(rt.alloc(), b"")?;
     let case = ground.case();
-    Judging {
-        rt: &rt,
-        case: &case,
-    }
-    .expect_nothing()
+    judging(&rt, &case).expect_nothing()
 }
 
 /// A process forks 1,100 children, and the one worker is to cut each process off.
 #[test]
-fn children_that_find_the_queue_full_are_judged_with_their_parent(
-    rt: HostRuntime,
-) -> Result<(), Fail> {
+fn children_that_find_the_queue_full_stay(rt: HostRuntime) -> Result<(), Fail> {
     let every = vec![in rt.alloc(); true; 1101]?;
     let ground = ground_with(rt.alloc(), Forks::TheFirst, 1101)?;
-    let case = ground.case();
-    let pieces = Judging {
-        rt: &rt,
-        case: &case,
-    }
-    .pieces_with(&every, 77)?;
+    let pieces = judging(&rt, &ground.case()).pieces_with(&every, 77)?;
     assert_eq!(rt; pieces, [1025, 1, 1024]);
     Ok(())
 }
@@ -190,7 +178,7 @@ fn count_of_forks<R: AllocGlobal + Threads + Wait + Sync>(
 ) -> Result<usize, Fail> {
     let ground = ground_with(rt.alloc(), forks, processes)?;
     let case = ground.case();
-    Judging { rt, case: &case }.count(workers, cut)
+    judging(rt, &case).count(workers, cut)
 }
 
 /// A child that is judged apart where the cut says so, more roots than the queue holds, and a long line of descendants,
@@ -213,39 +201,19 @@ fn all_processes_are_judged_in_so_many_pieces(rt: HostRuntime) -> Result<(), Fai
 
 /// A tree of forks is cut at each of its 1,023 processes.
 #[test]
-fn a_tree_of_forks_is_cut_into_single_processes_a_hundred_times(
-    rt: HostRuntime,
-) -> Result<(), Fail> {
+fn a_tree_of_forks_is_cut_at_each_fork(rt: HostRuntime) -> Result<(), Fail> {
     let every = vec![in rt.alloc(); true; 1023]?;
     let ground = ground_with(rt.alloc(), Forks::TheOneAtHalf, 1023)?;
-    let case = ground.case();
-    assert_eq!(rt;
-        Judging {
-            rt: &rt,
-            case: &case
-        }
-        .count_unlike(&every)?,
-        None
-    );
+    assert_eq!(rt; judging(&rt, &ground.case()).count_unlike(&every)?, None);
     Ok(())
-}
-
-/// The same as `judged_at_once` of so many processes.
-fn forks_at_once<R: AllocGlobal + Threads + Wait + Sync>(
-    rt: &R,
-    (forks, processes): (Forks, u32),
-    first: u32,
-) -> Result<(usize, (u64, u64)), Fail> {
-    let ground = ground_with(rt.alloc(), forks, processes)?;
-    let case = ground.case();
-    Judging { rt, case: &case }.judged_at_once(first)
 }
 
 /// Two roots, and two children of one process, are judged at once.
 #[test]
 fn two_jobs_are_judged_at_once(rt: HostRuntime) -> Result<(), Fail> {
     for (forks, processes, first) in [(Forks::Nobody, 2, 0), (Forks::TheFirst, 3, 1)] {
-        let judged = forks_at_once(&rt, (forks, processes), first)?;
+        let ground = ground_with(rt.alloc(), forks, processes)?;
+        let judged = judging(&rt, &ground.case()).judged_at_once(first)?;
         assert_eq!(rt; judged, (processes as usize, (2, 0)));
     }
     Ok(())

@@ -24,7 +24,10 @@ judge_record-requires g c κs =
               (placed_at c.args.self.case.now c.args.self.process.0 c.loop-next.next _ (slice_get_within _ c.loop-next.next _ now) now _ r here),
           (
             c.loop-next.invariant.going.meets _ now,
-            (λ calm. rw (← c.loop-next.invariant.ahead) (c.may_fork-forks.ensures.known calm _ (rw c.loop-next.invariant.its now)), c.loop-next.invariant.suits),
+            (
+              λ calm. rw (← c.loop-next.invariant.ahead) (c.may_fork-forks.ensures.known calm _ (rw c.loop-next.invariant.its now)),
+              c.loop-next.invariant.suits,
+            ),
           ),
         ),
       ),

@@ -1,4 +1,4 @@
-use Rattle.std.proofs.Common.{◌≡◌, ◌/◌, ◌%◌, Some, length, slice_get, refl, rules}
+use Rattle.std.proofs.Common.{◌/◌, ◌%◌, length, refl, rules}
 use Rattle.std.proofs.lemmas.Option.{slice_get_read}
 use Rattle.std.proofs.lemmas.Result.{on_ok_weaker, on_err_weaker}
 use Rattle.ll_shared.proofs.Leaves.{put_leaf, kept_leaf}
@@ -8,10 +8,9 @@ pub returns-clause-ok : goal.returns-clause-ok
 returns-clause-ok g c =
     let low = c.widen.new.self.low.items in
     let old = c.index_mut.result.now in
-    let there : slice_get low (c.args.key / 16) ≡ Some old = slice_get_read low (length low) (c.args.key / 16) old refl c.in_ok-widen.ensures.there
-    c.index_mut.ensures.value in
     on_ok_weaker c.put_in.result (λ told q.
-    let put = put_leaf (λ shared. shared.value) low c.put_in.new.leaf old c.args.key q c.args.value c.in_ok-widen.ensures.there there told in
+    let put = put_leaf (λ shared. shared.value) low c.put_in.new.leaf old c.args.key q c.args.value c.in_ok-widen.ensures.there
+    (slice_get_read low (length low) (c.args.key / 16) old refl c.in_ok-widen.ensures.there c.index_mut.ensures.value) told in
     let same = c.in_ok-widen.ensures.same q in
     search (rules, put, same)) c.put_in.ensures.ok
 
@@ -19,9 +18,8 @@ pub returns-clause-err : goal.returns-clause-err
 returns-clause-err g c =
     let low = c.widen.new.self.low.items in
     let old = c.index_mut.result.now in
-    let there : slice_get low (c.args.key / 16) ≡ Some old = slice_get_read low (length low) (c.args.key / 16) old refl c.in_ok-widen.ensures.there
-    c.index_mut.ensures.value in
     on_err_weaker c.put_in.result (λ told q.
-    let kept = kept_leaf (λ shared. shared.value) low c.put_in.new.leaf old (c.args.key / 16) (q / 16) (q % 16) c.in_ok-widen.ensures.there there told in
+    let kept = kept_leaf (λ shared. shared.value) low c.put_in.new.leaf old (c.args.key / 16) (q / 16) (q % 16) c.in_ok-widen.ensures.there
+    (slice_get_read low (length low) (c.args.key / 16) old refl c.in_ok-widen.ensures.there c.index_mut.ensures.value) told in
     let same = c.in_ok-widen.ensures.same q in
     search (rules, kept, same)) c.put_in.ensures.err
