@@ -24,7 +24,7 @@ DISK: list[jsonl.Record] = [
     {"path": "/w/closed", "kind": "dir", "mode": [0o700, 0, 0]},
     {"path": "/w/f", "kind": "reg"},
     {"path": "/w/p", "kind": "reg", "runs": True},
-    {"path": "/w/text", "kind": "reg"},
+    {"path": "/w/text", "kind": "reg", "mode": [0o644, 0, 0]},
     {"path": "/w/to-d", "kind": "sym", "target": "d"},
     {"path": "/w/loop", "kind": "sym", "target": "loop"},
     {"path": "/w/secret", "kind": "reg", "mode": [0o600, 0, 0]},

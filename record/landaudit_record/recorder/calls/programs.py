@@ -83,11 +83,13 @@ def _program(scene: Scene, call: Call, spot: Spot) -> Spot:
 
 
 def _may_not_run(scene: Scene, spot: Spot) -> bool:
-    """Whether the kind or the mode of a file forbids running it, whatever Landlock says (execve(2))."""
+    """Whether the kind of a file forbids running it, whatever Landlock says (execve(2)), or its mode, which a chmod(2)
+    after the call may have changed.
+    """
     if spot.node is None or spot.node.kind != "reg":
         return spot.node is not None
     how = scene.names.program(spot.real)
-    return how.known and not how.runs
+    return how.known and not how.runs and scene.disk.mode(spot.real) is not None
 
 
 def _run_one(scene: Scene, thread: Thread, call: Call, spot: Spot, role: str | None) -> int | None:
