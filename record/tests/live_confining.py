@@ -135,6 +135,17 @@ class LiveConfining(unittest.TestCase):
         self.assertEqual(audit.returncode, NOT_ALL_JUDGED, audit.stdout)
         self.assertIn("a call that a layer of an unknown ruleset may have refused", audit.stdout)
 
+    def test_secure_bits(self) -> None:
+        """setpriv(1): the command has the bits that the recorder has."""
+        if os.geteuid() != 0 or shutil.which("setpriv") is None:
+            self.skipTest("only root can have secure bits, by setpriv")
+        kept = []
+        for words in ((), ("setpriv", "--securebits", "+no_setuid_fixup")):
+            run = self.said(*words, PYTHON, RECORDER, "run", f"rec-{len(kept)}", "--", "true")
+            self.assertEqual(run.returncode, 0, run.stderr)
+            kept.append(json.loads((self.folder / f"rec-{len(kept)}" / "recording.json").read_text())["keeps_privileges"])
+        self.assertEqual(kept, [False, True])
+
     def test_modes_that_a_program_changes_after_a_refusal(self) -> None:
         """What the policy refused is no refusal by the mode that the file has after the run."""
         if os.geteuid() != 0 or shutil.which("setpriv") is None:

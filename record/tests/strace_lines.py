@@ -51,6 +51,7 @@ class StraceLines(unittest.TestCase):
     mounts: list[list[str]] = []
     protected_hardlinks = False
     under_layer = False
+    keeps_privileges = False
 
     def setUp(self) -> None:
         self.out = Path(self.enterContext(tempfile.TemporaryDirectory()))
@@ -59,7 +60,7 @@ class StraceLines(unittest.TestCase):
         """The records that calls become, without those of the start and of the first program."""
         about = recordings.About(["p"], "/w", 0.0, False, True, {}, errata=self.errata, uid=self.uid, euid=self.euid,
                                  mounts=self.mounts, protected_hardlinks=self.protected_hardlinks,
-                                 confined=self.under_layer)
+                                 confined=self.under_layer, keeps_privileges=self.keeps_privileges)
         if self.watched:
             about.watched.append("/w")
             jsonl.write(self.out / recordings.BEFORE, [line for line in DISK if line["path"].startswith("/w/")])

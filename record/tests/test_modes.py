@@ -191,6 +191,11 @@ class Users(StraceLines):
         for goes in ("unshare(0x20000 /* CLONE_NEWNS */) = 0", "setns(3<mnt:[4026531841]>, 0x20000 /* CLONE_NEWNS */) = 0"):
             self.assertTrue(self.judged(goes, self.BECOMES))
 
+    def test_secure_bits_from_before_the_recording(self) -> None:
+        """capabilities(7): with SECBIT_NO_SETUID_FIXUP a change of user changes no capabilities."""
+        self.keeps_privileges = True
+        self.assertTrue(self.judged(self.BECOMES))
+
     def test_a_child_is_of_its_makers_user(self) -> None:
         opens = f'openat({CWD}, "secret", 0 /* O_RDONLY */) = -1 EACCES (Permission denied)'
         for flags, left in (("17", 1), ("0x10000000 /* CLONE_NEWUSER */|17", 0)):

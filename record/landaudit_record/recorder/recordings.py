@@ -33,6 +33,7 @@ CAP_SYS_ADMIN = 21
 STRACE, WITNESS = "strace", "witness"
 _SYS_LANDLOCK_CREATE_RULESET = 444
 _LANDLOCK_CREATE_RULESET_ERRATA = 2
+_PR_GET_SECUREBITS = 27
 
 
 @dataclass
@@ -53,7 +54,7 @@ class About:
     hold too many objects. `machine` tells the machine from others, "" if it is not known. `mounts` are those of the
     command's namespace when the run began, each with its place, its device, the directory of the file system that it
     shows, and its type. `protected_hardlinks` is what the kernel's setting of this name was. `confined` says that the
-    command was under a layer from the beginning.
+    command was under a layer from the beginning, `keeps_privileges` that changes of users leave it what they would not.
     `by` is the recorder: STRACE or WITNESS.
     """
 
@@ -84,6 +85,7 @@ class About:
     mounts: list[list[str]] = field(default_factory=list)
     protected_hardlinks: bool = False
     confined: bool = False
+    keeps_privileges: bool = False
 
     @property
     def untraced(self) -> tuple[str, ...]:
@@ -104,7 +106,7 @@ class About:
     @property
     def user(self) -> User:
         """As whom the command asks for files; the privileges of a user that is not root may outlast an exec."""
-        if self.uid is None and self.euid != ROOT_USER:
+        if self.keeps_privileges or (self.uid is None and self.euid != ROOT_USER):
             return NOBODY_KNOWN
         gid, *groups = self.groups or [ROOT_USER]
         return User(self.uid or ROOT_USER, gid, frozenset(groups), overrides=self.uid is None)
@@ -207,6 +209,14 @@ def is_admin() -> bool:
 def user() -> int | None:
     """The number of this process's user, if the process has no capability; with one, file modes may not apply."""
     return None if _capabilities() else os.geteuid()
+
+
+def keeps_privileges() -> bool:
+    """Whether this process has secure bits, by which a change of user leaves privileges (capabilities(7)); if the kernel
+    does not say, it may.
+    """
+    bits: int = ctypes.CDLL(None).prctl(_PR_GET_SECUREBITS, *[ctypes.c_ulong(0)] * 4)
+    return bits != 0
 
 
 def _capabilities() -> int:

@@ -347,4 +347,5 @@ def _about(command: list[str], seen: recordings.Watched, strace: str = "") -> re
         mounts=mounted.shown(),
         protected_hardlinks=recordings.protects_hardlinks(),
         confined=confining.is_confined(),
+        keeps_privileges=recordings.keeps_privileges(),
     )
