@@ -130,10 +130,10 @@ def mode(path: str) -> Mode | None:
     """The mode of the object at a path, if it alone says who may use the object."""
     try:
         status = os.lstat(path)
-        told_otherwise = _file_system(path) in _SERVED or not _LISTS.isdisjoint(os.listxattr(path, follow_symlinks=False))
+        lists = _LISTS.intersection(os.listxattr(path, follow_symlinks=False))
     except (OSError, ValueError):
         return None
-    if told_otherwise or stat.S_ISLNK(status.st_mode):
+    if lists or _file_system(path) in _SERVED or stat.S_ISLNK(status.st_mode):
         return None
     return Mode(stat.S_IMODE(status.st_mode), status.st_uid, status.st_gid)
 

@@ -57,7 +57,7 @@ def mounts(file: Path = MOUNTS, index_default: Path = INDEX_DEFAULT) -> list[Mou
 
 
 def shown() -> list[list[str]]:
-    """The mounts of this process to which paths lead: of each its place, device, what of the file system it shows, type."""
+    """The mounts of this process to which paths lead, as `MountPlaces` takes them."""
     return [[it.place, it.device, it.root, it.kind] for it in mounts() if not it.hidden]
 
 

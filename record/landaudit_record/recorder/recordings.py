@@ -212,9 +212,7 @@ def user() -> int | None:
 
 
 def keeps_privileges() -> bool:
-    """Whether this process has secure bits, by which a change of user leaves privileges (capabilities(7)); if the kernel
-    does not say, it may.
-    """
+    """Whether this process has secure bits, by which a change of user may leave privileges (capabilities(7))."""
     bits: int = ctypes.CDLL(None).prctl(_PR_GET_SECUREBITS, *[ctypes.c_ulong(0)] * 4)
     return bits != 0
 

@@ -216,7 +216,9 @@ class Scene:
         if call.error != "EACCES":
             return False
         runs, asker = call.name in ("execve", "execveat"), thread.user.asker
-        return not thread.process.confined or (asker is not None and modes.refuse(asker, self.disk.mode, op, members, runs))
+        if not thread.process.confined:
+            return True
+        return asker is not None and modes.refuse(asker, self.disk.mode, op, members, runs)
 
     def may_end_by_modes(self, thread: Thread, spot: Spot) -> bool:
         """Whether modes end a way with EACCES, before Landlock is asked."""
