@@ -20,7 +20,7 @@ captures_send name Ts all = recorded_send (field_at name Ts).row _ _ (type_at na
 pub join-findings-requires-send-F : goal.join-findings-requires-send-F
 join-findings-requires-send-F g c κs within =
     let name = lts.name-9 g.row.R g.row.G g.R.laws g.G.laws g.R.Threads-dict g.R.Wait-dict g.G.Gate-dict in
-    let Ts : List RattleType = lts.of-22 g.row.R g.row.G g.R.laws g.G.laws g.R.Threads-dict g.R.Wait-dict g.G.Gate-dict _ _ _ in
+    let Ts : List RattleType = lts.of-24 g.row.R g.row.G g.R.laws g.G.laws g.R.Threads-dict g.R.Wait-dict g.G.Gate-dict _ _ _ in
     let all : AllSend (shape (type_at name Ts)).fields = (
       search (c.type_bounds.sync-R, sendable) depth 20,
       (
