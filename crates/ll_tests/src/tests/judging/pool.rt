@@ -27,7 +27,7 @@ struct Judging<'c, R> {
 }
 
 /// A case to be judged by threads.
-fn judging<'c, R>(rt: &'c R, case: &'c Case<'c>) -> Judging<'c, R>
+fn by_threads<'c, R>(rt: &'c R, case: &'c Case<'c>) -> Judging<'c, R>
     ensures rt { result.rt.now ≡ rt.now }
     ensures case { result.case.now ≡ case.now }
 {
@@ -141,13 +141,13 @@ fn the_answers_are_the_same_by_one_thread_and_for_every_number_of_workers_and_ev
 ) -> Result<(), Fail> {
     let ground = ground_of(rt.alloc(), FAMILY.as_bytes())?;
     let case = ground.case();
-    judging(&rt, &case).expect_family_with_cuts()
+    by_threads(&rt, &case).expect_family_with_cuts()
 }
 
 #[test]
 fn one_worker_makes_one_piece_of_the_whole_family(rt: HostRuntime) -> Result<(), Fail> {
     let ground = ground_of(rt.alloc(), FAMILY.as_bytes())?;
-    let pieces = judging(&rt, &ground.case()).pieces_with(&[], 12)?;
+    let pieces = by_threads(&rt, &ground.case()).pieces_with(&[], 12)?;
     assert_eq!(rt; pieces, [1, 1, 0]);
     Ok(())
 }
@@ -156,7 +156,7 @@ fn one_worker_makes_one_piece_of_the_whole_family(rt: HostRuntime) -> Result<(),
 fn an_empty_trace_has_no_answers(rt: HostRuntime) -> Result<(), Fail> {
     let ground = ground_of(rt.alloc(), b"")?;
     let case = ground.case();
-    judging(&rt, &case).expect_nothing()
+    by_threads(&rt, &case).expect_nothing()
 }
 
 /// A process forks 1,100 children, and the one worker is to cut each process off.
@@ -164,7 +164,7 @@ fn an_empty_trace_has_no_answers(rt: HostRuntime) -> Result<(), Fail> {
 fn children_that_find_the_queue_full_stay(rt: HostRuntime) -> Result<(), Fail> {
     let every = vec![in rt.alloc(); true; 1101]?;
     let ground = ground_with(rt.alloc(), Forks::TheFirst, 1101)?;
-    let pieces = judging(&rt, &ground.case()).pieces_with(&every, 77)?;
+    let pieces = by_threads(&rt, &ground.case()).pieces_with(&every, 77)?;
     assert_eq!(rt; pieces, [1025, 1, 1024]);
     Ok(())
 }
@@ -178,7 +178,7 @@ fn count_of_forks<R: AllocGlobal + Threads + Wait + Sync>(
 ) -> Result<usize, Fail> {
     let ground = ground_with(rt.alloc(), forks, processes)?;
     let case = ground.case();
-    judging(rt, &case).count(workers, cut)
+    by_threads(rt, &case).count(workers, cut)
 }
 
 /// A child that is judged apart where the cut says so, more roots than the queue holds, and a long line of descendants,
@@ -204,7 +204,7 @@ fn all_processes_are_judged_in_so_many_pieces(rt: HostRuntime) -> Result<(), Fai
 fn a_tree_of_forks_is_cut_at_each_fork(rt: HostRuntime) -> Result<(), Fail> {
     let every = vec![in rt.alloc(); true; 1023]?;
     let ground = ground_with(rt.alloc(), Forks::TheOneAtHalf, 1023)?;
-    assert_eq!(rt; judging(&rt, &ground.case()).count_unlike(&every)?, None);
+    assert_eq!(rt; by_threads(&rt, &ground.case()).count_unlike(&every)?, None);
     Ok(())
 }
 
@@ -213,7 +213,7 @@ fn a_tree_of_forks_is_cut_at_each_fork(rt: HostRuntime) -> Result<(), Fail> {
 fn two_jobs_are_judged_at_once(rt: HostRuntime) -> Result<(), Fail> {
     for (forks, processes, first) in [(Forks::Nobody, 2, 0), (Forks::TheFirst, 3, 1)] {
         let ground = ground_with(rt.alloc(), forks, processes)?;
-        let judged = judging(&rt, &ground.case()).judged_at_once(first)?;
+        let judged = by_threads(&rt, &ground.case()).judged_at_once(first)?;
         assert_eq!(rt; judged, (processes as usize, (2, 0)));
     }
     Ok(())
