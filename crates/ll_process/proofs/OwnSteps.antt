@@ -71,17 +71,15 @@ module _ (cv : CaseValue) (index p : ℕ) where
 
   -- the same of a result
   pub met_answers : (r : Record) (result : Result Answer AllocError) → slice_get cv.records index ≡ Some r → r.process.0 ≡ p
-      → IfOk result (λ given. (x : Record) → slice_get cv.records index ≡ Some x → given ≡ answer_to (context_at cv index p) x.op)
-      → IfOk result (λ given. given ≡ answer_at cv.tree cv.abi cv.records index)
+      → IfOk result (λ given. given ≡ answer_to (context_at cv index p) r.op) → IfOk result (λ given. given ≡ answer_at cv.tree cv.abi cv.records index)
   unfolding answer_to
-  met_answers r (Ok given) eq own is = met_answer r given eq own (is r eq)
+  met_answers r (Ok given) eq own is = met_answer r given eq own is
   met_answers r (Err e) eq own is = tt
 
   pub met_leaving : (r : Record) (own : OwnState) (result : Result Answer AllocError) → IsCase cv → slice_get cv.records index ≡ Some r → r.process.0 ≡ p
-      → OnOk result ((x : Record) → slice_get cv.records index ≡ Some x → AgreesIn cv own (state_then (context_at cv index p) x.op))
-      → OnOk result (Leaves cv index p own)
+      → OnOk result (AgreesIn cv own (state_then (context_at cv index p) r.op)) → OnOk result (Leaves cv index p own)
   unfolding state_then
-  met_leaving r own (Ok given) case eq process agrees = met_leaves r own case eq process (agrees r eq)
+  met_leaving r own (Ok given) case eq process agrees = met_leaves r own case eq process agrees
   met_leaving r own (Err e) case eq process agrees = tt
 
 -- ---- the job of a forked child: it begins with what its parent has after the fork record

@@ -2,13 +2,11 @@
 
 ghost use Rattle.std.specs.Prelude.{◌≡◌, ◌<◌, false, Some, IfOk, OnOk, length, slice_get};
 ghost use Rattle.ll_trace.specs.Borrowed.{is_of_rights};
-ghost use Rattle.ll_trace.specs.{declared.op.Record.Record as OneRecord, SeenRecords.record_of};
 ghost use Rattle.ll_semantics.specs.declared.answer.RulesetOutcome.{RulesetOutcome as OneOutcome};
-ghost use Rattle.ll_semantics.specs.CallContexts.{CallContext, answer_to, state_then};
-ghost use Rattle.ll_state.specs.Agreement.{IsMet, Agrees};
+ghost use Rattle.ll_semantics.specs.CallContexts.{CallContext};
 ghost use Rattle.ll_semantics.specs.RulesetOutcomes.{OutcomeFits};
 ghost use Rattle.ll_process.specs.Judging.{answer_at};
-ghost use Rattle.ll_process.specs.Own.{IsFirstPlace, IsOwn, Meets, Leaves};
+ghost use Rattle.ll_process.specs.Own.{IsFirstPlace, IsOwn, Meets, Leaves, context_at};
 
 use crate::case::Case;
 use ll_semantics::{Answer, RulesetOutcome};
@@ -51,39 +49,6 @@ fn outcome_of_other(case: &Case<'_>, index: u32, op: &Op) -> RulesetOutcome
     }
 }
 
-/// The answer to the record at an index if it meets this.
-fn judge_met(
-    case: &Case<'_>,
-    process: ProcessId,
-    index: u32,
-    place: Place,
-    own: &mut OwnState,
-) -> Result<Answer, AllocError>
-    ghost ctx: { CallContext }
-    requires own { IsOwn case.now index process.0 }
-    requires place { IsFirstPlace case.now index place }
-    requires met { IsMet ctx case.now.tree case.now.layers }
-    requires agrees { Agrees ctx.tree ctx.layers own.old ctx.state }
-    requires fits { (r : OneRecord) (outcome : OneOutcome) →
-        slice_get case.now.records index ≡ Some r →
-        slice_get case.now.outcomes index ≡ Some outcome → OutcomeFits ctx r.op outcome }
-    ensures answer { IfOk result (λ given. (r : OneRecord) →
-        slice_get case.now.records index ≡ Some r → given ≡ answer_to ctx r.op) }
-    ensures agrees { OnOk result ((r : OneRecord) →
-        slice_get case.now.records index ≡ Some r
-        → Agrees ctx.tree ctx.layers own.new (state_then ctx r.op)) }
-{
-    let record = case.record(index as usize);
-    let outcome = outcome_at(case, index, &record.op);
-    let call = SeenCall {
-        seen: &record.op,
-        tree: case.tree(),
-        layers: case.layers(),
-        place,
-    };
-    own.answer_call(&call, &outcome)
-}
-
 /// The answer to one of a process's own records. A start took effect when its process began.
 pub(crate) fn answer_own(
     case: &Case<'_>,
@@ -92,6 +57,8 @@ pub(crate) fn answer_own(
     place: Place,
     own: &mut OwnState,
 ) -> Result<Answer, AllocError>
+    ghost ctx: { CallContext }
+    requires ctx { ctx ≡ context_at case.now index process.0 }
     requires own { IsOwn case.now index process.0 }
     requires place { IsFirstPlace case.now index place }
     requires meets { Meets case.now index process.0 own.old }
@@ -101,6 +68,16 @@ pub(crate) fn answer_own(
 {
     match case.trace().start(index as usize) {
         Some(_) => Ok(Answer::Allowed),
-        None => judge_met(case, process, index, place, own),
+        None => {
+            let record = case.record(index as usize);
+            let outcome = outcome_at(case, index, &record.op);
+            let call = SeenCall {
+                seen: &record.op,
+                tree: case.tree(),
+                layers: case.layers(),
+                place,
+            };
+            own.answer_call(&call, &outcome)
+        }
     }
 }

@@ -1,5 +1,4 @@
-use Rattle.ll_process.specs.Own.{context_at}
 use Rattle.ll_process.proofs.walk.answer_own.Given as goal
 
-abbrev pub ghost-judge_met : goal.ghost-judge_met
-ghost-judge_met a = context_at a.case.now a.index a.process.0
+abbrev pub ghost-answer_call : goal.ghost-answer_call
+ghost-answer_call g a = g.ctx
