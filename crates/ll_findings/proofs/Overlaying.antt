@@ -3,7 +3,7 @@ use Rattle.std.proofs.Common.{◌≡◌, ◌∙◌, ◌<◌, ◌≤◌, ◌+◌,
 use Rattle.std.specs.Prelude.{option_map, slice_get, unwrap_or}
 use Rattle.std.specs.Option.{option_and_then}
 use Rattle.std.proofs.lemmas.Option.{slice_get_past, slice_get_read}
-use Rattle.ll_findings.specs.Findings.{FindingValue, with_changes}
+use Rattle.ll_findings.specs.Findings.{FindingValue, kept_at, with_changes}
 use Rattle.ll_findings.specs.Overlays.{change_at, overlay, overlay_from, where_in}
 
 -- what stands at a position, where the first element stands at an index
@@ -81,3 +81,9 @@ all_stays base found changes indices is none =
     ap (λ indices. with_changes base indices changes) none
     ∙ ap₂ (λ answers explanations. record { answers = answers; explanations = explanations }) (unchanged changes.answers base.answers 0)
     (unchanged changes.explanations base.explanations 0) ∙ is
+
+-- nothing is kept over a base that keeps nothing
+pub none_kept : (base changes : FindingValue) (indices : List ℕ) (index : ℕ) → base.explanations ≡ [] → kept_at (with_changes base indices changes) index ≡ None
+unfolding overlay_from
+none_kept base changes indices index none =
+    ap (λ all. unwrap_or (slice_get (overlay all indices changes.explanations) index) None) none

@@ -187,6 +187,9 @@ impl Finding {
     pub fn explains_as(&self, other: &Finding, index: usize) -> bool
         ensures { Decides result (kept_at self.now index ≡ kept_at other.now index) }
     {
+        if self.base.explains_nothing() && other.base.explains_nothing() {
+            return true;
+        }
         match (self.explained_at(index), other.explained_at(index)) {
             (Some(explained), Some(others)) => explained.is_same(others),
             (None, None) => true,

@@ -52,6 +52,13 @@ impl Found {
         self.answers.len()
     }
 
+    /// Whether no explanations are kept.
+    pub(crate) fn explains_nothing(&self) -> bool
+        ensures { OnTrue result (self.now.explanations ≡ []) }
+    {
+        self.explanations.as_slice().is_empty()
+    }
+
     /// Whether this many records are answered and explained.
     pub(crate) fn is_about_all(&self, count: usize) -> bool
         ensures { OnTrue result (IsAboutAll count self.now) }

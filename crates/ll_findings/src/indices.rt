@@ -102,6 +102,9 @@ impl Indices {
     pub(crate) fn find(&self, index: usize) -> Option<usize>
         ensures { result ≡ where_in index self.now }
     {
+        if self.as_slice().is_empty() {
+            return None;
+        }
         for position in self.start(index)..self.indices.len() {
             let at = self.indices[position] as usize;
             if at == index {

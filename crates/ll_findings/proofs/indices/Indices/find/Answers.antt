@@ -5,6 +5,9 @@ use Rattle.ll_findings.specs.Overlays.{Rise, where_in}
 use Rattle.ll_findings.proofs.Rising.{all_passed, found_there, passed}
 use Rattle.ll_findings.proofs.indices.Indices.find.Goals as goal
 
+pub returns-then-is_empty : goal.returns-then-is_empty
+returns-then-is_empty c = all_passed c.args.index c.args.self.now (λ i within. search rules)
+
 pub returns-then-at-index : goal.returns-then-at-index
 returns-then-at-index c =
     let all = c.self.inside.indices.items in
