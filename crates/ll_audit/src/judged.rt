@@ -13,7 +13,7 @@ use crate::ranging::Audit;
 use crate::workers::{Workers, answers_by};
 use ll_findings::Findings;
 use ll_pool::Gate;
-use ll_process::{Answer, Case, Settled};
+use ll_process::{Answer, Case, Settled, answers_alike};
 use ll_rights::Abi;
 use ll_trace::{Kernel, Located};
 use std::alloc::{AllocError, Global};
@@ -52,7 +52,8 @@ fn explain<R: Threads + Sync>(
     newer.with(rt, alloc, &case, answers, explains, threads as usize)
 }
 
-/// Explains a case while the workers judge that of an older version.
+/// Explains a case while the workers judge that of an older version. Half as many threads explain as judge: each takes
+/// memory of its own, and there are not processors for more.
 fn explain_beside<R: Threads + Wait + Sync, G: Gate + Sync>(
     audit: &Audit<'_, R, G>,
     located: &Located,
@@ -80,7 +81,18 @@ fn explain_beside<R: Threads + Wait + Sync, G: Gate + Sync>(
             requires sync { IsSync R.row }
             requires case { IsCase (case_of located.now settled.now) }
             requires answers { answers.items ≡ judged_in (case_of located.now settled.now) }
-        { explain(rt, alloc, located, settled, answers, explains, newer, count) },
+        {
+            explain(
+                rt,
+                alloc,
+                located,
+                settled,
+                answers,
+                explains,
+                newer,
+                count.div_ceil(2),
+            )
+        },
         move ||
             requires count { IsWorkerCount count }
             requires older { IsCase (case_of located.now older.now) }
@@ -105,13 +117,30 @@ impl<'l> Judged<'l> {
         ensures newer { IfOk result (λ one. one.newer ≡ newer) }
         ensures fault { IfErr result IsOutOfMemoryOrThreads }
     {
+        let settled = Settled::of(audit.workers.alloc, located, audit.kernel(abi))?;
+        Judged::of_settled(newer, audit, located, settled)
+    }
+
+    /// Judges a trace by what is settled of it under a version.
+    fn of_settled<R: Threads + Wait + Sync, G: Gate + Sync>(
+        newer: Findings,
+        audit: &Audit<'_, R, G>,
+        located: &'l Located,
+        settled: Settled,
+    ) -> Result<Judged<'l>, Fault>
+        requires count { IsWorkerCount audit.now.workers.now.count }
+        requires case { IsCase (case_of located.now settled) }
+        ensures located { IfOk result (λ one. one.located.now ≡ located.now) }
+        ensures settled { IfOk result (λ one. one.settled ≡ settled) }
+        ensures newer { IfOk result (λ one. one.newer ≡ newer) }
+        ensures fault { IfErr result IsOutOfMemoryOrThreads }
+    {
         let Workers {
             rt,
             alloc,
             count,
             gate,
         } = audit.workers;
-        let settled = Settled::of(*alloc, located, audit.kernel(abi))?;
         let answers = answers_by(*rt, *alloc, *count, *gate, located, &settled, audit.cuts)?;
         Ok(Judged {
             located,
@@ -121,8 +150,8 @@ impl<'l> Judged<'l> {
         })
     }
 
-    /// Explains this version while the workers judge under an older one. Without explanations this version's case is given
-    /// up first.
+    /// Goes on to an older version. Its answers follow from this version's, where no record changes anything else there;
+    /// else the workers judge its case, while this version is explained.
     pub(crate) fn next<R: Threads + Wait + Sync, G: Gate + Sync>(
         self,
         audit: &Audit<'_, R, G>,
@@ -138,10 +167,22 @@ impl<'l> Judged<'l> {
             (λ next. next.settled.kernel.effort ≡ audit.now.options.now.effort) }
         ensures fault { IfErr result IsOutOfMemoryOrThreads }
     {
+        let Workers { alloc, count, .. } = audit.workers;
         let located = self.located;
+        let older = Settled::of(*alloc, located, audit.kernel(abi))?;
+        let alike = answers_alike(*alloc, located, &self.settled, &self.answers, &older)?;
+        if let Some(answers) = alike {
+            let newer = self.finish(audit, *count)?;
+            return Ok(Judged {
+                located,
+                settled: older,
+                answers,
+                newer,
+            });
+        }
         if !audit.options.shown.explanations {
-            let newer = self.finish(audit, audit.workers.count)?;
-            return Judged::of(newer, audit, located, abi);
+            let newer = self.finish(audit, *count)?;
+            return Judged::of_settled(newer, audit, located, older);
         }
         let Judged {
             settled,
@@ -149,7 +190,6 @@ impl<'l> Judged<'l> {
             newer,
             ..
         } = self;
-        let older = Settled::of(audit.workers.alloc, located, audit.kernel(abi))?;
         let (newer, answers) = explain_beside(audit, located, &older, &settled, answers, newer)?;
         Ok(Judged {
             located,

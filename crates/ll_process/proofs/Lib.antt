@@ -6,3 +6,4 @@ pub mod Descents
 pub mod Roots
 pub mod Crossing
 pub mod Placing
+pub mod TwoKernels

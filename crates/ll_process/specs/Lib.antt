@@ -6,3 +6,4 @@ pub mod Own
 pub mod Progresses
 pub mod Descending
 pub mod AgreesOnce
+pub mod Alike

@@ -2,6 +2,7 @@
 #![tactic(auto)]
 
 mod ahead;
+mod alike;
 mod case;
 mod child;
 mod descend;
@@ -15,6 +16,7 @@ mod sizes;
 mod starting;
 mod walk;
 
+pub use alike::answers_alike;
 pub use case::Case;
 pub use descend::judge;
 pub use hand::Hand;
