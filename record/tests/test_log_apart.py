@@ -8,6 +8,7 @@ import tempfile
 import unittest
 from collections.abc import Iterator
 from dataclasses import fields
+from itertools import product
 from pathlib import Path
 from typing import Any
 from unittest import mock
@@ -17,6 +18,7 @@ from landaudit_record.recorder import converting, log_apart, recordings, strace_
 from landaudit_record.recorder.log_apart import _Numbers
 from landaudit_record.recorder.looks import Near
 from landaudit_record.recorder.ports import Ports
+from landaudit_record.recorder.writing import Limits, Recording
 
 from .kept_logs import LOGS, KeptLogs
 from .written_logs import FIRST, THREAD, WrittenLogs, told
@@ -163,6 +165,47 @@ class Unseen(WrittenLogs):
         trace = self.convert(first, "close(7) = 0", f"11  <... open resumed>) {self.FAILS}")
         self.assertEqual(self.unsaid(), [(converting.NOT_SEEN_TO_START, True)])
         self.assertEqual(told(trace, "op", "call"), [("start", 2), ("open", 2)])
+
+
+class Brief(WrittenLogs):
+    """Files that are closed as soon as they are opened: an open that is known takes its close along."""
+
+    OPEN = 'open("/w/f", 0 /* O_RDONLY */) = 3</w/f>'
+    BOTH = (OPEN, "close(3</w/f>) = 0")
+    #: A process begins with such an open, numbers are in use, a close fails, a path is in /proc, another file is there.
+    LINES = [
+        *BOTH * 4,
+        "clone(child_stack=NULL, flags=0x1200000|17 /* SIGCHLD */) = 11",
+        *(f"11  {line}" for line in BOTH * 2),
+        "11  +++ exited with 0 +++",
+        *(OPEN, *BOTH) * 2,
+        *(OPEN, "close(3</w/f>) = -1 EBADF (Bad file descriptor)", *BOTH) * 2,
+        *('open("f", 0 /* O_RDONLY */) = 4</w/f>', "close(4</w/f>) = 0") * 2,
+        *('open("/proc/10/stat", 0 /* O_RDONLY */) = 3</proc/10/stat>', "close(3</proc/10/stat>) = 0") * 2,
+        *('open("/w/p", 0 /* O_RDONLY */) = 5</w/p>', "close_range(5, 5, 0) = 0"),
+        *('open("/w/p", 0 /* O_RDONLY */) = 5</w/p>', "close(5</w/p>) = 0") * 3,
+        'rename("/w/g", "/w/f") = 0',
+        *BOTH * 2,
+        'chdir("/proc") = 0',
+        *BOTH * 2,
+        "+++ exited with 0 +++",
+    ]
+
+    def test_all_files_are_the_same_wherever_a_part_or_a_piece_ends(self) -> None:
+        self.conversion(*self.LINES)
+        self.enterContext(mock.patch.object(log_apart, "LEAST", 0))
+        brief = mock.patch.object(Recording, "open_briefly", autospec=True, side_effect=Recording.open_briefly)
+        for own, at_once in product((1, 2, 3, 4, 100), (2, 3, 1_000)):
+            with mock.patch.object(log_apart, "AT_ONCE", at_once), brief as taken_along:
+                alone, apart = (self._files(own, processors) for processors in ({0}, {0, 1}))
+            self.assertEqual(alone, apart, (own, at_once))
+            self.assertTrue(taken_along.called)
+
+    def _files(self, own: int, processors: set[int]) -> dict[str, bytes]:
+        """The files of a conversion in parts with so many records."""
+        with mock.patch.object(os, "sched_getaffinity", return_value=processors):
+            converting.convert(self.out, Ports(), Limits(own=own))
+        return {file.name: file.read_bytes() for file in self.out.iterdir()}
 
 
 class Numbers(unittest.TestCase):

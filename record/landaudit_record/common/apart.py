@@ -3,6 +3,7 @@
 from __future__ import annotations
 
 import contextlib
+import fcntl
 import marshal
 import multiprocessing
 import signal
@@ -17,6 +18,8 @@ from .problems import WANTING, Problem
 
 Result = TypeVar("Result")
 _FORKING = multiprocessing.get_context("fork")
+#: How many bytes of pieces may wait to be taken, if the kernel allows it; else as many as a pipe has (pipe(7)).
+WAITING = 1 << 20
 
 
 def each(works: Iterable[Callable[[], Result]], most: int) -> Iterator[Result]:
@@ -103,6 +106,8 @@ def _whole(work: Callable[[], Result], _: Connection) -> Result:
 
 def _give(work: Callable[[], Iterable[Any]], sends: Connection) -> None:
     """Sends the pieces of a work, and nothing as the last one, whatever ends it."""
+    with contextlib.suppress(OSError):
+        fcntl.fcntl(sends.fileno(), fcntl.F_SETPIPE_SZ, WAITING)
     try:
         for piece in work():
             sends.send_bytes(marshal.dumps(piece))

@@ -8,6 +8,7 @@ changes that, the log is read again, up to that call as before.
 from __future__ import annotations
 
 import os
+from array import array
 from collections.abc import Generator, Iterator, Mapping
 from dataclasses import astuple, replace
 from functools import partial
@@ -17,13 +18,18 @@ from typing import Any
 from ..common import apart
 from . import strace_log, values
 from .looks import Near
-from .strace_log import Arguments, Call, Ended, Event, Superseded, UnreadLine
+from .strace_log import OPENING, Arguments, Call, Ended, Event, Superseded, UnreadLine
 
 #: A log with fewer bytes is read by this process.
 LEAST = 1_000_000
 #: How many events are sent at once.
 AT_ONCE = 1_000
+#: What is sent of each event, as numbers of this type: its line, its thread, the line of its end, the number of its
+#: text, and what `Call` has as `closed`. A text that was not sent before has its number inverted, what is no call this.
+_FIGURE, _FIGURES, _NO_CALL = "q", 5, -1 << 32
 _OTHERS = {kind.__name__: kind for kind in (Ended, Superseded, UnreadLine)}
+#: The figures of some events as bytes, and what is sent besides of those whose text is new and of what is no call.
+_Piece = tuple[bytes, list[Any]]
 
 
 def events(path: Path, ends: Mapping[int, str], near: Near) -> Generator[Event, None, None]:
@@ -39,7 +45,7 @@ def events(path: Path, ends: Mapping[int, str], near: Near) -> Generator[Event, 
         yield from _received(_sent(path, ends, near, taken), near)
 
 
-def _sent(path: Path, ends: Mapping[int, str], near: Near, taken: int) -> Iterator[list[Any]]:
+def _sent(path: Path, ends: Mapping[int, str], near: Near, taken: int) -> Iterator[_Piece]:
     """The pieces that another process sends, or this one makes if none can be started."""
     work = partial(_pieces, path, ends, replace(near), taken)
     try:
@@ -48,47 +54,50 @@ def _sent(path: Path, ends: Mapping[int, str], near: Near, taken: int) -> Iterat
         return work()
 
 
-def _received(pieces: Iterator[list[Any]], near: Near) -> Generator[Event, None, int]:
+def _received(pieces: Iterator[_Piece], near: Near) -> Generator[Event, None, int]:
     """The events that a reader sends, until relative paths may lead through /proc; gives the number of events.
 
-    A call whose text was sent before has a number alone.
+    A call whose text was sent before has a number alone. A close is left out that was taken along with its open.
     """
     calls: dict[int, Call] = {}
     relative, taken = near.relative, 0
-    for piece in pieces:
-        for count, said in enumerate(piece, start=1):
-            if len(said) == _KNOWN:
-                line, tid, end, number = said
+    for figures, parts in pieces:
+        each, told = iter(array(_FIGURE, figures)), iter(parts)
+        count, left_out = 0, False
+        for count, (line, tid, end, number, closed) in enumerate(zip(*[each] * _FIGURES), start=1):
+            if left_out:
+                left_out = False
+            elif number >= 0:
                 call = calls[number]
-                call.line, call.tid, call.end = line, tid, end
+                call.line, call.tid, call.end, call.closed = line, tid, end, closed
                 yield call
-            elif len(said) == _OTHER:
-                yield _OTHERS[said[0]](*said[1])
+                left_out = call.closed != closed
+            elif number == _NO_CALL:
+                kind, said = next(told)
+                yield _OTHERS[kind](*said)
             else:
-                line, tid, end, number, name, arguments, value, error, note, text = said
-                calls[number] = call = Call(
+                name, arguments, value, error, note, text = next(told)
+                calls[~number] = call = Call(
                     line, tid, name, Arguments(enumerate(arguments)), value, error, note, text, end
                 )
                 yield call
             if near.relative is not relative:
                 return taken + count
-        taken += len(piece)
+        taken += count
     return taken
 
 
-#: How many values stand for a call whose text was sent before, and for what is no call.
-_KNOWN, _OTHER = 4, 2
-
-
-def _pieces(path: Path, ends: Mapping[int, str], near: Near, taken: int) -> Iterator[list[Any]]:
+def _pieces(path: Path, ends: Mapping[int, str], near: Near, taken: int) -> Iterator[_Piece]:
     """The events of a log in pieces, as values for marshal, without those that are taken already.
 
-    If some are, relative paths may lead through /proc from then on, and not before.
+    If some are, relative paths may lead through /proc from then on, and not before. An open has the line of the close
+    that follows it at once, if the text of that was sent before.
     """
     if taken:
         near.relative = False
     numbers = _Numbers()
-    piece: list[Any] = []
+    figures, last = array(_FIGURE), None
+    parts: list[Any] = []
     for count, event in enumerate(strace_log.events(path, ends, near), start=1):
         if count <= taken:
             near.relative = count == taken
@@ -96,17 +105,27 @@ def _pieces(path: Path, ends: Mapping[int, str], near: Near, taken: int) -> Iter
         if isinstance(event, Call):
             number, is_new = numbers.of(event.text)
             if is_new:
-                arguments = list(event.arguments.values())
-                parts = (event.name, arguments, event.value, event.error, event.note, event.text)
-                piece.append((event.line, event.tid, event.end, number, *parts))
-            else:
-                piece.append((event.line, event.tid, event.end, number))
+                parts.append(
+                    (event.name, list(event.arguments.values()), event.value, event.error, event.note, event.text)
+                )
+            elif last is not None and event.name == "close" and _closes(event, last) and not near.is_look(event.text):
+                figures[-1] = event.line
+            figures.extend((event.line, event.tid, event.end, ~number if is_new else number, 0))
+            last = event if event.name in OPENING else None
         else:
-            piece.append((type(event).__name__, astuple(event)))
-        if len(piece) == AT_ONCE:
-            yield piece
-            piece = []
-    yield piece
+            parts.append((type(event).__name__, astuple(event)))
+            figures.extend((event.line, event.tid, event.line, _NO_CALL, 0))
+            last = None
+        if len(figures) == AT_ONCE * _FIGURES:
+            yield figures.tobytes(), parts
+            figures, parts, last = array(_FIGURE), [], None
+    yield figures.tobytes(), parts
+
+
+def _closes(call: Call, opening: Call) -> bool:
+    """Whether a close is that of what the same thread has just opened."""
+    number = f"close({opening.value}"
+    return opening.ok and call.ok and call.tid == opening.tid and call.text.startswith((f"{number}<", f"{number})"))
 
 
 class _Numbers:

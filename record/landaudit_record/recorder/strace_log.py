@@ -96,6 +96,9 @@ class Call:
     `end` is the line on which it ended; a call that takes effect at its beginning is told with the line of that.
     `value` is what the kernel returned (None where it returned nothing, as a call that is restarted),
     `error` the name of its error, `note` what strace says behind the result (the path of a descriptor).
+
+    `closed` is the line on which the thread closes again what the call has just opened, 0 if nobody has looked for it:
+    a handler that takes this next call along sets it to 0, and then it is not told.
     """
 
     line: int
@@ -108,6 +111,7 @@ class Call:
     text: str
     end: int = 0
     understood: Understood = field(default_factory=Understood, compare=False)
+    closed: int = field(default=0, compare=False)
 
     @property
     def ok(self) -> bool:

@@ -292,7 +292,6 @@ class Recording:
         self._undone = Path(tempfile.mkdtemp(prefix=UNDONE, dir=folder))
         self._unsaid = open(self._undone / "unsaid.jsonl", "w", encoding="utf-8")
         self._reach = open(self._undone / REACH, "w", encoding="utf-8")
-        self._committed = 0
         self.processes = 0
         self.unsaid: Counter[str] = Counter()
         self._holes: Counter[str] = Counter()
@@ -301,6 +300,7 @@ class Recording:
         #: The records of the call that is not committed yet.
         self.waiting: list[_Waiting] = []
         self._parts: list[_PartInMaking] = []
+        self._before = self._again = self._in_part = self._most = 0
         self._begin_part()
 
     def __enter__(self) -> Self:
@@ -315,7 +315,7 @@ class Recording:
     @property
     def records(self) -> int:
         """The number of records, including those of the call that is not committed yet."""
-        return self._committed + len(self.waiting)
+        return self.moment + len(self.waiting)
 
     def write(self, op: str, pid: int, call: int, kernel: str | None = None, **members: Any) -> None:
         """Adds a record to those of its call; members that are None or false are left out."""
@@ -354,13 +354,24 @@ class Recording:
         if members["fd"] < FIRST_MADE_UP:
             self._living.opens(pid, members)
 
+    def open_briefly(self, pid: int, call: int, members: Members, said: str, closed: int) -> None:
+        """Adds an open as `open_last` does, and the next call, the close of its number on the line `closed`."""
+        if members["path"] not in self._objects or self.tree.fresh or self._in_part + 1 >= self._most:
+            self.open_last(pid, call, members, said)
+            self.close_last(pid, closed, members["fd"])
+            return
+        self._in_part += 2
+        self._lines.append(trace_lines.opening(pid, said, call) + trace_lines.closing(pid, members["fd"], closed))
+        if len(self._lines) > LINES_KEPT:
+            self._write_lines()
+        self._living.closes(pid, members["fd"])
+
     def _keep(self, line: str) -> None:
         """Keeps the line of a call that has one record."""
-        if self._in_part >= self._most or len(self._objects) > self._limits.objects:
+        if self._in_part >= self._most:
             self._end_part()
             self._begin_part()
         self._in_part += 1
-        self._committed += 1
         lines = self._lines
         lines.append(line)
         if len(lines) > LINES_KEPT:
@@ -373,12 +384,10 @@ class Recording:
         call = self.waiting
         if not call:
             return
-        if self._in_part >= self._most or len(self._objects) > self._limits.objects:
+        if self._in_part >= self._most:
             self._end_part()
             self._begin_part()
-        count = len(call)
-        self._in_part += count
-        self._committed += count
+        self._in_part += len(call)
         living, lines = self._living, self._lines
         for op, pid, members, kernel, line in call:
             lines.append(line)
@@ -436,7 +445,7 @@ class Recording:
     @property
     def moment(self) -> int:
         """The number of records before the present call."""
-        return self._committed
+        return self._before + self._in_part - self._again
 
     def reaches(self, asks: str, pid: int, to: Iterable[int], line: int, call: str, **members: Any) -> None:
         """Writes that a call reaches other processes, or a socket that one of them made."""
@@ -506,8 +515,10 @@ class Recording:
             self._trace.write(jsonl.line(record))
             self._need(record.get("path", "/"))
             self._started += record["op"] in ("start", "fork")
+        self._before = self.moment
         self._again = self._in_part = len(again)
         self._most = min(self._limits.records - MOST_OF_A_CALL, self._again + self._limits.own)
+        self._end_if_full()
 
     def _count(self, op: str, members: Members) -> None:
         """Counts a process that begins, and the objects that a move names."""
@@ -515,7 +526,7 @@ class Recording:
             self._started += 1
             self.processes += 1
             if self._started >= self._limits.processes:
-                self._most = self._in_part
+                self._most = 0
         else:
             self._need(members["from"])
             self._need(members["to"])
@@ -538,6 +549,12 @@ class Recording:
         if len(self._others) > KEPT:
             self._others.clear()
             self._others.add(ROOT)
+        self._end_if_full()
+
+    def _end_if_full(self) -> None:
+        """Ends the part with the present call if it has too many objects."""
+        if len(self._objects) > self._limits.objects:
+            self._most = 0
 
     def _end_part(self) -> None:
         self._list_fresh()

@@ -92,6 +92,10 @@ def _opened_again(scene: Scene, thread: Thread, call: Call, again: _Reopened) ->
         return False
     if number in process.table:
         scene.close(thread, call, number)
+    elif call.closed and not scene.through and not scene.recording.waiting:
+        scene.recording.open_briefly(process.pid, call.line, again.members, again.said, call.closed)
+        names.line, call.closed = call.closed, 0
+        return True
     process.table[number] = Handle(again.path, node, True, "other", again.close_on_exec)
     add = scene.recording.add_open if scene.through else scene.recording.open_last
     add(process.pid, call.line, again.members, again.said)
