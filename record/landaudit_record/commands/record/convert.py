@@ -19,6 +19,8 @@ from ...recorder.ports import Ports
 NAME = "convert"
 HELP = "write the tree and the trace of a recording again, from the log that it keeps"
 EXAMPLE = "landaudit-record convert rec"
+#: Nearly all objects of a conversion stay until its end or go at once, so it looks for cycles less often than others.
+MORE_OBJECTS = 1_000_000
 
 
 def add_arguments(parser: argparse.ArgumentParser) -> None:

@@ -55,8 +55,8 @@ UNNAMED = "#tmpfile"
 class _Reopened:
     """A file that was opened only to be read, and what the opening became: programs open the same files over and over.
 
-    `members` are those of the record, and `said` is their text. `walk` is by which path it was opened, and from which
-    directory, if that was not the path of the file; `turns` are those of `Names` at that time.
+    `members` are those of the record, and `said` is their text, if the file was opened again. `walk` is by which path
+    it was opened, and from which directory, if that was not the path of the file; `turns` are those of `Names` then.
     """
 
     number: int
@@ -67,8 +67,8 @@ class _Reopened:
     node: Node
     turns: int
     members: dict[str, Any]
-    said: str
     walk: tuple[str | None, str] | None
+    said: str = ""
 
 
 def _open(scene: Scene, thread: Thread, call: Call) -> None:
@@ -90,6 +90,8 @@ def _opened_again(scene: Scene, thread: Thread, call: Call, again: _Reopened) ->
         return False
     if not names.meets(again.path, again.over, again.name, node):
         return False
+    if not again.said:
+        again.said = trace_lines.text_of(again.members)
     if number in process.table:
         scene.close(thread, call, number)
     elif call.closed and not scene.through and not scene.recording.waiting:
@@ -170,8 +172,8 @@ def _keep(
         walk = (of.path if of is not None else None, text)
     members = _members(spot, result.number, flags, False)
     over, _, name = real.rpartition("/")
-    said, cloexec, turns = trace_lines.text_of(members), bool(flags & O_CLOEXEC), scene.names.turns
-    call.understood.of = _Reopened(result.number, real, over, name, cloexec, node, turns, members, said, walk)
+    cloexec, turns = bool(flags & O_CLOEXEC), scene.names.turns
+    call.understood.of = _Reopened(result.number, real, over, name, cloexec, node, turns, members, walk)
 
 
 def succeeded(
