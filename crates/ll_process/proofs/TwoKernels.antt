@@ -146,51 +146,54 @@ module _ (tree : List Entry) (here there : Effort) (a b : Abi) (w : World) (p : 
       → step tree a w p (by_effort here a op) ≡ step tree b w p (by_effort there b op)
   nothing_changed one other = world_kept tree a w p (by_effort here a op) one ∙ sym (world_kept tree b w p (by_effort there b op) other)
 
-  module _ (layers others : List (RulesOn ℕ)) (x y : RulesetOutcome)
-      (fits : OutcomeFits (met_by tree a layers w p) (by_effort here a op) x) (fits_too : OutcomeFits (met_by tree b others w p) (by_effort there b op) y) where
-    by_processes : (given : Answer) → answer_told x ≡ None → answer_told y ≡ None → given ≡ answer_in tree a w p (by_effort here a op) → IsSame given
-    unfolding answer_in
-    by_processes given none none_too is =
-        let off = frozen_off (met_by tree a layers w p) (by_effort here a op) x fits none in
-        let off_too = frozen_off (met_by tree b others w p) (by_effort there b op) y fits_too none_too in
-        let same : by_effort here a op ≡ by_effort there b op = off_rulesets here a op off ∙ sym (off_rulesets there b op off_too) in
-        let answers : answer_in tree a w p (by_effort here a op) ≡ answer_in tree b w p (by_effort there b op) =
-        unversioned tree a b w.rulesets (by_effort here a op) (w.processes p) off
-        ∙ ap (λ (o : Op). answer tree b w.rulesets o (w.processes p)) same in
-        (is ∙ answers, same_call same answers)
+module _ (tree : List Entry) (here there : Effort) (a b : Abi) (w : World) (p : ℕ) (op : Op) (layers others : List (RulesOn ℕ)) (x y : RulesetOutcome)
+    (fits : OutcomeFits (met_by tree a layers w p) (by_effort here a op) x) (fits_too : OutcomeFits (met_by tree b others w p) (by_effort there b op) y) where
+  abbrev IsSameHere : Answer → Type 0
+  IsSameHere given = IsSame tree here there a b w p op given
 
-    both_allowed : by_effort here a op ≡ by_effort there b op → answer_told x ≡ Some Allowed → answer_told y ≡ Some Allowed → IsSame Allowed
-    unfolding answer_in answer_to
-    both_allowed same told told_too =
-        let one = told_on (met_by tree a layers w p) (by_effort here a op) x Allowed fits told in
-        let other = told_on (met_by tree b others w p) (by_effort there b op) y Allowed fits_too told_too in
-        (other.1, same_call same (sym one.1 ∙ other.1))
+  by_processes : (given : Answer) → answer_told x ≡ None → answer_told y ≡ None → given ≡ answer_in tree a w p (by_effort here a op) → IsSameHere given
+  unfolding answer_in
+  by_processes given none none_too is =
+      let off = frozen_off (met_by tree a layers w p) (by_effort here a op) x fits none in
+      let off_too = frozen_off (met_by tree b others w p) (by_effort there b op) y fits_too none_too in
+      let same : by_effort here a op ≡ by_effort there b op = off_rulesets here a op off ∙ sym (off_rulesets there b op off_too) in
+      let answers : answer_in tree a w p (by_effort here a op) ≡ answer_in tree b w p (by_effort there b op) =
+      unversioned tree a b w.rulesets (by_effort here a op) (w.processes p) off
+      ∙ ap (λ (o : Op). answer tree b w.rulesets o (w.processes p)) same in
+      (is ∙ answers, same_call tree here there a b w p op same answers)
 
-    -- what is told of neither is that it is allowed, and of one is told something
-    nothing_allowed : (u v : Option Answer) → answer_told x ≡ u → answer_told y ≡ v → u ≢ Some Allowed → v ≢ Some Allowed
-        → (u ≡ None → v ≢ None) → IsSame (unwrap_or v Moot)
-    unfolding answer_in answer_to
-    nothing_allowed (Some u) (Some v) told told_too other other_too some =
-        let one = told_on (met_by tree a layers w p) (by_effort here a op) x u fits told in
-        let two = told_on (met_by tree b others w p) (by_effort there b op) y v fits_too told_too in
-        (two.1, nothing_changed (λ is. other (ap Some (one.1 ∙ is))) (λ is. other_too (ap Some (two.1 ∙ is))))
-    nothing_allowed None (Some v) told told_too other other_too some =
-        let off = frozen_off (met_by tree a layers w p) (by_effort here a op) x fits told in
-        let two = told_on (met_by tree b others w p) (by_effort there b op) y v fits_too told_too in
-        let without = off_rulesets here a op off in
-        let moot : answer_in tree a w p (by_effort here a op) ≡ Moot =
-        ap (λ (o : Op). answer tree a w.rulesets o (w.processes p)) without
-        ∙ left_out there b a op tree w.rulesets (w.processes p) (ap is_on_rulesets (sym without) ∙ off) two.0 in
-        (two.1, nothing_changed (λ is. moot-other (sym moot ∙ is)) (λ is. other_too (ap Some (two.1 ∙ is))))
-    nothing_allowed (Some u) None told told_too other other_too some =
-        let one = told_on (met_by tree a layers w p) (by_effort here a op) x u fits told in
-        let off = frozen_off (met_by tree b others w p) (by_effort there b op) y fits_too told_too in
-        let without = off_rulesets there b op off in
-        let moot : answer_in tree b w p (by_effort there b op) ≡ Moot =
-        ap (λ (o : Op). answer tree b w.rulesets o (w.processes p)) without
-        ∙ left_out here a b op tree w.rulesets (w.processes p) (ap is_on_rulesets (sym without) ∙ off) one.0 in
-        (sym moot, nothing_changed (λ is. other (ap Some (one.1 ∙ is))) (λ is. moot-other (sym moot ∙ is)))
-    nothing_allowed None None told told_too other other_too some = absurd (some refl refl)
+  both_allowed : by_effort here a op ≡ by_effort there b op → answer_told x ≡ Some Allowed → answer_told y ≡ Some Allowed → IsSameHere Allowed
+  unfolding answer_in answer_to
+  both_allowed same told told_too =
+      let one = told_on (met_by tree a layers w p) (by_effort here a op) x Allowed fits told in
+      let other = told_on (met_by tree b others w p) (by_effort there b op) y Allowed fits_too told_too in
+      (other.1, same_call tree here there a b w p op same (sym one.1 ∙ other.1))
+
+  -- what is told of neither is that it is allowed, and of one is told something
+  nothing_allowed : (u v : Option Answer) → answer_told x ≡ u → answer_told y ≡ v → u ≢ Some Allowed → v ≢ Some Allowed
+      → (u ≡ None → v ≢ None) → IsSameHere (unwrap_or v Moot)
+  unfolding answer_in answer_to
+  nothing_allowed (Some u) (Some v) told told_too other other_too some =
+      let one = told_on (met_by tree a layers w p) (by_effort here a op) x u fits told in
+      let two = told_on (met_by tree b others w p) (by_effort there b op) y v fits_too told_too in
+      (two.1, nothing_changed tree here there a b w p op (λ is. other (ap Some (one.1 ∙ is))) (λ is. other_too (ap Some (two.1 ∙ is))))
+  nothing_allowed None (Some v) told told_too other other_too some =
+      let off = frozen_off (met_by tree a layers w p) (by_effort here a op) x fits told in
+      let two = told_on (met_by tree b others w p) (by_effort there b op) y v fits_too told_too in
+      let without = off_rulesets here a op off in
+      let moot : answer_in tree a w p (by_effort here a op) ≡ Moot =
+      ap (λ (o : Op). answer tree a w.rulesets o (w.processes p)) without
+      ∙ left_out there b a op tree w.rulesets (w.processes p) (ap is_on_rulesets (sym without) ∙ off) two.0 in
+      (two.1, nothing_changed tree here there a b w p op (λ is. moot-other (sym moot ∙ is)) (λ is. other_too (ap Some (two.1 ∙ is))))
+  nothing_allowed (Some u) None told told_too other other_too some =
+      let one = told_on (met_by tree a layers w p) (by_effort here a op) x u fits told in
+      let off = frozen_off (met_by tree b others w p) (by_effort there b op) y fits_too told_too in
+      let without = off_rulesets there b op off in
+      let moot : answer_in tree b w p (by_effort there b op) ≡ Moot =
+      ap (λ (o : Op). answer tree b w.rulesets o (w.processes p)) without
+      ∙ left_out here a b op tree w.rulesets (w.processes p) (ap is_on_rulesets (sym without) ∙ off) one.0 in
+      (sym moot, nothing_changed tree here there a b w p op (λ is. other (ap Some (one.1 ∙ is))) (λ is. moot-other (sym moot ∙ is)))
+  nothing_allowed None None told told_too other other_too some = absurd (some refl refl)
 
 -- ---- one record of two cases
 
@@ -199,73 +202,75 @@ answered : (tree : List Entry) (abi : Abi) (records : List Record) (k : ℕ) (r 
 unfolding answer_at
 answered tree abi records k r eq = ap (λ (o : Option Answer). unwrap_or o Moot) (judged-at tree abi records k r eq)
 
-module _ (located : Located) (one other : Settled) (k : ℕ) (case_one : IsCase (case_of located one)) (case_other : IsCase (case_of located other)) where
-  -- the record as a kernel sees it
-  abbrev seen_by : Settled → Record → Record
-  seen_by settled r = record r { op = taken settled.kernel r.op }
+-- the record as a kernel sees it
+abbrev seen_by : Settled → Record → Record
+seen_by settled r = record r { op = taken settled.kernel r.op }
 
-  is_seen : (settled : Settled) (r : Record) → slice_get located.trace k ≡ Some r → slice_get (case_of located settled).records k ≡ Some (seen_by settled r)
-  is_seen settled r here = record_seen settled.kernel.effort settled.kernel.abi located.trace k r here
+is_seen : (located : Located) (settled : Settled) (k : ℕ) (r : Record) → slice_get located.trace k ≡ Some r
+    → slice_get (case_of located settled).records k ≡ Some (seen_by settled r)
+is_seen located settled k r here = record_seen settled.kernel.effort settled.kernel.abi located.trace k r here
 
-  -- the world before it in the first case
-  abbrev met_here : World
-  met_here = world_at located.tree one.kernel.abi (case_of located one).records k
+-- the world before it
+abbrev world_of : Located → Settled → ℕ → World
+world_of located settled k = world_at located.tree settled.kernel.abi (case_of located settled).records k
 
-  abbrev FitsIn : Settled → World → Record → RulesetOutcome → Type 0
-  FitsIn settled w r outcome =
-      OutcomeFits (met_by located.tree settled.kernel.abi settled.layers.items w r.process.0) (taken settled.kernel r.op) outcome
+abbrev FitsIn : Located → Settled → World → Record → RulesetOutcome → Type 0
+FitsIn located settled w r outcome =
+    OutcomeFits (met_by located.tree settled.kernel.abi settled.layers.items w r.process.0) (taken settled.kernel r.op) outcome
 
+module _ (located : Located) (one other : Settled) (k : ℕ) (case_one : IsCase (case_of located one)) (case_other : IsCase (case_of located other))
+    (x y : RulesetOutcome) (within : k < length located.trace) (says : slice_get one.outcomes.items k ≡ Some x)
+    (says_too : slice_get other.outcomes.items k ≡ Some y) where
   abbrev IsSameIn : Record → Answer → Type 0
   IsSameIn r given =
-      IsSame located.tree one.kernel.effort other.kernel.effort one.kernel.abi other.kernel.abi met_here r.process.0 r.op given
+      IsSame located.tree one.kernel.effort other.kernel.effort one.kernel.abi other.kernel.abi (world_of located one k) r.process.0 r.op given
 
   -- what is so of one call in one world is so of the record in both cases
-  lifted : (r : Record) (x y : RulesetOutcome) (given : Answer) → slice_get located.trace k ≡ Some r
-      → slice_get one.outcomes.items k ≡ Some x → slice_get other.outcomes.items k ≡ Some y
-      → (FitsIn one met_here r x → FitsIn other met_here r y → IsSameIn r given) → StaysAlike (case_of located one) (case_of located other) k given
-  lifted r x y given here says says_too same met =
+  lifted : (r : Record) (given : Answer) → slice_get located.trace k ≡ Some r
+      → (FitsIn located one (world_of located one k) r x → FitsIn located other (world_of located one k) r y → IsSameIn r given)
+      → StaysAlike (case_of located one) (case_of located other) k given
+  lifted r given here same met =
       let tree = located.tree in
       let records = (case_of located one).records in
       let others = (case_of located other).records in
-      let fits_too : FitsIn other met_here r y =
-      subst (λ (w : World). FitsIn other w r y) (sym met) (case_other.settled.fits k (seen_by other r) y (is_seen other r here) says_too) in
-      let both = same (case_one.settled.fits k (seen_by one r) x (is_seen one r here) says) fits_too in (
+      let fits_too : FitsIn located other (world_of located one k) r y =
+      subst (λ (w : World). FitsIn located other w r y) (sym met)
+      (case_other.settled.fits k (seen_by other r) y (is_seen located other k r here) says_too) in
+      let both = same (case_one.settled.fits k (seen_by one r) x (is_seen located one k r here) says) fits_too in (
         both.0
             ∙ ap (λ (w : World). answer_in tree other.kernel.abi w r.process.0 (taken other.kernel r.op)) met
-            ∙ sym (answered tree other.kernel.abi others k (seen_by other r) (is_seen other r here)),
-        world_at-more tree one.kernel.abi records k (seen_by one r) (is_seen one r here)
+            ∙ sym (answered tree other.kernel.abi others k (seen_by other r) (is_seen located other k r here)),
+        world_at-more tree one.kernel.abi records k (seen_by one r) (is_seen located one k r here)
             ∙ both.1
             ∙ ap (λ (w : World). step tree other.kernel.abi w r.process.0 (taken other.kernel r.op)) met
-            ∙ sym (world_at-more tree other.kernel.abi others k (seen_by other r) (is_seen other r here)),
+            ∙ sym (world_at-more tree other.kernel.abi others k (seen_by other r) (is_seen located other k r here)),
       )
 
-  module _ (x y : RulesetOutcome) (within : k < length located.trace) (says : slice_get one.outcomes.items k ≡ Some x)
-      (says_too : slice_get other.outcomes.items k ≡ Some y) where
-    pub stays_by_processes : (given : Answer) → answer_told x ≡ None → answer_told y ≡ None
-        → given ≡ answer_at located.tree one.kernel.abi (case_of located one).records k → StaysAlike (case_of located one) (case_of located other) k given
-    stays_by_processes given none none_too is =
-        let (r, here) = stands_at located.trace k within in
-        lifted r x y given here says says_too (λ fits fits_too.
-        by_processes located.tree one.kernel.effort other.kernel.effort one.kernel.abi other.kernel.abi met_here r.process.0 r.op
-        one.layers.items other.layers.items x y fits fits_too given none none_too
-        (is ∙ answered located.tree one.kernel.abi (case_of located one).records k (seen_by one r) (is_seen one r here)))
+  pub stays_by_processes : (given : Answer) → answer_told x ≡ None → answer_told y ≡ None
+      → given ≡ answer_at located.tree one.kernel.abi (case_of located one).records k → StaysAlike (case_of located one) (case_of located other) k given
+  stays_by_processes given none none_too is =
+      let (r, here) = stands_at located.trace k within in
+      lifted r given here (λ fits fits_too.
+      by_processes located.tree one.kernel.effort other.kernel.effort one.kernel.abi other.kernel.abi (world_of located one k) r.process.0 r.op
+      one.layers.items other.layers.items x y fits fits_too given none none_too
+      (is ∙ answered located.tree one.kernel.abi (case_of located one).records k (seen_by one r) (is_seen located one k r here)))
 
-    pub stays_allowed : answer_told x ≡ Some Allowed → answer_told y ≡ Some Allowed
-        → ((r : Record) → slice_get located.trace k ≡ Some r → taken one.kernel r.op ≡ taken other.kernel r.op)
-        → StaysAlike (case_of located one) (case_of located other) k Allowed
-    stays_allowed told told_too same =
-        let (r, here) = stands_at located.trace k within in
-        lifted r x y Allowed here says says_too (λ fits fits_too.
-        both_allowed located.tree one.kernel.effort other.kernel.effort one.kernel.abi other.kernel.abi met_here r.process.0 r.op
-        one.layers.items other.layers.items x y fits fits_too (same r here) told told_too)
+  pub stays_allowed : answer_told x ≡ Some Allowed → answer_told y ≡ Some Allowed
+      → ((r : Record) → slice_get located.trace k ≡ Some r → taken one.kernel r.op ≡ taken other.kernel r.op)
+      → StaysAlike (case_of located one) (case_of located other) k Allowed
+  stays_allowed told told_too same =
+      let (r, here) = stands_at located.trace k within in
+      lifted r Allowed here (λ fits fits_too.
+      both_allowed located.tree one.kernel.effort other.kernel.effort one.kernel.abi other.kernel.abi (world_of located one k) r.process.0 r.op
+      one.layers.items other.layers.items x y fits fits_too (same r here) told told_too)
 
-    pub stays_kept : answer_told x ≢ Some Allowed → answer_told y ≢ Some Allowed → (answer_told x ≡ None → answer_told y ≢ None)
-        → StaysAlike (case_of located one) (case_of located other) k (unwrap_or (answer_told y) Moot)
-    stays_kept other_told other_too some =
-        let (r, here) = stands_at located.trace k within in
-        lifted r x y (unwrap_or (answer_told y) Moot) here says says_too (λ fits fits_too.
-        nothing_allowed located.tree one.kernel.effort other.kernel.effort one.kernel.abi other.kernel.abi met_here r.process.0 r.op
-        one.layers.items other.layers.items x y fits fits_too (answer_told x) (answer_told y) refl refl other_told other_too some)
+  pub stays_kept : answer_told x ≢ Some Allowed → answer_told y ≢ Some Allowed → (answer_told x ≡ None → answer_told y ≢ None)
+      → StaysAlike (case_of located one) (case_of located other) k (unwrap_or (answer_told y) Moot)
+  stays_kept other_told other_too some =
+      let (r, here) = stands_at located.trace k within in
+      lifted r (unwrap_or (answer_told y) Moot) here (λ fits fits_too.
+      nothing_allowed located.tree one.kernel.effort other.kernel.effort one.kernel.abi other.kernel.abi (world_of located one k) r.process.0 r.op
+      one.layers.items other.layers.items x y fits fits_too (answer_told x) (answer_told y) refl refl other_told other_too some)
 
 -- ---- what is read of a case
 
