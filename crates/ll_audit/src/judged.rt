@@ -52,8 +52,8 @@ fn explain<R: Threads + Sync>(
     newer.with(rt, alloc, &case, answers, explains, threads as usize)
 }
 
-/// Explains a case while the workers judge that of an older version. Half as many threads explain as judge: each takes
-/// memory of its own, and there are not processors for more.
+/// Explains a case while the workers judge that of an older version. Half as many threads explain as judge, since each
+/// takes memory of its own.
 fn explain_beside<R: Threads + Wait + Sync, G: Gate + Sync>(
     audit: &Audit<'_, R, G>,
     located: &Located,
@@ -150,8 +150,8 @@ impl<'l> Judged<'l> {
         })
     }
 
-    /// Goes on to an older version. Its answers follow from this version's, where no record changes anything else there;
-    /// else the workers judge its case, while this version is explained.
+    /// Goes on to an older version. If no record changes anything else there, its answers follow from this version's.
+    /// Otherwise the workers judge it, while other threads explain this version if explanations are asked for.
     pub(crate) fn next<R: Threads + Wait + Sync, G: Gate + Sync>(
         self,
         audit: &Audit<'_, R, G>,

@@ -57,7 +57,7 @@ fn is_taken_alike(op: &Op, one: Kernel, other: Kernel) -> bool
     }
 }
 
-/// The answer that an outcome tells.
+/// The answer that an outcome has, if it has one.
 #[tactic(auto, unfolding(crate::specs::Alike::answer_told))]
 fn answer_told(outcome: &RulesetOutcome) -> Option<Answer>
     ensures { result ≡ answer_told outcome.now }
@@ -68,16 +68,16 @@ fn answer_told(outcome: &RulesetOutcome) -> Option<Answer>
     }
 }
 
-/// Whether this is told, and is that a call is allowed.
+/// Whether there is an answer, and it allows the call.
 fn is_allowed(told: Option<Answer>) -> bool
     ensures { Decides result (told ≡ Some Allowed) }
 {
     matches!(told, Some(Answer::Allowed))
 }
 
-/// The answer to the record at an index under another kernel, by that under one; none if the record may change
-/// something else there. A call that both rulebooks leave to the processes changes the same, and so does one on rulesets
-/// that is the same and allowed under both; one that neither allows changes nothing.
+/// The answer to the record at an index under another kernel, if it follows from the answer under one; none if the
+/// record may change something else there. A call that both rulebooks leave to the processes changes the same, and so
+/// does a call on rulesets that is the same and allowed under both. One that neither allows changes nothing.
 fn answer_alike(
     located: &Located,
     one: &Settled,
@@ -111,8 +111,8 @@ fn answer_alike(
     None
 }
 
-/// The answers to a trace under another kernel, by those under one, if no record changes anything else there: a program
-/// finds the same rulesets under both, so that its processes need not be judged again. None if some record may.
+/// The answers to a trace under another kernel, if they follow from the answers under one: no record changes anything
+/// else there, so that the processes need not be judged again. None if some record may change something else.
 pub fn answers_alike(
     alloc: Global,
     located: &Located,

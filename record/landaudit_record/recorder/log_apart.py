@@ -25,10 +25,11 @@ LEAST = 1_000_000
 #: How many events are sent at once.
 AT_ONCE = 1_000
 #: What is sent of each event, as numbers of this type: its line, its thread, the line of its end, the number of its
-#: text, and what `Call` has as `closed`. A text that was not sent before has its number inverted, what is no call this.
+#: text, and what `Call` has as `closed`. The number of a text is inverted when the text is sent for the first time; an
+#: event that is no call has `_NO_CALL`.
 _FIGURE, _FIGURES, _NO_CALL = "q", 5, -1 << 32
 _OTHERS = {kind.__name__: kind for kind in (Ended, Superseded, UnreadLine)}
-#: The figures of some events as bytes, and what is sent besides of those whose text is new and of what is no call.
+#: The figures of some events as bytes, and what else is sent of each event that is no call or whose text is new.
 _Piece = tuple[bytes, list[Any]]
 
 
@@ -57,7 +58,7 @@ def _sent(path: Path, ends: Mapping[int, str], near: Near, taken: int) -> Iterat
 def _received(pieces: Iterator[_Piece], near: Near) -> Generator[Event, None, int]:
     """The events that a reader sends, until relative paths may lead through /proc; gives the number of events.
 
-    A call whose text was sent before has a number alone. A close is left out that was taken along with its open.
+    A call whose text was sent before has a number alone. A close that was taken along with its open is left out.
     """
     calls: dict[int, Call] = {}
     relative, taken = near.relative, 0
