@@ -1,9 +1,10 @@
 //! One pass over the records of a trace.
 
-ghost use Rattle.std.specs.Prelude.{◌≡◌, ℕ, ◌<◌, ◌^◌, Bool, false, [], length, None, IfOk, OnOk};
+ghost use Rattle.std.specs.Prelude.{◌≡◌, ℕ, ◌<◌, ◌^◌, Bool, false, [], length, None, Some, IfOk, OnOk, slice_get};
 ghost use Rattle.ll_rules.specs.Layers.{without_rules};
 ghost use Rattle.ll_semantics.specs.Answers.{fails};
 ghost use Rattle.ll_trace.specs.{Entries.is_start, Borrowed.is_of_rights};
+ghost use Rattle.ll_trace.specs.declared.op.Record.{Record as OneRecord};
 ghost use Rattle.ll_rulebook.specs.Stores.{IsAnswerTo, held_by};
 
 use crate::store::Store;
@@ -45,6 +46,22 @@ fn added(attempt: Result<(), RuleFault>) -> Settled
         Err(RuleFault::Moot) => Ok(RulesetOutcome::Answered(Answer::Moot)),
         Err(RuleFault::Memory) => Err(AllocError),
     }
+}
+
+/// Whether a call names rights.
+#[tactic(auto, unfolding(ll_trace::specs::Borrowed::is_of_rights))]
+fn is_of_rights(op: &Op) -> bool
+    ensures { result ≡ is_of_rights op.now }
+{
+    matches!(
+        op,
+        Op::Create { .. }
+            | Op::CreateEmpty { .. }
+            | Op::AddPath { .. }
+            | Op::AddPort { .. }
+            | Op::LeaveOutPath { .. }
+            | Op::LeaveOutPort
+    )
 }
 
 impl<'t> Pass<'t> {
@@ -233,23 +250,44 @@ impl<'t> Pass<'t> {
         }
     }
 
-    /// Settles one record, and adds its outcome to those of the records before it. (It is added by cases, since
-    /// the check of `push_reserved` must be shown the type that an outcome holds.)
+    /// Settles the record at an index. One that names no rights is settled as it was recorded.
+    fn settle_at(&mut self, alloc: Global, trace: &TakenTrace<'_>, index: usize) -> Settled
+        requires within { index < length trace.now }
+        requires there { (r : OneRecord) → slice_get trace.now index ≡ Some r
+            → is_start r.op ≡ false → r.process.0 < length self.old.tables.held.items }
+        requires sound { IsSound self.old }
+        requires room { length self.old.store.layers < 2 ^ 32 }
+        ensures { IfOk result (λ outcome. (r : OneRecord) → slice_get trace.now index ≡ Some r
+            → Settles r.process.0 r.op self.old self.new outcome) }
+    {
+        let (op, process) = trace.recorded(index);
+        if is_of_rights(op) {
+            let (seen, process) = trace.call(index);
+            return self.settle(alloc, process.0 as usize, &seen);
+        }
+        self.settle_other(alloc, process.0 as usize, op)
+    }
+
+    /// Settles the record at an index, and adds its outcome to those of the records before it. (It is added by cases,
+    /// since the check of `push_reserved` must be shown the type that an outcome holds.)
     fn settle_next(
         &mut self,
         alloc: Global,
-        process: usize,
-        seen: &Seen<'_>,
+        trace: &TakenTrace<'_>,
+        index: usize,
         outcomes: &mut Vec<RulesetOutcome>,
     ) -> Result<(), AllocError>
-        requires there { is_start seen.now ≡ false → process < length self.old.tables.held.items }
+        requires within { index < length trace.now }
+        requires there { (r : OneRecord) → slice_get trace.now index ≡ Some r
+            → is_start r.op ≡ false → r.process.0 < length self.old.tables.held.items }
         requires sound { IsSound self.old }
         requires room { length self.old.store.layers < 2 ^ 32 }
         ensures { OnOk result (AddsOutcome outcomes.old.items outcomes.new.items
-            (Settles process seen.now self.old self.new)) }
+            (λ outcome. (r : OneRecord) → slice_get trace.now index ≡ Some r
+            → Settles r.process.0 r.op self.old self.new outcome)) }
     {
         outcomes.reserve(1)?;
-        match self.settle(alloc, process, seen)? {
+        match self.settle_at(alloc, trace, index)? {
             RulesetOutcome::Answered(answer) => outcomes.push_reserved(RulesetOutcome::Answered(
                 answer,
             )),
@@ -269,10 +307,9 @@ impl<'t> Pass<'t> {
         ensures { IfOk result (λ outcomes. HasSettled self.old.tree.now self.old.abi trace.now
             (length trace.now) self.new outcomes.items) }
     {
-        let mut outcomes = Vec::new(alloc);
+        let mut outcomes = Vec::with_capacity(alloc, trace.count())?;
         for index in 0..trace.count() {
-            let (seen, process) = trace.call(index);
-            self.settle_next(alloc, process.0 as usize, &seen, &mut outcomes)?;
+            self.settle_next(alloc, trace, index, &mut outcomes)?;
         }
         Ok(outcomes)
     }

@@ -6,9 +6,11 @@ use Rattle.std.proofs.lemmas.Option.{slice_get-map, slice_get_read, same_Some}
 use Rattle.ll_rights.specs.declared.abi.Abi.{Abi}
 use Rattle.ll_trace.specs.declared.op.Op.{Op}
 use Rattle.ll_trace.specs.declared.op.Op.TheVariants.{Start}
+use Rattle.ll_trace.specs.declared.op.Op.TheVariants as calls
 use Rattle.ll_trace.specs.declared.op.Record.{Record}
 use Rattle.ll_trace.specs.declared.trace.Effort.{Effort}
 use Rattle.ll_trace.specs.declared.trace.Effort.TheVariants.{AsRecorded, Best}
+use Rattle.ll_trace.specs.Borrowed.{is_of_rights}
 use Rattle.ll_trace.specs.BestEffort.{at_best_effort, record_at_best_effort}
 use Rattle.ll_trace.specs.Processes.{is_start, process_count, parents, own_records, forked_at}
 use Rattle.ll_tree.specs.Trees.{Entry}
@@ -32,6 +34,20 @@ module _ (effort : Effort) (abi : Abi) where
     go : (e : Effort) → is_start (by_effort e abi op) ≡ is_start op
     go AsRecorded = refl
     go Best = is_start-kept abi op
+
+  -- a call that names no rights is seen as it was recorded
+  pub same_seen : (op : Op) → is_of_rights op ≡ false → by_effort effort abi op ≡ op
+  unfolding by_effort at_best_effort is_of_rights
+  same_seen op other = go effort op other where
+    best : (one : Op) → is_of_rights one ≡ false → at_best_effort abi one ≡ one
+    best (calls.Create rs fs net) is = absurd cc
+    best (calls.AddPath rs path fs) is = absurd cc
+    best (calls.AddPort rs port net) is = absurd cc
+    best one is = refl
+
+    go : (e : Effort) (one : Op) → is_of_rights one ≡ false → by_effort e abi one ≡ one
+    go AsRecorded one is = refl
+    go Best one is = best one is
 
 module _ (effort : Effort) (abi : Abi) (records : List Record) where
   pub as_many : length (records_by effort abi records) ≡ length records

@@ -10,7 +10,7 @@ ghost use Rattle.ll_trace.specs.declared.op.Record.{Record as OneRecord};
 ghost use Rattle.ll_trace.specs.declared.reader.TheConstants.{MOST_PROCESSES, MOST_RECORDS};
 ghost use Rattle.ll_trace.specs.BestEffort.{adds_path, adds_port, at_best_effort, creates};
 ghost use Rattle.ll_trace.specs.Processes.{is_fork, process_count, parent_of, own_records, forked_at};
-ghost use Rattle.ll_trace.specs.Borrowed.{IsTold, meant};
+ghost use Rattle.ll_trace.specs.Borrowed.{IsTold, is_of_rights, meant};
 ghost use Rattle.ll_trace.specs.Taken.{records_taken, taken};
 ghost use Rattle.ll_trace.specs.Traces.{AreRecords};
 
@@ -287,6 +287,20 @@ impl<'t> TakenTrace<'t> {
         let trace = self.trace;
         let record = &trace.records()[index];
         (record.op.at(self.kernel), record.process)
+    }
+
+    /// The operation of the record at an index as it was recorded, and the process that makes it. It is the operation
+    /// that is seen, unless it names rights.
+    pub fn recorded(&self, index: usize) -> (&'t Op, ProcessId)
+        requires { index < length self.now }
+        ensures op { is_of_rights result.0.now ≡ false → (r : OneRecord)
+            → slice_get self.now index ≡ Some r → r.op ≡ result.0.now }
+        ensures process { (r : OneRecord) → slice_get self.now index ≡ Some r
+            → result.1 ≡ r.process }
+    {
+        let trace = self.trace;
+        let record = &trace.records()[index];
+        (&record.op, record.process)
     }
 
     /// The record at an index.

@@ -2,7 +2,8 @@
 
 use crate::tests::reading::texts::{Format, fault_of};
 use ll_lines::Cause;
-use ll_trace::{ProcessId, Record, Trace};
+use ll_rights::Abi;
+use ll_trace::{Effort, Kernel, Op, ProcessId, Record, TakenTrace, Trace};
 use std::test::Fail;
 use std::thread::Threads;
 
@@ -131,4 +132,26 @@ fn files_read_alike_wherever_they_are_cut(rt: HostRuntime) {
         let otherwise = read_otherwise(&rt, file.as_bytes(), fault);
         assert_eq!(rt; otherwise, None, "{file}");
     }
+}
+
+/// A ruleset for a right that came with version 3.
+const TRUNCATING: &[u8] = b"\
+{\"op\":\"start\",\"pid\":1}\n\
+{\"op\":\"create\",\"pid\":1,\"rs\":3,\"fs\":[\"truncate\"]}\n";
+
+#[test]
+fn calls_as_they_were_recorded(rt: HostRuntime) -> Result<(), Fail> {
+    let trace = Trace::read(rt.alloc(), TRUNCATING)?;
+    let kernel = Kernel {
+        abi: Abi::V1,
+        effort: Effort::Best,
+    };
+    let taken = TakenTrace::of(&trace, kernel);
+    if taken.count() != 2 {
+        return Err(Fail::from("there are two records"));
+    }
+    let (op, process) = taken.recorded(1);
+    assert!(rt; matches!(op, Op::Create { rs: 3, .. }));
+    assert_eq!(rt; process, ProcessId(0));
+    Ok(())
 }
