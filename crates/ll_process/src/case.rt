@@ -13,7 +13,7 @@ use ll_rights::Abi;
 use ll_rules::Layer;
 use ll_semantics::RulesetOutcome;
 use ll_trace::{Located, ProcessId, Seen, SeenRecord, TakenTrace};
-use ll_tree::{Place, Tree};
+use ll_tree::{Place, SmallPlace, Tree};
 use std::marker::Model;
 
 /// A tree and a trace as they are seen under a kernel, with what follows from the rulesets of the whole trace.
@@ -139,7 +139,7 @@ impl<'t> Case<'t> {
             → result ≡ first_place self.now.tree r.op }
     {
         let located = self.located;
-        located.places[index]
+        located.places[index].place()
     }
 
     /// How many records a process has with its descendants; a process that isn't there has none. No answer rests on it.
@@ -159,7 +159,7 @@ impl<'t> Case<'t> {
     }
 
     /// The places of the first paths of a process's own records.
-    pub(crate) fn own_places(&self, process: ProcessId) -> &'t [Place]
+    pub(crate) fn own_places(&self, process: ProcessId) -> &'t [SmallPlace]
         requires { process.0 < process_count self.now.records }
         ensures { result.now ≡ own_of (first_places self.now.tree self.now.records)
             self.now.records process.0 }

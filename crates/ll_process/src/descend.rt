@@ -81,7 +81,7 @@ fn judge_on<'c, H: Hand<'c>>(
     let (progress, child) = next.go_on(hand)?;
     match child {
         Some(job) => {
-            put_both(stack, progress, Progress::begin(alloc, job))?;
+            put_both(stack, progress, Progress::begin(alloc, job)?)?;
             Ok(done)
         }
         None => {
@@ -114,7 +114,7 @@ pub fn judge<'c, H: Hand<'c>>(
     let first = job.process;
     let mut done = Piece::none(alloc, case);
     let mut stack = Vec::new(alloc);
-    stack.push(Progress::begin(alloc, job))?;
+    stack.push(Progress::begin(alloc, job)?)?;
     while let Some(next) = stack.pop() {
         done = judge_on(alloc, case, first, next, hand, &mut stack, done)?;
     }

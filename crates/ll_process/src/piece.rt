@@ -88,6 +88,7 @@ impl<'c> Piece<'c> {
         let mut processes = Vec::new(alloc);
         processes.push(process)?;
         processes.append(&mut others)?;
+        answers.reserve_exact(more.len())?;
         answers.append(&mut more)?;
         Ok(Piece {
             case,

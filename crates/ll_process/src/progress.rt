@@ -89,10 +89,10 @@ fn take_off<'c>(case: &'c Case<'c>, child: &Option<Job<'c>>, below: &mut u32) {
 
 impl<'c> Progress<'c> {
     /// No record of the job's process is judged.
-    pub(crate) fn begin(alloc: Global, job: Job<'c>) -> Progress<'c>
-        ensures case { result.case.now ≡ job.entry.case.now }
-        ensures process { result.process ≡ job.entry.process }
-        ensures at { result.at ≡ 0 }
+    pub(crate) fn begin(alloc: Global, job: Job<'c>) -> Result<Progress<'c>, AllocError>
+        ensures case { IfOk result (λ begun. begun.case.now ≡ job.entry.case.now) }
+        ensures process { IfOk result (λ begun. begun.process ≡ job.entry.process) }
+        ensures at { IfOk result (λ begun. begun.at ≡ 0) }
         ensures is_case { IsCase job.entry.case.now }
     {
         let Job {
@@ -103,15 +103,15 @@ impl<'c> Progress<'c> {
         } = job;
         let indices = case.own_records(process);
         let own_size = u32::try_from(indices.len()).unwrap_or(u32::MAX);
-        Progress {
+        Ok(Progress {
             case,
             process,
             own,
             ahead: Ahead::new(case, indices),
             at: 0,
-            answers: Vec::new(alloc),
+            answers: Vec::with_capacity(alloc, indices.len())?,
             below: case.size_of(process).saturating_sub(own_size),
-        }
+        })
     }
 
     /// About how many records are left to judge of the process and its descendants. No answer rests on it.
@@ -161,7 +161,7 @@ impl<'c> Progress<'c> {
                 case,
                 process,
                 index,
-                places[next],
+                places[next].place(),
                 forks,
                 &mut own,
                 hand,

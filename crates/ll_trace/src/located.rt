@@ -4,9 +4,9 @@ ghost use Rattle.std.specs.Prelude.{◌≡◌, ◌≤◌, ◌<◌, IfOk, length,
 ghost use Rattle.ll_trace.specs.FirstPlaces.{by_process, first_place, first_places, own_of};
 ghost use Rattle.ll_trace.specs.Processes.{process_count};
 
-use crate::op::{ProcessId, Record};
+use crate::op::{Op, ProcessId, Record};
 use crate::trace::Trace;
-use ll_tree::{Place, Tree};
+use ll_tree::{SmallPlace, Tree};
 use rayon::prelude::*;
 use std::alloc::{AllocError, Global};
 use std::thread::Threads;
@@ -21,8 +21,8 @@ const LEAST_PART: usize = 1024;
 pub struct Located {
     pub tree: Tree,
     pub trace: Trace,
-    pub places: Vec<Place>,
-    pub own: Vec<Vec<Place>>,
+    pub places: Vec<SmallPlace>,
+    pub own: Vec<Vec<SmallPlace>>,
     pub ghost are_first: { places.items ≡ first_places tree trace },
     pub ghost are_own: { map (λ own. own.items) own.items
         ≡ by_process trace (first_places tree trace) },
@@ -62,7 +62,7 @@ impl Located {
         alloc: Global,
         tree: Tree,
         trace: Trace,
-        places: Vec<Place>,
+        places: Vec<SmallPlace>,
     ) -> Result<Located, AllocError>
         requires { places.items ≡ first_places tree trace }
         ensures tree { IfOk result (λ located. located.tree ≡ tree) }
@@ -78,7 +78,7 @@ impl Located {
     }
 
     /// The places of the first paths of a process's own records, in their order.
-    pub fn places_of(&self, process: ProcessId) -> &[Place]
+    pub fn places_of(&self, process: ProcessId) -> &[SmallPlace]
         requires { process.0 < process_count self.now.trace }
         ensures { result.now ≡ own_of (first_places self.now.tree self.now.trace) self.now.trace
             process.0 }
@@ -88,14 +88,22 @@ impl Located {
     }
 }
 
+/// The place of an operation's first path.
+#[tactic(auto, using(crate::proofs::Places::first_place_inside))]
+fn first_place(tree: &Tree, op: &Op) -> SmallPlace
+    ensures { result ≡ first_place tree.now op.now }
+{
+    tree.small(op.first_place(tree))
+}
+
 /// The place of each record's first path.
-fn places_of(alloc: Global, tree: &Tree, trace: &Trace) -> Result<Vec<Place>, AllocError>
+fn places_of(alloc: Global, tree: &Tree, trace: &Trace) -> Result<Vec<SmallPlace>, AllocError>
     ensures { IfOk result (λ places. places.items ≡ first_places tree.now trace.now) }
 {
     trace
         .records()
         .iter()
-        .map(|record| record.op.first_place(tree))
+        .map(|record| first_place(tree, &record.op))
         .collect(alloc)
 }
 
@@ -106,7 +114,7 @@ fn places_by<R: Threads + Sync>(
     tree: &Tree,
     trace: &Trace,
     workers: usize,
-) -> Result<Vec<Place>, AllocError>
+) -> Result<Vec<SmallPlace>, AllocError>
     requires { 1 ≤ workers }
     ensures { IfOk result (λ places. places.items ≡ first_places tree.now trace.now) }
 {
@@ -114,9 +122,9 @@ fn places_by<R: Threads + Sync>(
     records
         .par_iter()
         .map(
-            |record: &Record| -> Place
+            |record: &Record| -> SmallPlace
                 ensures { result ≡ first_place tree.entry.now record.now.op }
-            { record.op.first_place(tree) },
+            { first_place(tree, &record.op) },
         )
         .with_min_len((records.len() / workers).max(LEAST_PART))
         .collect(rt, alloc)
@@ -126,9 +134,9 @@ fn places_by<R: Threads + Sync>(
 fn own_places(
     alloc: Global,
     trace: &Trace,
-    places: &[Place],
+    places: &[SmallPlace],
     process: ProcessId,
-) -> Result<Vec<Place>, AllocError>
+) -> Result<Vec<SmallPlace>, AllocError>
     requires process { process.0 < process_count trace.now }
     requires all { length places.now ≡ length trace.now }
     ensures { IfOk result (λ own. own.items ≡ own_of places.now trace.now process.0) }
@@ -136,13 +144,17 @@ fn own_places(
     let indices = trace.records_of(process);
     let mut own = Vec::with_capacity(alloc, indices.len())?;
     for index in indices {
-        own.push(places[*index as usize])?;
+        own.push(places[*index as usize].again())?;
     }
     Ok(own)
 }
 
 /// The places of each process's own records.
-fn by_process(alloc: Global, trace: &Trace, places: &[Place]) -> Result<Vec<Vec<Place>>, AllocError>
+fn by_process(
+    alloc: Global,
+    trace: &Trace,
+    places: &[SmallPlace],
+) -> Result<Vec<Vec<SmallPlace>>, AllocError>
     requires { length places.now ≡ length trace.now }
     ensures { IfOk result (λ all. map (λ own. own.items) all.items
         ≡ by_process trace.now places.now) }

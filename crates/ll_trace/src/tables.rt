@@ -1,7 +1,7 @@
 //! The processes of a trace, looked up by their numbers.
 
 ghost use Rattle.std.specs.Prelude.{◌≡◌, ◌+◌, ◌<◌, ◌^◌, [], ◌∷◌, ◌++◌, length, OnOk, IfOk, if◌then◌else◌};
-ghost use Rattle.ll_trace.specs.Traces.{AreRecords, Indexes};
+ghost use Rattle.ll_trace.specs.Traces.{AreRecords, Indexes, lists};
 
 use crate::op::{ProcessId, Record};
 use std::alloc::{AllocError, Global};
@@ -62,6 +62,15 @@ impl Tables {
     }
 }
 
+/// Gives back the room that lists have beyond their last index.
+fn fit_all(own: &mut Vec<Vec<u32>>)
+    ensures { lists own.new.items ≡ lists own.old.items }
+{
+    for process in 0..own.len() {
+        own[process].shrink_to_fit();
+    }
+}
+
 /// The tables of some records.
 pub fn index(alloc: Global, records: &[Record]) -> Result<Tables, AllocError>
     requires { AreRecords records.now }
@@ -71,5 +80,6 @@ pub fn index(alloc: Global, records: &[Record]) -> Result<Tables, AllocError>
     for (index, added) in records.iter().enumerate() {
         tables.add(alloc, added, index as u32)?;
     }
+    fit_all(&mut tables.own);
     Ok(tables)
 }

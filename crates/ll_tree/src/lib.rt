@@ -9,5 +9,5 @@ mod tree;
 
 pub use ll_lines::{Cause, ReadFault, front_text, path_ok, path_texts};
 pub use object::kind_of;
-pub use place::{NodeId, Place};
+pub use place::{NodeId, Place, SmallPlace};
 pub use tree::{MOST_NODES, Tree};

@@ -18,7 +18,7 @@ use crate::chains::{
     LONGEST_CHAIN, head, head_over, mark_of, next_of, no_heads, set_head, slot_of,
 };
 use crate::object::object_of;
-use crate::place::{NodeId, Place};
+use crate::place::{NodeId, Place, SmallPlace};
 use json::Scratch;
 use ll_lines::lines::{FileLine, FilledLines};
 use ll_lines::{Cause, ReadFault, front_text, path_ok};
@@ -258,6 +258,28 @@ impl Tree {
         ensures limit { length self.now ≤ MOST_NODES }
     {
         self.objects.len() as u32
+    }
+
+    /// The node of a number, if the tree has as many.
+    pub fn node(&self, number: u32) -> Option<NodeId>
+        ensures some { IfSome result
+            (λ node. (node.0 ≡ number) × IsNode self.now node) }
+        ensures none { IfNone result (length self.now ≤ number) }
+    {
+        if number < self.nodes() {
+            Some(NodeId(number))
+        } else {
+            None
+        }
+    }
+
+    /// A place of the tree in four bytes.
+    pub fn small(&self, place: Place) -> SmallPlace
+        requires { IsPlace self.now place }
+        ensures { result ≡ place }
+    {
+        let _few = self.nodes();
+        SmallPlace::of(place)
     }
 
     /// The kind of a node's object.

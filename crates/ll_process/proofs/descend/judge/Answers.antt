@@ -9,12 +9,12 @@ use Rattle.ll_process.proofs.descend.judge.Goals as goal
 pub loop-next-init : goal.loop-next-init
 loop-next-init g c = record {
   descended = rw (c.in_ok-push.ensures.items, c.new-stack.ensures.items)
-      (descended_none c.args.job.case.now c.args.job.process c.none-done.result (g.H.Hand.kept c.args.hand.now) c.begin.result c.none-done.ensures.processes
-      c.begin.ensures.process c.begin.ensures.at);
+      (descended_none c.args.job.case.now c.args.job.process c.none-done.result (g.H.Hand.kept c.args.hand.now) c.in_ok-begin.field-0 c.none-done.ensures.processes
+      c.in_ok-begin.ensures.process c.in_ok-begin.ensures.at);
   its = c.none-done.ensures.case;
   of_case = rw (c.in_ok-push.ensures.items, c.new-stack.ensures.items)
-      (All-push (λ (p : Progress). p.case.now ≡ c.args.job.case.now) [] c.begin.result (All-nil (λ (p : Progress). p.case.now ≡ c.args.job.case.now))
-      c.begin.ensures.case);
+      (All-push (λ (p : Progress). p.case.now ≡ c.args.job.case.now) [] c.in_ok-begin.field-0 (All-nil (λ (p : Progress). p.case.now ≡ c.args.job.case.now))
+      c.in_ok-begin.ensures.case);
   keeps = keeps_same c.args.job.case.now.records (g.H.Hand.kept c.args.hand.now) (g.H.Hand.kept c.args.hand.now) refl;
   suits = c.requires;
   stays = λ before same. same;

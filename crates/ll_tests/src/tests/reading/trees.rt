@@ -64,3 +64,29 @@ fn the_worked_tree(rt: HostRuntime) -> Result<(), Fail> {
     }
     Ok(())
 }
+
+#[test]
+fn nodes_by_their_numbers(rt: HostRuntime) -> Result<(), Fail> {
+    let tree = Tree::read(rt.alloc(), TREE.as_bytes())?;
+    assert_eq!(rt; tree.node(5), Some(node_named(&tree, "/a/f")?));
+    assert_eq!(rt; tree.node(8), None);
+    Ok(())
+}
+
+/// A place, as a table of small places gives it back.
+fn kept_small(tree: &Tree, path: &str) -> Place {
+    tree.small(tree.resolve(path)).again().place()
+}
+
+#[test]
+fn small_places(rt: HostRuntime) -> Result<(), Fail> {
+    let tree = Tree::read(rt.alloc(), TREE.as_bytes())?;
+    let directory = node_named(&tree, "/a")?;
+    assert_eq!(rt;
+        kept_small(&tree, "/a/f"),
+        Place::Node(node_named(&tree, "/a/f")?)
+    );
+    assert_eq!(rt; kept_small(&tree, "/a/none"), Place::Gap(directory));
+    assert_eq!(rt; kept_small(&tree, "/none/x"), Place::Nowhere);
+    Ok(())
+}

@@ -23,5 +23,6 @@ returns c r there =
     let places : located.places.items ≡ first_places c.args.self.now.tree c.args.self.now.records =
     subst (λ (case : CaseValue). located.places.items ≡ first_places case.tree case.records) c.self.view_is
     (located.are_first ∙ sym (first_places_seen kernel.effort kernel.abi located.trace located.tree)) in
-    placed c.args.self.now.tree c.args.self.now.records c.args.index c.index.result.now r there
+    c.place.ensures
+    ∙ placed c.args.self.now.tree c.args.self.now.records c.args.index c.index.result.now r there
     (subst (λ (all : List Place). c.index.result.now ≡ get_or all c.args.index c.index.result.now) places c.index.ensures)

@@ -10,5 +10,5 @@ invariant_of-result c = record {
   indices = c.new.ensures.indices ∙ c.own_records-indices.ensures.indices;
   within = omega arith;
   meets = begins_so c.args.job.case.now c.args.job.process.0 c.args.job.own c.own_records-indices.ensures.case c.args.job.there c.args.job.begins;
-  answered = rw c.new-2.ensures.items (all_from c.args.job.case.now c.args.job.process.0);
+  answered = rw c.in_ok-with_capacity.ensures.items (all_from c.args.job.case.now c.args.job.process.0);
 }

@@ -1,5 +1,6 @@
 -- One record more is judged, up to a child that comes back or to the last record.
-use Rattle.std.proofs.Common.{rules, ◌≡◌, ◌+◌, ◌∙◌, ℕ, List, ap, arith, length, option_to_list, refl}
+use Rattle.std.proofs.Common.{rules, ◌≡◌, ◌+◌, ◌∙◌, ℕ, List, ap, arith, get_or, length, option_to_list, refl}
+use Rattle.ll_tree.specs.declared.place.Place.{Place}
 use Rattle.std.specs.Prelude.{false, sum_by}
 use Rattle.std.specs.Option.{is_some, option_map}
 use Rattle.ll_process.specs.declared.job.Job.{Job}
@@ -20,8 +21,12 @@ judge_record-requires g c κs =
         own_now c.args.self.case.now c.args.self.process.0 c.loop-next.next c.own_records-indices.result.now c.own_records-indices.ensures.indices
             c.loop-next-test.true,
         (
-          λ r here. rw c.own_places-places.ensures
-              (placed_at c.args.self.case.now c.args.self.process.0 c.loop-next.next _ (slice_get_within _ c.loop-next.next _ now) now _ r here),
+          λ r here.
+              let item = c.index-places-next in
+              c.place.ensures
+              ∙ item.is
+              ∙ ap (λ (all : List Place). get_or all c.loop-next.next item.result) c.own_places-places.ensures
+              ∙ placed_at c.args.self.case.now c.args.self.process.0 c.loop-next.next _ (slice_get_within _ c.loop-next.next _ now) now item.result r here,
           (
             c.loop-next.invariant.going.meets _ now,
             (
