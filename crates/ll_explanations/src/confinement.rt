@@ -2,10 +2,10 @@
 
 ghost use Rattle.std.specs.Prelude.{◌≡◌, ◌<◌, All, length, slice_get};
 ghost use Rattle.std.proofs.Props.{props};
-ghost use Rattle.ll_rules.specs.{InTree.AreInTree, KeptLayers.IsDomainOf};
+ghost use Rattle.ll_rules.specs.{Grants.AreGrants, InTree.AreInTree, KeptLayers.IsDomainOf};
 
 use ll_origins::ProcessOrigins;
-use ll_rules::{Layer, LayerId};
+use ll_rules::{Grants, Layer, LayerId};
 use ll_tree::Tree;
 
 /// The layers of a process, where they come from, and the tree that they have rules on.
@@ -19,6 +19,9 @@ pub(crate) struct Confinement<'a> {
     pub(crate) layers: &'a [Layer],
     /// The indices of the process's own among them, the oldest first.
     pub(crate) domain: &'a [LayerId],
+    /// What is known of what the layers grant.
+    pub(crate) grants: &'a [Grants],
+    ghost known: { AreGrants tree.now layers.now grants.now } by { Prim.hlevel props },
     ghost inside: { IsDomainOf layers.now domain.now } by { Prim.hlevel props },
     ghost rules: { All (AreInTree tree.now) layers.now } by { Prim.hlevel props },
 }

@@ -105,6 +105,7 @@ fn refused(
         trail,
         tree: case.tree(),
         layers: case.layers(),
+        grants: case.grants(),
         domain: &domain,
     };
     let spot = case.first_place(index);

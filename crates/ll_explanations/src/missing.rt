@@ -9,9 +9,9 @@ ghost use Rattle.ll_rules.specs.Checks.{lacks as is_lacking_on};
 ghost use Rattle.ll_explanations.specs.Confined.{rules_of};
 ghost use Rattle.ll_explanations.specs.Lacked.{IsTest, gainable, lacked, passes};
 
-use crate::confinement::OneLayer;
+use crate::confinement::{Confinement, OneLayer};
 use ll_rights::{Fs, FsRight, RightSet};
-use ll_rules::{Domain, LayerId, check_path};
+use ll_rules::{Domain, LayerId, check_path, lacks_by};
 use ll_tree::{NodeId, Tree};
 
 /// A test that rights pass or don't.
@@ -53,8 +53,16 @@ fn lacks(layer: &OneLayer, node: NodeId, rights: Fs) -> bool
     ensures { result
         ≡ is_lacking_on (rules_of layer.now) (path_at layer.now.ctx.tree.now node) rights }
 {
-    let domain = alone(layer.id);
-    !check_path(layer.ctx.tree, layer.ctx.layers, &domain, node, rights).is_empty()
+    let Confinement {
+        tree,
+        layers,
+        grants,
+        ..
+    } = layer.ctx;
+    match lacks_by(grants, layers, layer.id, node, rights) {
+        Some(lacks) => lacks,
+        None => !check_path(tree, layers, &alone(layer.id), node, rights).is_empty(),
+    }
 }
 
 /// Whether a right is in a set, and a layer handles it and doesn't grant it on a node.

@@ -16,7 +16,7 @@ ledger case parts given taken = record { case = case; parts = parts; given = giv
 
 -- a case with no record
 abbrev pub no_case : CaseValue
-no_case = record { tree = []; records = []; abi = V1; layers = []; outcomes = [] }
+no_case = record { tree = []; records = []; abi = V1; layers = []; grants = []; outcomes = [] }
 
 -- a pass that gave one job more, or took one more
 abbrev pub after_giving : Ledger → ℕ → Ledger

@@ -36,7 +36,7 @@ use Rattle.ll_semantics.specs.RulesetOutcomes.{is_on_rulesets, enforced, IsFroze
 use Rattle.ll_semantics.proofs.Steps.{length-judged, world_kept, world_at-more, judged-at}
 use Rattle.ll_rulebook.specs.Settled.{met_by}
 use Rattle.ll_process.specs.declared.settled.Settled.{Settled}
-use Rattle.ll_process.specs.Alike.{answer_told, MeetsAlike, StaysAlike}
+use Rattle.ll_process.specs.Alike.{answer_told, StaysAlike}
 use Rattle.ll_process.specs.Cases.{IsCase, case_of}
 use Rattle.ll_process.specs.Judging.{answer_at}
 

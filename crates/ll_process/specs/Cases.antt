@@ -3,7 +3,9 @@
 use Rattle.std.specs.Prelude.{◌≡◌, ℕ, List, Some}
 use Rattle.ll_rights.specs.declared.abi.Abi.{Abi}
 use Rattle.ll_tree.specs.Trees.{Entry}
+use Rattle.ll_rights.specs.declared.fs.Fs.{Fs}
 use Rattle.ll_rules.specs.Layers.{RulesOn}
+use Rattle.ll_rules.specs.Grants.{AreGrants}
 use Rattle.ll_trace.specs.declared.op.Record.{Record}
 use Rattle.ll_semantics.specs.declared.answer.Answer.{Answer}
 use Rattle.ll_semantics.specs.declared.answer.RulesetOutcome.{RulesetOutcome}
@@ -17,12 +19,13 @@ use Rattle.ll_trace.specs.Taken.{records_taken}
 use Rattle.ll_process.specs.declared.settled.Settled.{Settled}
 use Rattle.ll_process.specs.Judging.{state_left, answers_of}
 
--- what contracts see of a case: the layers are those that its trace enforces, with an outcome for each record
+-- what contracts see of a case: the layers that its trace enforces, what is known that each grants on each node, and an outcome for each record
 pub record CaseValue : Type 0 where
   pub tree : List Entry
   pub records : List Record
   pub abi : Abi
   pub layers : List (RulesOn ℕ)
+  pub grants : List (List Fs)
   pub outcomes : List RulesetOutcome
 
 -- the case of a tree and a trace as they are seen under the kernel for which this was settled
@@ -32,15 +35,17 @@ case_of located settled = record {
   records = records_taken settled.kernel located.trace;
   abi = settled.kernel.abi;
   layers = settled.layers.items;
+  grants = settled.grants.items;
   outcomes = settled.outcomes.items;
 }
 
 -- The processes are numbered, and the rulebook says of each record what the fold over the whole trace says: the
 -- answer of a call that creates, changes or closes a ruleset, and for a call that restricts by a ruleset the layer
--- that this ruleset is then.
+-- that this ruleset is then. What is known of what layers grant is what they grant.
 pub record IsCase (case : CaseValue) : Type 0 where
   pub numbered : IsNumbered case.records
   pub settled : IsSettled case.tree case.abi case.records case.layers case.outcomes
+  pub granted : AreGrants case.tree case.layers case.grants
 
 -- what is kept of a process agrees with a state, under the tree and the layers of a case
 abbrev pub AgreesIn : CaseValue → OwnState → State → Type 0

@@ -10,7 +10,7 @@ ghost use Rattle.ll_trace.specs.Processes.{process_count, own_records, forked_at
 
 use crate::settled::Settled;
 use ll_rights::Abi;
-use ll_rules::Layer;
+use ll_rules::{Grants, Layer};
 use ll_semantics::RulesetOutcome;
 use ll_trace::{Located, ProcessId, Seen, SeenRecord, TakenTrace};
 use ll_tree::{Place, SmallPlace, Tree};
@@ -73,6 +73,15 @@ impl<'t> Case<'t> {
     {
         let settled = self.settled;
         &settled.layers
+    }
+
+    /// What is known of what the layers grant.
+    pub fn grants(&self) -> &'t [Grants]
+        ensures grants { result.now ≡ self.now.grants }
+        ensures case { IsCase self.now }
+    {
+        let settled = self.settled;
+        &settled.grants
     }
 
     /// How many records there are.

@@ -75,6 +75,7 @@ pub(crate) fn answer_own(
                 seen: &record.op,
                 tree: case.tree(),
                 layers: case.layers(),
+                grants: case.grants(),
                 place,
             };
             own.answer_call(&call, &outcome)

@@ -243,7 +243,7 @@ pub left_nothing : (tree : List Entry) (rules : RulesOn ℕ) (pos : Option NodeI
 left_nothing tree rules pos right has_it total none so_far = none ∙ sym (ap (λ (b : Bool). b && not (granted_above tree rules pos right)) none) ∙ so_far
 
 -- without rules nothing is granted
-nothing_above : (tree : List Entry) (rules : RulesOn ℕ) (pos : Option NodeId) (right : FsRight) → rules ≡ without_rules files.no_right network.no_right
+pub nothing_above : (tree : List Entry) (rules : RulesOn ℕ) (pos : Option NodeId) (right : FsRight) → rules ≡ without_rules files.no_right network.no_right
     → granted_above tree rules pos right ≡ false
 unfolding granted_above granted
 nothing_above tree rules None right is = refl
@@ -346,18 +346,6 @@ refusing_lanes tree layers ids path wanted lanes few same =
     && not (granted (in_tree tree (layer_in (domain_of layers ids) index)) path right))
     (λ right. same index right ∙ ap (λ (b : Bool). b && not (granted (in_tree tree (layer_in (domain_of layers ids) index)) path right))
     (and_comm (handles (layer_in (domain_of layers ids) index) right) (has wanted right))))
-
--- a domain of one layer refuses where its lane holds anything
-pub refusing_alone : (tree : List Entry) (layer : RulesOn ℕ) (path : Path) (wanted : Fs) (left : ℕ)
-    → ((right : FsRight) → has (set_of left) right ≡ ((handles layer right && has wanted right) && not (granted (in_tree tree layer) path right)))
-    → cond (not (files.is_empty (set_of left))) (1 ∷ []) [] ≡ refusing (all_in_tree tree (layer ∷ [])) path wanted
-unfolding numbers_from
-refusing_alone tree layer path wanted left same =
-    let lacking : not (files.is_empty (set_of left)) ≡ lacks (in_tree tree layer) path wanted =
-    not_not (some_right (has (set_of left)))
-    ∙ some_agree (has (set_of left)) (λ right. has wanted right && handles layer right && not (granted (in_tree tree layer) path right))
-    (λ right. same right ∙ ap (λ (b : Bool). b && not (granted (in_tree tree layer) path right)) (and_comm (handles layer right) (has wanted right))) in
-    rw lacking (sym (append-nil _))
 
 -- ---- the layers of a stack
 

@@ -119,10 +119,6 @@ either_bits x y right =
     (has_bit-or named_count x y index))
     (λ unnamed. rw (unnamed_none x right unnamed, unnamed_none y right unnamed) refl)
 
--- a lane that has nothing in common with the named bits holds no right
-pub any_named : (lane named : ℕ) → named ≡ named_bits → not (eqb (bit_and lane named) 0) ≡ not (is_empty (set_of lane))
-any_named lane named is = ap (λ (bits : ℕ). not (eqb (bit_and lane bits) 0)) is ∙ ap not (fs_is_empty (set_of lane))
-
 -- the named rights of a set as a lane
 pub named_of : (set : Fs) (right : FsRight) → bit_of right < bit_of other → has (set_of set.0) right ≡ has set right
 unfolding has

@@ -12,5 +12,6 @@ pub mod SameLayers
 pub mod Marks
 pub mod LaneSets
 pub mod DomainLanes
+pub mod Granting
 pub mod MoveLanes
 pub mod Crossing

@@ -3,6 +3,7 @@ pub mod LayerNumbers
 pub mod Layers
 pub mod KeptLayers
 pub mod InTree
+pub mod Grants
 pub mod Rulesets
 pub mod RuleFaults
 pub mod Checks

@@ -9,8 +9,7 @@ ghost use Rattle.ll_rules.specs.Checks.{refusing, refusing_port, refusing_mount}
 
 use crate::domain::Stack;
 use crate::lanes::filled;
-use crate::single_layer::SingleLayer;
-use crate::{Domain, Layer, LayerId, LayerSet};
+use crate::{Domain, KnownLayers, Layer, LayerId, LayerSet};
 use ll_rights::{Fs, Net};
 use ll_tree::{NodeId, Tree};
 use std::simd::prelude::*;
@@ -67,12 +66,35 @@ pub fn check_path_counted(
         (path_at tree.now node) wanted }
     ensures look_ups { result.1 ≤ length domain.now * (depth_at tree.now node + 1) }
 {
-    let ids = domain.layers();
-    if let [id] = ids {
-        let layer = layer_of(layers, *id);
-        return SingleLayer { tree, layer }.check(node, wanted);
-    }
-    let stack = Stack { tree, layers, ids };
+    let known = KnownLayers {
+        tree,
+        layers,
+        grants: &[],
+    };
+    check_path_by(&known, domain, node, wanted)
+}
+
+/// The same, by what is known of what the layers grant.
+pub fn check_path_by(
+    known: &KnownLayers<'_>,
+    domain: &Domain,
+    node: NodeId,
+    wanted: Fs,
+) -> (LayerSet, u64)
+    requires domain { IsDomainOf known.now.layers.now domain.now }
+    requires node { IsNode known.now.tree.now node }
+    ensures answer { result.0
+        ≡ refusing (all_in_tree known.now.tree.now (domain_of known.now.layers.now domain.now))
+        (path_at known.now.tree.now node) wanted }
+    ensures look_ups { result.1
+        ≤ length domain.now * (depth_at known.now.tree.now node + 1) }
+{
+    let stack = Stack {
+        tree: known.tree,
+        layers: known.layers,
+        ids: domain.layers(),
+        grants: known.grants,
+    };
     let mut lacking = stack.asked_in(wanted);
     let look_ups = stack.climb(node, &mut lacking);
     (filled(u32x16::from_array(lacking)), look_ups)

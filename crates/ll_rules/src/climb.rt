@@ -13,7 +13,7 @@ ghost use Rattle.ll_rules.specs.Lanes.{set_of, lane, stacked};
 use crate::Layer;
 use crate::check::layer_of;
 use crate::domain::{MOST_LAYERS, Stack};
-use crate::lanes::bits_of;
+use crate::lanes::{bits_of, without_granted};
 use ll_rights::Fs;
 use ll_tree::NodeId;
 
@@ -43,7 +43,7 @@ pub(crate) fn left_of(layer: &Layer, node: NodeId, lane: u32, look_ups: &mut u64
     if lane == 0 {
         return 0;
     }
-    lane & !bits_of(layer.rule_on(node, look_ups))
+    without_granted(lane, layer.rule_on(node, look_ups))
 }
 
 impl<'a> Stack<'a> {
@@ -187,7 +187,7 @@ impl<'a> Stack<'a> {
     }
 
     /// Takes from each lane what its layer grants by its rules from a node up to the root, and answers the number
-    /// of look-ups. A layer whose lane is empty isn't asked any more.
+    /// of look-ups: none where that is known. A layer whose lane is empty isn't asked any more.
     pub(crate) fn climb(&self, node: NodeId, lanes: &mut [u32; MOST_LAYERS]) -> u64
         requires { IsNode self.now.tree.now node }
         ensures left { (index : ℕ) (right : FsRight)
@@ -201,6 +201,10 @@ impl<'a> Stack<'a> {
         // The depth has 32 bits, so the count has room.
         let _depth = self.tree.depth(node);
         let mut look_ups = 0;
+        if let Some(left) = self.left_by_grants(node, *lanes) {
+            *lanes = left;
+            return look_ups;
+        }
         if !self.is_any_filled(lanes) {
             return look_ups;
         }

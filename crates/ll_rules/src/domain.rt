@@ -3,9 +3,9 @@
 ghost use Rattle.std.specs.Prelude.{◌≡◌, ◌≤◌, [], ◌∷◌, ◌++◌, ◌↔◌, length, IsErr, All, OnOk, OnErr};
 ghost use Rattle.std.proofs.Props.{props};
 ghost use Rattle.ll_rules.specs.declared.domain.TheConstants.{MOST_LAYERS};
-ghost use Rattle.ll_rules.specs.{InTree.AreInTree, KeptLayers.IsDomainOf};
+ghost use Rattle.ll_rules.specs.{Grants.AreGrants, InTree.AreInTree, KeptLayers.IsDomainOf};
 
-use crate::{Full, Layer};
+use crate::{Full, Grants, Layer};
 use arrayvec::ArrayVec;
 use ll_tree::Tree;
 use std::marker::Model;
@@ -64,13 +64,16 @@ impl Domain {
     }
 }
 
-/// The data of a climb: the tree, all layers, and which of them are stacked, the oldest first.
+/// The data of a climb: the tree, all layers, which of them are stacked, the oldest first, and what is known of what they
+/// grant.
 #[derive(Clone, Copy)]
 pub(crate) struct Stack<'a> {
     pub(crate) tree: &'a Tree,
     pub(crate) layers: &'a [Layer],
     pub(crate) ids: &'a [LayerId],
+    pub(crate) grants: &'a [Grants],
     ghost domain: { IsDomainOf layers.now ids.now } by { Prim.hlevel props },
     ghost few: { length ids.now ≤ MOST_LAYERS },
     ghost rules: { All (AreInTree tree.now) layers.now } by { Prim.hlevel props },
+    ghost known: { AreGrants tree.now layers.now grants.now } by { Prim.hlevel props },
 }

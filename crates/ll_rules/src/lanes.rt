@@ -27,12 +27,12 @@ pub(crate) fn bits_of(rights: Fs) -> u32
     rights.bits()
 }
 
-/// Whether a lane holds a right.
-#[tactic(auto, using(crate::proofs::LaneSets::any_named))]
-pub(crate) fn is_any_in(lane: u32) -> bool
-    ensures { result ≡ not (is_empty (set_of lane)) }
+/// A lane without the rights that are granted.
+pub(crate) fn without_granted(lane: u32, granted: Fs) -> u32
+    ensures { (right : FsRight) → has (set_of result) right
+        ≡ (has (set_of lane) right && not (has granted right)) }
 {
-    lane & named_bits() != 0
+    lane & !bits_of(granted)
 }
 
 /// No right in any lane.

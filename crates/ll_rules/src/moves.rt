@@ -14,7 +14,7 @@ ghost use Rattle.ll_rules.specs.Moves.{source_of, destination_of as destination_
 use crate::cross_directory::CrossDirectoryMove;
 use crate::domain::Stack;
 use crate::lanes::filled;
-use crate::{Domain, Errno, Layer, LayerSet};
+use crate::{Domain, Errno, KnownLayers, Layer, LayerSet};
 use ll_rights::{Fs, Kind, RightSet};
 use ll_tree::{NodeId, Tree};
 
@@ -212,10 +212,32 @@ pub fn check_move_counted(
         ≤ length domain.now * (length (source_of tree.now attempt.now) + 1
         + (length (destination_path tree.now attempt.now.target) + 1) + 2) }
 {
-    let stack = Stack {
+    let known = KnownLayers {
         tree,
         layers,
+        grants: &[],
+    };
+    check_move_by(&known, domain, attempt)
+}
+
+/// The same, by what is known of what the layers grant.
+pub fn check_move_by(known: &KnownLayers<'_>, domain: &Domain, attempt: &Move) -> (Verdict, u64)
+    requires domain { IsDomainOf known.now.layers.now domain.now }
+    requires moved { IsNode known.now.tree.now attempt.now.moved }
+    requires target { IsTargetIn known.now.tree.now attempt.now.target }
+    ensures answer { result.0 ≡ move_verdict known.now.tree.now
+        (all_in_tree known.now.tree.now (domain_of known.now.layers.now domain.now))
+        attempt.now }
+    ensures look_ups { result.1
+        ≤ length domain.now * (length (source_of known.now.tree.now attempt.now) + 1
+        + (length (destination_path known.now.tree.now attempt.now.target) + 1) + 2) }
+{
+    let tree = known.tree;
+    let stack = Stack {
+        tree,
+        layers: known.layers,
         ids: domain.layers(),
+        grants: known.grants,
     };
     let from = leaving(tree, attempt);
     let to = entering(tree, attempt);

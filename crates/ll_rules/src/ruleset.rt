@@ -93,7 +93,7 @@ impl Layer {
 
     /// The rights that the rule on a node grants; none where there is no rule.
     #[tactic(auto, unfolding(crate::specs::KeptLayers::granted_on_node))]
-    fn rule_at(&self, node: NodeId) -> Fs
+    pub(crate) fn rule_at(&self, node: NodeId) -> Fs
         ensures { (right : FsRight) → has result right ≡ granted_on_node self.now node right }
     {
         let number = node.index();
@@ -101,13 +101,6 @@ impl Layer {
             return Fs::NONE;
         }
         self.rule_in_map(number)
-    }
-
-    /// Whether there may be a rule on a node: if the filter says no, there is none.
-    pub(crate) fn may_have_rule(&self, node: NodeId) -> bool
-        ensures { result ≡ false → (right : FsRight) → granted_on_node self.now node right ≡ false }
-    {
-        self.marks.has(node.index())
     }
 
     /// The 64-bit word of the filter that holds the mark of a node: if bit `number % 64` is not one, there is no rule

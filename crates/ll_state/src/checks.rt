@@ -13,7 +13,9 @@ ghost use Rattle.ll_state.specs.ConfinedCalls.{confining};
 use crate::call::ConfinedCall;
 use crate::descriptors::{refused_by, unrestricted};
 use ll_rights::{Fs, Kind, Net};
-use ll_rules::{Errno, LayerSet, Move, Verdict, check_mount, check_move, check_path, check_port};
+use ll_rules::{
+    Errno, LayerSet, Move, Verdict, check_mount, check_move_by, check_path_by, check_port,
+};
 use ll_semantics::{Answer, Descriptor, Request};
 use ll_trace::{Mode, Sort};
 use ll_tree::{NodeId, Place};
@@ -25,7 +27,7 @@ impl<'a> ConfinedCall<'a> {
         ensures { result
             ≡ refusing (confining self.now) (path_at self.now.call.tree.now node) wanted }
     {
-        check_path(self.call.tree, self.call.layers, self.domain, node, wanted)
+        check_path_by(&self.call.known(), self.domain, node, wanted).0
     }
 
     /// The answer to a request; without one the tree decides the call.
@@ -113,7 +115,8 @@ impl<'a> ConfinedCall<'a> {
         let Some(asked) = asked else {
             return Answer::Moot;
         };
-        match check_move(self.call.tree, self.call.layers, self.domain, &asked) {
+        let (verdict, _) = check_move_by(&self.call.known(), self.domain, &asked);
+        match verdict {
             Verdict::Passed => Answer::Allowed,
             Verdict::Refused(error, layers) => Answer::Refused(error, layers),
         }

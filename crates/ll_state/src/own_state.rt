@@ -91,6 +91,7 @@ impl OwnState {
                     op,
                     tree: call.tree,
                     layers: call.layers,
+                    grants: call.grants,
                     place: call.place,
                 }),
                 Taken::LeaveOutPath { .. } => Ok(Answer::Moot),

@@ -1,13 +1,9 @@
 -- The record is answered and changes alike in both cases.
-use Rattle.std.proofs.Common.{◌≡◌, ◌∙◌, Option, Some, ap, arith, subst, sym}
-use Rattle.std.specs.Prelude.{slice_get, unwrap_or}
-use Rattle.std.proofs.lemmas.Option.{slice_get_read}
-use Rattle.ll_trace.specs.declared.op.Op.{Op}
-use Rattle.ll_trace.specs.declared.op.Record.{Record}
-use Rattle.ll_trace.specs.Taken.{taken}
+use Rattle.std.proofs.Common.{◌∙◌, Option, ap, subst, sym}
+use Rattle.std.specs.Prelude.{unwrap_or}
 use Rattle.ll_semantics.specs.declared.answer.Answer.{Answer}
-use Rattle.ll_semantics.specs.declared.answer.Answer.TheVariants.{Allowed, Moot}
-use Rattle.ll_process.specs.Alike.{StaysAlike, answer_told}
+use Rattle.ll_semantics.specs.declared.answer.Answer.TheVariants.{Moot}
+use Rattle.ll_process.specs.Alike.{StaysAlike}
 use Rattle.ll_process.specs.Cases.{case_of}
 use Rattle.ll_process.proofs.TwoKernels.{none_by, other_by, outcome_read, same_read, some_by, stays_allowed, stays_by_processes, stays_kept}
 use Rattle.ll_process.proofs.alike.answer_alike.Goals as goal

@@ -1,5 +1,5 @@
 -- Where all records are answered and change alike, the answers are those of the other case.
-use Rattle.std.proofs.Common.{◌≡◌, ◌∙◌, List, Option, arith, ap, length, subst}
+use Rattle.std.proofs.Common.{◌∙◌, List, Option, arith, ap, length, subst}
 use Rattle.std.specs.Prelude.{IfSome}
 use Rattle.std.proofs.lemmas.List.{take_all}
 use Rattle.ll_semantics.specs.declared.answer.Answer.{Answer}

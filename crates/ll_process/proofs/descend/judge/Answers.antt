@@ -9,7 +9,8 @@ use Rattle.ll_process.proofs.descend.judge.Goals as goal
 pub loop-next-init : goal.loop-next-init
 loop-next-init g c = record {
   descended = rw (c.in_ok-push.ensures.items, c.new-stack.ensures.items)
-      (descended_none c.args.job.case.now c.args.job.process c.none-done.result (g.H.Hand.kept c.args.hand.now) c.in_ok-begin.field-0 c.none-done.ensures.processes
+      (descended_none c.args.job.case.now c.args.job.process c.none-done.result (g.H.Hand.kept c.args.hand.now) c.in_ok-begin.field-0
+      c.none-done.ensures.processes
       c.in_ok-begin.ensures.process c.in_ok-begin.ensures.at);
   its = c.none-done.ensures.case;
   of_case = rw (c.in_ok-push.ensures.items, c.new-stack.ensures.items)

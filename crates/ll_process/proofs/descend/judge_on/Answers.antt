@@ -7,7 +7,8 @@ use Rattle.ll_process.proofs.descend.judge_on.Goals as goal
 pub returns-in_ok-put_both-in-Some-clause-descended : goal.returns-in_ok-put_both-in-Some-clause-descended
 returns-in_ok-put_both-in-Some-clause-descended g c kept so_far =
     descended_forked c.args.case.now c.args.next c.in_ok-progress.progress (g.H.Hand.kept c.args.hand.now) (g.H.Hand.kept c.go_on.new.hand)
-    c.in_ok-progress.ensures.process c.in-Some.job.process.0 c.in_ok-begin-in-Some.field-0 (ap (λ p. p.0) c.in_ok-begin-in-Some.ensures.process) c.in_ok-begin-in-Some.ensures.at
+    c.in_ok-progress.ensures.process c.in-Some.job.process.0 c.in_ok-begin-in-Some.field-0
+    (ap (λ p. p.0) c.in_ok-begin-in-Some.ensures.process) c.in_ok-begin-in-Some.ensures.at
     c.args.stack.now.items c.put_both.new.stack.items c.in_ok-put_both-in-Some.ensures
     (rw c.requires.its.0 at (rw c.in-Some.is at c.in_ok-progress.ensures.handed)) c.args.first c.args.done kept so_far
 
@@ -21,7 +22,8 @@ pub returns-in_ok-put_both-in-Some-clause-less : goal.returns-in_ok-put_both-in-
 returns-in_ok-put_both-in-Some-clause-less g c =
     let its = (rw c.in-Some.is at c.in_ok-progress.ensures.of_case) ∙ c.requires.its.0 in
     less_forked c.args.case.now c.args.next c.in_ok-progress.progress (g.H.Hand.kept c.args.hand.now) (g.H.Hand.kept c.go_on.new.hand)
-    c.in_ok-progress.ensures.process c.in-Some.job.process.0 c.in_ok-begin-in-Some.field-0 (ap (λ p. p.0) c.in_ok-begin-in-Some.ensures.process) c.in_ok-begin-in-Some.ensures.at
+    c.in_ok-progress.ensures.process c.in-Some.job.process.0 c.in_ok-begin-in-Some.field-0
+    (ap (λ p. p.0) c.in_ok-begin-in-Some.ensures.process) c.in_ok-begin-in-Some.ensures.at
     c.args.stack.now.items c.put_both.new.stack.items c.in_ok-put_both-in-Some.ensures
     (rw c.requires.its.0 at (rw c.in-Some.is at c.in_ok-progress.ensures.handed))
     (rw its at c.begin.ensures.is_case) (rw c.requires.its.0 at c.in_ok-progress.ensures.keeps)

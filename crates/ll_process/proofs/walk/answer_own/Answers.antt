@@ -18,7 +18,10 @@ pub outcome_at-outcome-requires : goal.outcome_at-outcome-requires
 outcome_at-outcome-requires g c = slice_get_within c.args.case.now.records c.args.index c.requires.1.0.0 c.requires.1.0.1
 
 pub invariant_of-call : goal.invariant_of-call
-invariant_of-call g c = record { first = rw c.tree.ensures (c.requires.1.1.0 (record_of c.record-record.result) c.record-record.ensures.at) }
+invariant_of-call g c = record {
+  known = rw (c.tree.ensures, c.layers.ensures, c.grants.ensures.grants) c.grants.ensures.case.granted;
+  first = rw c.tree.ensures (c.requires.1.1.0 (record_of c.record-record.result) c.record-record.ensures.at);
+}
 
 pub answer_call-requires : goal.answer_call-requires
 answer_call-requires g c =

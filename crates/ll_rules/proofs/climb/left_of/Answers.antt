@@ -1,7 +1,7 @@
 use Rattle.std.proofs.Common.{◌∙◌, ◌&&◌, not, Bool, ap}
 use Rattle.ll_rights.specs.Rights.{has}
 use Rattle.ll_rules.specs.Lanes.{set_of}
-use Rattle.ll_rules.proofs.LaneSets.{nothing_left, alike_in_lane, without_bits}
+use Rattle.ll_rules.proofs.LaneSets.{nothing_left}
 use Rattle.ll_rules.proofs.climb.left_of.Goals as goal
 
 pub returns-then-lane-eq0-clause-left : goal.returns-then-lane-eq0-clause-left
@@ -9,6 +9,4 @@ returns-then-lane-eq0-clause-left c = λ right. nothing_left c.args.lane right _
 
 pub returns-clause-left : goal.returns-clause-left
 returns-clause-left c = λ right.
-    without_bits c.args.lane c.bits_of.result right c.ranges.lane.fits c.bits_of.type_inv
-    ∙ alike_in_lane c.args.lane c.bits_of.result c.rule_on.result right not c.bits_of.ensures
-    ∙ ap (λ (b : Bool). has (set_of c.args.lane) right && not b) (c.rule_on.ensures.rule right)
+    c.without_granted.ensures right ∙ ap (λ (b : Bool). has (set_of c.args.lane) right && not b) (c.rule_on.ensures.rule right)

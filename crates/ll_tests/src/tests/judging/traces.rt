@@ -71,3 +71,15 @@ fn a_ruleset_without_a_new_rule_is_frozen_once(rt: HostRuntime) -> Result<(), Fa
     assert_eq!(rt; ground.case().layers().len(), 2);
     Ok(())
 }
+
+/// What layers grant is known where a trace has records enough for it: there are two layers, and eight nodes.
+#[test]
+fn grants_are_known_where_there_are_many_records(rt: HostRuntime) -> Result<(), Fail> {
+    let (many, few) = (
+        ground_of(rt.alloc(), PORTS_FIRST)?,
+        ground_of(rt.alloc(), LATER_RULE)?,
+    );
+    assert_eq!(rt; many.case().grants().len(), 2);
+    assert_eq!(rt; few.case().grants().len(), 0);
+    Ok(())
+}

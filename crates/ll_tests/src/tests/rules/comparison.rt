@@ -1,8 +1,8 @@
 //! The checks by lanes against the plain ones, over a table of domains, nodes and sets.
 
-ghost use Rattle.std.specs.Prelude.{IfOk};
+ghost use Rattle.std.specs.Prelude.{◌≡◌, IfOk};
 ghost use Rattle.ll_tree.specs.Trees.{IsNode};
-ghost use Rattle.ll_rules.specs.InTree.{IsTargetIn};
+ghost use Rattle.ll_rules.specs.{Grants.AreGrants, InTree.IsTargetIn};
 
 use crate::tests::rules::numbers::Numbers;
 use crate::tests::rules::ready::node_named;
@@ -10,8 +10,9 @@ use bitflags::Flags;
 use ll_fixtures::{Attempt, Call, PlainLayer, Refusing, Sandbox, answer, refusing};
 use ll_rights::{Fs, Kind, Net};
 use ll_rules::{
-    Errno, How, LayerSet, Move, Target, Verdict, check_move, check_move_counted, check_path,
-    check_path_counted, entering, leaving,
+    Errno, Grants, How, KnownLayers, LayerId, LayerSet, Move, Target, Verdict, check_move,
+    check_move_by, check_move_counted, check_path, check_path_by, check_path_counted, entering,
+    grants_of, lacks_by, leaving,
 };
 use ll_tree::{NodeId, Tree};
 use std::alloc::{AllocError, Global};
@@ -186,10 +187,52 @@ fn count_of(set: LayerSet) -> u64 {
     count
 }
 
+/// Whether each layer lacks a right on a node that is in a set, by what is known that it grants, and no other does.
+fn lack_alike(both: &Both<'_>, grants: &[Grants], node: NodeId, wanted: Fs, set: LayerSet) -> bool {
+    let layers = both.lanes.layers.as_slice();
+    for index in 0..layers.len().min(16) {
+        let id = LayerId(index as u32);
+        if lacks_by(grants, layers, id, node, wanted) != Some(set.has(index as u32 + 1)) {
+            return false;
+        }
+    }
+    true
+}
+
+/// The layers in lanes, and what is known of what they grant.
+fn known_in<'a>(both: &'a Both<'_>, grants: &'a [Grants]) -> KnownLayers<'a>
+    requires { AreGrants both.now.lanes.tree.now both.now.lanes.layers.items grants.now }
+    ensures tree { result.tree.now ≡ both.now.lanes.tree.now }
+    ensures layers { result.layers.now ≡ both.now.lanes.layers.items }
+{
+    KnownLayers {
+        tree: both.lanes.tree,
+        layers: &both.lanes.layers,
+        grants,
+    }
+}
+
+/// Whether the checks answer alike by what is known that layers grant.
+fn answers_agree<'a>(
+    both: &'a Both<'_>,
+    grants: &'a [Grants],
+    node: NodeId,
+    wanted: Fs,
+    set: LayerSet,
+) -> bool
+    requires grants { AreGrants both.now.lanes.tree.now both.now.lanes.layers.items grants.now }
+    requires node { IsNode both.now.lanes.tree.now node }
+{
+    let lanes = &both.lanes;
+    check_path_by(&known_in(both, grants), &lanes.domain, node, wanted).0 == set
+        && lack_alike(both, grants, node, wanted, set)
+}
+
 /// Whether both forms refuse the same on a path. Each layer is asked at most once on each node up to the root, and one
 /// that refuses was asked on all of them.
-fn paths_agree(both: &Both<'_>, node: NodeId, wanted: Fs) -> bool
-    requires { IsNode both.now.lanes.tree.now node }
+fn paths_agree<'a>(both: &'a Both<'_>, grants: &'a [Grants], node: NodeId, wanted: Fs) -> bool
+    requires grants { AreGrants both.now.lanes.tree.now both.now.lanes.layers.items grants.now }
+    requires node { IsNode both.now.lanes.tree.now node }
 {
     let lanes = &both.lanes;
     let set = check_path(lanes.tree, &lanes.layers, &lanes.domain, node, wanted);
@@ -203,6 +246,7 @@ fn paths_agree(both: &Both<'_>, node: NodeId, wanted: Fs) -> bool
     let nodes = u64::from(lanes.tree.depth(node)) + 1;
     marks_of(set) == refusing(lanes.tree, &both.plain, node, wanted)
         && counted == set
+        && answers_agree(both, grants, node, wanted, set)
         && look_ups <= nodes.saturating_mul(lanes.domain.layers().len() as u64)
         && look_ups >= nodes.saturating_mul(count_of(set))
 }
@@ -244,7 +288,8 @@ fn plainly(verdict: Verdict) -> (Option<(Errno, Refusing)>, u64) {
 
 /// Whether both forms answer a move alike. Each layer is asked at most once on each node from either directory up to
 /// the root, and at most twice more; one that denies was asked on all nodes up from one of the two.
-fn moves_agree(both: &Both<'_>, attempt: &Attempt) -> bool
+fn moves_agree<'a>(both: &'a Both<'_>, grants: &'a [Grants], attempt: &Attempt) -> bool
+    requires grants { AreGrants both.now.lanes.tree.now both.now.lanes.layers.items grants.now }
     requires moved { IsNode both.now.lanes.tree.now attempt.now.moved }
     requires onto { IsNode both.now.lanes.tree.now attempt.now.onto }
 {
@@ -258,18 +303,21 @@ fn moves_agree(both: &Both<'_>, attempt: &Attempt) -> bool
     let to = u64::from(tree.depth(entering(tree, &asked).directory)) + 1;
     refused == answer(tree, &both.plain, attempt)
         && counted == verdict
+        && check_move_by(&known_in(both, grants), &lanes.domain, &asked).0 == verdict
         && look_ups <= (from + to + 2).saturating_mul(lanes.domain.layers().len() as u64)
         && look_ups >= from.min(to).saturating_mul(denying)
 }
 
 /// Whether both forms answer each call that moves an object, by chance, alike.
-fn calls_agree(
+fn calls_agree<'a>(
     paths: &[String],
-    both: &Both<'_>,
+    both: &'a Both<'_>,
+    grants: &'a [Grants],
     moved: NodeId,
     numbers: &mut Numbers,
 ) -> Result<bool, Fail>
-    requires { IsNode both.now.lanes.tree.now moved }
+    requires grants { AreGrants both.now.lanes.tree.now both.now.lanes.layers.items grants.now }
+    requires moved { IsNode both.now.lanes.tree.now moved }
 {
     let object = picked(both.lanes.tree, paths, OBJECTS, numbers)?;
     let directory = picked(both.lanes.tree, paths, PARENTS, numbers)?;
@@ -279,7 +327,7 @@ fn calls_agree(
         (Call::Exchange, object),
         (Call::Link, directory),
     ] {
-        if !moves_agree(both, &Attempt { call, moved, onto }) {
+        if !moves_agree(both, grants, &Attempt { call, moved, onto }) {
             return Ok(false);
         }
     }
@@ -287,18 +335,21 @@ fn calls_agree(
 }
 
 /// Whether both forms agree on a path and on moves of an object, each by chance, as often as said.
-fn layers_agree(
-    paths: &[String],
-    both: &Both<'_>,
+fn layers_agree<'a>(
+    both: &'a Both<'_>,
+    grants: &'a [Grants],
     turns: u32,
+    paths: &[String],
     numbers: &mut Numbers,
-) -> Result<bool, Fail> {
+) -> Result<bool, Fail>
+    requires { AreGrants both.now.lanes.tree.now both.now.lanes.layers.items grants.now }
+{
     for turn in 0..turns {
         let first = if turn % 2 == 0 { PARENTS } else { OBJECTS };
         let moved = picked(both.lanes.tree, paths, first, numbers)?;
         let wanted = numbers.rights();
-        let is_alike = paths_agree(both, moved, wanted);
-        if !is_alike || !calls_agree(paths, both, moved, numbers)? {
+        let is_alike = paths_agree(both, grants, moved, wanted);
+        if !is_alike || !calls_agree(paths, both, grants, moved, numbers)? {
             return Ok(false);
         }
     }
@@ -318,7 +369,8 @@ fn are_alike(
         plain: Vec::new(alloc),
     };
     stack(alloc, &mut both, paths, count, numbers)?;
-    layers_agree(paths, &both, 60, numbers)
+    let grants = grants_of(alloc, both.lanes.tree, &both.lanes.layers)?;
+    layers_agree(&both, &grants, 60, paths, numbers)
 }
 
 /// The first round whose layers do not agree, if there is one: 0 to 16 layers, and these numbers again.

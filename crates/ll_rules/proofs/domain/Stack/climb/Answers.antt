@@ -34,14 +34,14 @@ loop-here-init c = record {
 -- once nothing is left, all that the lanes had is granted
 pub returns-then-not-is_any_left-clause-left : goal.returns-then-not-is_any_left-clause-left
 returns-then-not-is_any_left-clause-left c = λ index right.
-    let here : IfSome (Some c.in-Some.here) (IsNode c.args.self.now.tree.now) = rw c.in-Some.is at c.next_marked.ensures.inside in
+    let here : IfSome (Some c.in-Some-next_marked.here) (IsNode c.args.self.now.tree.now) = rw c.in-Some-next_marked.is at c.next_marked.ensures.inside in
     let rules = stacked c.args.self.now index in
     let passed = left_passed c.args.self.now.tree.now rules c.loop-here.cursor c.next_marked.result right (has (lane c.loop-here.lanes index) right) _
     (c.next_marked.ensures.passed index right) (c.loop-here.invariant.so_far index right) in
-    let so_far = left_goes_on c.args.self.now.tree.now rules c.in-Some.here c.parent-cursor.result right (has (lane c.loop-here.lanes index) right)
+    let so_far = left_goes_on c.args.self.now.tree.now rules c.in-Some-next_marked.here c.parent-cursor.result right (has (lane c.loop-here.lanes index) right)
     (has (lane c.ask_on-is_any_left.new.lanes index) right) _
     c.parent-cursor.ensures.tree here (stacked-within c.args.self.now index) c.parent-cursor.ensures.root c.parent-cursor.ensures.front
-    (c.ask_on-is_any_left.ensures.left index right) (rw c.in-Some.is at passed) in
+    (c.ask_on-is_any_left.ensures.left index right) (rw c.in-Some-next_marked.is at passed) in
     elim (cases_lt index (length c.args.self.now.ids.now)) [
       | inl inside ↦ left_nothing c.args.self.now.tree.now rules c.parent-cursor.result right (has (lane c.ask_on-is_any_left.new.lanes index) right) _
           (c.ask_on-is_any_left.ensures.none c.if-not-is_any_left.true index inside right) so_far
@@ -56,44 +56,46 @@ returns-then-not-is_any_left-clause-count c =
     omega (arith, c.next_marked.ensures.count, c.loop-here.invariant.count) in
     omega (
       arith,
-      count_goes_on c.args.self.now.tree.now c.in-Some.here c.parent-cursor.result (length c.args.self.now.ids.now) c.next_marked.new.look_ups
+      count_goes_on c.args.self.now.tree.now c.in-Some-next_marked.here c.parent-cursor.result (length c.args.self.now.ids.now) c.next_marked.new.look_ups
           (c.next_marked.new.look_ups + c.ask_on-is_any_left.result.1) _
-          c.parent-cursor.ensures.exact c.parent-cursor.ensures.front (omega (arith, c.ask_on-is_any_left.ensures.count)) (rw c.in-Some.is at bound),
+          c.parent-cursor.ensures.exact c.parent-cursor.ensures.front (omega (arith, c.ask_on-is_any_left.ensures.count))
+          (rw c.in-Some-next_marked.is at bound),
     )
 
 pub loop-here-preserved : goal.loop-here-preserved
 loop-here-preserved c =
-    let here : IfSome (Some c.in-Some.here) (IsNode c.args.self.now.tree.now) = rw c.in-Some.is at c.next_marked.ensures.inside in
+    let here : IfSome (Some c.in-Some-next_marked.here) (IsNode c.args.self.now.tree.now) = rw c.in-Some-next_marked.is at c.next_marked.ensures.inside in
     let bound : c.next_marked.new.look_ups + length c.args.self.now.ids.now * nodes_up c.args.self.now.tree.now c.next_marked.result
     ≤ length c.args.self.now.ids.now * (depth_at c.args.self.now.tree.now c.args.node + 1) =
     omega (arith, c.next_marked.ensures.count, c.loop-here.invariant.count) in
     record {
-      inside = nodes_above c.args.self.now.tree.now c.in-Some.here c.parent-cursor.result c.parent-cursor.ensures.front;
+      inside = nodes_above c.args.self.now.tree.now c.in-Some-next_marked.here c.parent-cursor.result c.parent-cursor.ensures.front;
       so_far = λ index right.
           let rules = stacked c.args.self.now index in
           let passed = left_passed c.args.self.now.tree.now rules c.loop-here.cursor c.next_marked.result right (has (lane c.loop-here.lanes index) right) _
           (c.next_marked.ensures.passed index right) (c.loop-here.invariant.so_far index right) in
-          left_goes_on c.args.self.now.tree.now rules c.in-Some.here c.parent-cursor.result right (has (lane c.loop-here.lanes index) right)
+          left_goes_on c.args.self.now.tree.now rules c.in-Some-next_marked.here c.parent-cursor.result right (has (lane c.loop-here.lanes index) right)
           (has (lane c.ask_on-is_any_left.new.lanes index) right) _
           c.parent-cursor.ensures.tree here (stacked-within c.args.self.now index) c.parent-cursor.ensures.root c.parent-cursor.ensures.front
-          (c.ask_on-is_any_left.ensures.left index right) (rw c.in-Some.is at passed);
+          (c.ask_on-is_any_left.ensures.left index right) (rw c.in-Some-next_marked.is at passed);
       count =
-          count_goes_on c.args.self.now.tree.now c.in-Some.here c.parent-cursor.result (length c.args.self.now.ids.now) c.next_marked.new.look_ups
+          count_goes_on c.args.self.now.tree.now c.in-Some-next_marked.here c.parent-cursor.result (length c.args.self.now.ids.now) c.next_marked.new.look_ups
           (c.next_marked.new.look_ups + c.ask_on-is_any_left.result.1) _
-          c.parent-cursor.ensures.exact c.parent-cursor.ensures.front (omega (arith, c.ask_on-is_any_left.ensures.count)) (rw c.in-Some.is at bound);
+          c.parent-cursor.ensures.exact c.parent-cursor.ensures.front (omega (arith, c.ask_on-is_any_left.ensures.count))
+          (rw c.in-Some-next_marked.is at bound);
     }
 
 pub loop-here-smaller : goal.loop-here-smaller
 loop-here-smaller c =
-    way_shorter c.args.self.now.tree.now c.loop-here.cursor c.in-Some.here c.parent-cursor.result
-    c.parent-cursor.ensures.exact c.parent-cursor.ensures.front (rw c.in-Some.is at c.next_marked.ensures.above)
+    way_shorter c.args.self.now.tree.now c.loop-here.cursor c.in-Some-next_marked.here c.parent-cursor.result
+    c.parent-cursor.ensures.exact c.parent-cursor.ensures.front (rw c.in-Some-next_marked.is at c.next_marked.ensures.above)
 
 pub returns-clause-left : goal.returns-clause-left
 returns-clause-left c = λ index right.
     let rules = stacked c.args.self.now index in
     let passed = left_passed c.args.self.now.tree.now rules c.loop-here.cursor c.next_marked.result right (has (lane c.loop-here.lanes index) right) _
     (c.next_marked.ensures.passed index right) (c.loop-here.invariant.so_far index right) in
-    left_ends c.args.self.now.tree.now rules right (has (lane c.loop-here.lanes index) right) _ (rw c.in_default.is at passed)
+    left_ends c.args.self.now.tree.now rules right (has (lane c.loop-here.lanes index) right) _ (rw c.in_default-next_marked.is at passed)
 
 pub returns-clause-count : goal.returns-clause-count
 returns-clause-count c = omega (arith, c.loop-here.invariant.count, c.next_marked.ensures.count)
