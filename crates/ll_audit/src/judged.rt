@@ -52,8 +52,8 @@ fn explain<R: Threads + Sync>(
     newer.with(rt, alloc, &case, answers, explains, threads as usize)
 }
 
-/// Explains a case while the workers judge that of an older version. Half as many threads explain as judge, since each
-/// takes memory of its own.
+/// Explains a case while the workers judge that of an older version. Of four workers three explain too: each takes
+/// memory of its own.
 fn explain_beside<R: Threads + Wait + Sync, G: Gate + Sync>(
     audit: &Audit<'_, R, G>,
     located: &Located,
@@ -90,7 +90,7 @@ fn explain_beside<R: Threads + Wait + Sync, G: Gate + Sync>(
                 answers,
                 explains,
                 newer,
-                count.div_ceil(2),
+                count - count / 4,
             )
         },
         move ||
